@@ -1,0 +1,31 @@
+//! The limits of the product and the addresses of its memory, each a number with a name.
+
+/// The limits that refusals speak of, and the places of the parts of memory.
+pub struct Limits;
+
+impl Limits {
+    /// The bytes of a source file or a manifest.
+    pub const SOURCE_BYTES: u64 = 1_048_576;
+    /// The bytes of a name.
+    pub const NAME_BYTES: usize = 63;
+    /// The tokens of a function.
+    pub const FUNCTION_TOKENS: usize = 8_192;
+    /// The external names of a module, and so the functions that a unit can show to others.
+    pub const MODULE_NAMES: usize = 16_384;
+    /// The bytes of text of a module.
+    pub const TEXT_BYTES: u64 = 16_777_216;
+    /// The calls that may be alive at once, that of `main` included.
+    pub const CALLS: u64 = 1_000;
+    /// The counted steps of a run where the words give none.
+    pub const STEPS: u64 = 1_000_000;
+    /// The distance between the bases of two modules in memory, in bytes; the first module has this base.
+    pub const MODULE_SPAN: u64 = 0x400_0000;
+    /// Where a module's text stands, in bytes from its base.
+    pub const TEXT_OFFSET: u64 = 0x100_0000;
+    /// Where a module's data stand, in bytes from its base: the slots of external names, then the variables.
+    pub const DATA_OFFSET: u64 = 0x200_0000;
+    /// The first address of the stack.
+    pub const STACK_START: u64 = 0x1_0000_0000;
+    /// The bytes of the stack; it grows down from its end.
+    pub const STACK_BYTES: u64 = 0x20_0000;
+}
