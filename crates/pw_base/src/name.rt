@@ -103,3 +103,36 @@ impl Name {
         Ok(Name { bytes })
     }
 }
+
+#[cfg(test)]
+mod tests {
+    use super::*;
+    use std::test::Fail;
+
+    /// What reading the bytes refuses, if anything.
+    fn refusal(alloc: Global, bytes: &[u8]) -> Option<NameError> {
+        Name::read(alloc, bytes).err()
+    }
+
+    #[test]
+    fn a_name_has_1_to_63_letters_digits_and_marks(rt: HostRuntime) -> Result<(), Fail> {
+        let alloc = rt.alloc();
+        let longest = [b'x'; 63];
+        let too_long = [b'x'; 64];
+        assert_eq!(rt; refusal(alloc, &longest), None);
+        assert_eq!(rt; refusal(alloc, b"../lib-1/main.c_0"), None);
+        assert_eq!(rt; refusal(alloc, &too_long), Some(NameError::TooLong(64)));
+        assert_eq!(rt; refusal(alloc, b"a b"), Some(NameError::BadByte(1)));
+        assert_eq!(rt; refusal(alloc, b"a\x80"), Some(NameError::BadByte(1)));
+        assert_eq!(rt; refusal(alloc, b""), Some(NameError::Empty));
+        Ok(())
+    }
+
+    #[test]
+    fn a_copy_has_the_same_bytes(rt: HostRuntime) -> Result<(), Fail> {
+        let name = Name::read(rt.alloc(), b"main.c")?;
+        let copy = name.copy(rt.alloc())?;
+        assert_eq!(rt; copy.bytes(), b"main.c".as_slice());
+        Ok(())
+    }
+}
