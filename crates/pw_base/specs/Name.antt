@@ -20,11 +20,11 @@ pub record IsName (bytes : List ℕ) : Type 0 where
   pub short : length bytes ≤ 63
   pub good : list_all is_name_byte bytes ≡ true
 
--- the name of the bytes, or the first cause that stands, in this order; want of memory says nothing
+-- the name of the bytes, or the first cause that stands, in this order; memory is asked for only where they are a name
 abbrev pub ReadsName : List ℕ → Result (List ℕ) NameError → Type 0
 ReadsName bytes (Ok name) = IsName bytes × (name ≡ bytes)
 ReadsName bytes (Err Empty) = length bytes ≡ 0
 ReadsName bytes (Err (TooLong n)) = (n ≡ length bytes) × (63 < length bytes)
 ReadsName bytes (Err (BadByte at)) =
     (0 < length bytes) × (length bytes ≤ 63) × (list_all is_name_byte bytes ≡ false) × (at ≡ prefix_len is_name_byte bytes)
-ReadsName bytes (Err NoMemory) = Unit {0}
+ReadsName bytes (Err NoMemory) = IsName bytes
