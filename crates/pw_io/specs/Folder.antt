@@ -1,0 +1,22 @@
+-- What the store of the current folder tells, and what reading one of its files answers.
+use Rattle.std.specs.Prelude.{◌≡◌, ℕ, ◌<◌, ◌≤◌, List, length, Option, None, Result, Ok, Err, Vec, IfSome}
+use Rattle.std.specs.declared.alloc.Global.{Global}
+use Rattle.pw_io.specs.declared.ports.StoreError.{StoreError}
+use Rattle.pw_io.specs.declared.ports.StoreError.TheVariants.{Failed, TooLong}
+use Rattle.pw_io.specs.Faults.{Rises}
+use Rattle.pw_io.specs.Store.{StoreState}
+
+-- the store of the current folder, seen as its count of faults, tells nothing else
+abbrev pub silent_store : ℕ → StoreState
+silent_store faults = record { files = None; calls = None; faults = faults }
+
+-- what a reader with these bytes left, where they are known, is read to: all of them, at most `limit`, or that there are more
+abbrev pub ReadsAll : Option (List ℕ) → ℕ → Result (Vec ℕ Global) StoreError → Type 0
+ReadsAll left limit (Ok bytes) = (length bytes.items ≤ limit) × IfSome left (λ known. bytes.items ≡ known)
+ReadsAll left limit (Err (TooLong most)) = (most ≡ limit) × IfSome left (λ known. limit < length known)
+ReadsAll left limit (Err _) = Unit {0}
+
+-- the count after an error: it rises at a failure, and stays at every other
+abbrev pub Counts : ℕ → StoreError → ℕ → Type 0
+Counts old Failed new = Rises old new
+Counts old _ new = new ≡ old

@@ -1,0 +1,189 @@
+//! The current folder as a store of files.
+ghost use Rattle.std.specs.Prelude.{◌≡◌, OnOk};
+ghost use Rattle.std.specs.Io.KnownBytes.{Appends};
+ghost use Rattle.pw_io.specs.Folder.{silent_store, ReadsAll, Counts};
+
+use crate::ports::{Failed, Store, StoreError};
+use pw_base::Name;
+use std::alloc::Global;
+use std::io::{Read, Write};
+use std::marker::Model;
+use std::rt::Files;
+use std::{fs, str};
+
+/// How many bytes are asked of a file at once.
+const CHUNK_BYTES: usize = 4096;
+
+/// The files of the current folder. A name is given to the system as it is, so one with `/` or `..` may lead elsewhere.
+/// It tells nothing of files and calls. Whatever the system refuses is a failure, an interruption and something that is
+/// no regular file included, and so is a write that takes nothing.
+#[derive(Drop)]
+pub struct DirStore<'a, F: Files> {
+    system: &'a F,
+    faults: u64,
+}
+
+impl<'a, F: Files> Model for DirStore<'a, F> {
+    ghost use Rattle.std.specs.Prelude.{ℕ};
+
+    ghost Value = { ℕ };
+
+    ghost view = { λ s. s.faults };
+}
+
+/// Whether something other than a regular file has this name.
+fn is_special<F: Files>(system: &F, path: &str) -> bool {
+    match fs::metadata(system, path) {
+        Ok(metadata) => !metadata.is_file(),
+        Err(_) => false,
+    }
+}
+
+/// Reads to the end, or up to one byte past the limit.
+fn read_all<R: Read>(alloc: Global, reader: &mut R, limit: u64) -> Result<Vec<u8>, StoreError>
+    ensures { ReadsAll (R.remaining reader.old) limit result }
+{
+    let mut bytes = Vec::new(alloc);
+    let mut chunk = [0u8; CHUNK_BYTES];
+    while bytes.len() as u64 <= limit {
+        let wanted = (limit - bytes.len() as u64).min(CHUNK_BYTES as u64 - 1) as usize + 1;
+        match reader.read(&mut chunk[..wanted]) {
+            Ok(0) => return Ok(bytes),
+            Ok(taken) => bytes.extend_from_slice(&chunk[..taken])?,
+            Err(_) => return Err(StoreError::Failed),
+        }
+    }
+    Err(StoreError::TooLong(limit))
+}
+
+/// Writes every byte.
+fn write_all<W: Write>(writer: &mut W, bytes: &[u8]) -> Result<(), Failed>
+    ensures { OnOk result (Appends (W.contents writer.old) (W.contents writer.new) bytes.now) }
+{
+    let mut rest = bytes;
+    while !rest.is_empty() {
+        match writer.write(rest) {
+            Ok(0) | Err(_) => return Err(Failed),
+            Ok(taken) => rest = &rest[taken..],
+        }
+    }
+    Ok(())
+}
+
+impl<'a, F: Files> DirStore<'a, F> {
+    /// The current folder of this system.
+    pub fn new(system: &'a F) -> DirStore<'a, F>
+        ensures { result ≡ 0 }
+    {
+        DirStore { system, faults: 0 }
+    }
+
+    /// How many calls have failed, up to 2^64-1.
+    pub fn faults(&self) -> u64
+        ensures { result ≡ self.now }
+    {
+        self.faults
+    }
+
+    /// Reads the file of this name.
+    fn read_file(&self, alloc: Global, name: &Name, limit: u64) -> Result<Vec<u8>, StoreError>
+        ensures { ReadsAll None limit result }
+    {
+        let Ok(path) = str::from_utf8(name.bytes()) else {
+            return Err(StoreError::Failed);
+        };
+        if is_special(self.system, path) {
+            return Err(StoreError::Failed);
+        }
+        match fs::open(self.system, path) {
+            Ok(mut file) => read_all(alloc, &mut file, limit),
+            Err(_) => Err(StoreError::Failed),
+        }
+    }
+
+    /// Makes or empties the file of this name, and writes the bytes.
+    fn write_file(&self, name: &Name, bytes: &[u8]) -> Result<(), Failed> {
+        let Ok(path) = str::from_utf8(name.bytes()) else {
+            return Err(Failed);
+        };
+        if is_special(self.system, path) {
+            return Err(Failed);
+        }
+        match fs::create(self.system, path) {
+            Ok(mut file) => write_all(&mut file, bytes),
+            Err(_) => Err(Failed),
+        }
+    }
+
+    /// Counts the error, where it is a failure.
+    fn count(&mut self, error: StoreError)
+        ensures { Counts self.old error self.new }
+    {
+        if error == StoreError::Failed {
+            self.faults = self.faults.saturating_add(1);
+        }
+    }
+}
+
+impl<'a, F: Files> Store for DirStore<'a, F> {
+    ghost state = { silent_store };
+
+    /// Reads the file, at most one byte past the limit.
+    fn read(&mut self, alloc: Global, name: &Name, limit: u64) -> Result<Vec<u8>, StoreError> {
+        match self.read_file(alloc, name, limit) {
+            Ok(bytes) => Ok(bytes),
+            Err(error) => {
+                self.count(error);
+                Err(error)
+            }
+        }
+    }
+
+    /// Makes or empties the file, and writes the bytes.
+    fn write(&mut self, name: &Name, bytes: &[u8]) -> Result<(), StoreError> {
+        match self.write_file(name, bytes) {
+            Ok(()) => Ok(()),
+            Err(Failed) => {
+                self.count(StoreError::Failed);
+                Err(StoreError::Failed)
+            }
+        }
+    }
+}
+
+#[cfg(test)]
+mod tests {
+    use super::*;
+    use std::test::Fail;
+
+    #[test]
+    fn a_written_file_is_read_back_and_what_is_missing_or_a_folder_fails(
+        rt: HostRuntime,
+    ) -> Result<(), Fail> {
+        let alloc = rt.alloc();
+        let name = Name::read(alloc, b"pw_io-written-by-a-test")?;
+        let missing = Name::read(alloc, b"pw_io-written-by-no-test")?;
+        let folder = Name::read(alloc, b"..")?;
+        let mut store = DirStore::new(&rt);
+        store.write(&name, b"a longer text")?;
+        store.write(&name, b"text")?;
+        assert_eq!(rt; store.read(alloc, &name, 4)?.as_slice(), b"text".as_slice());
+        assert_eq!(rt;
+            store.read(alloc, &name, 3).err(),
+            Some(StoreError::TooLong(3))
+        );
+        assert_eq!(rt; store.faults(), 0);
+        assert_eq!(rt;
+            store.read(alloc, &missing, 4).err(),
+            Some(StoreError::Failed)
+        );
+        assert_eq!(rt;
+            store.read(alloc, &folder, 4).err(),
+            Some(StoreError::Failed)
+        );
+        assert_eq!(rt; store.write(&folder, b"text"), Err(StoreError::Failed));
+        assert_eq!(rt; store.faults(), 3);
+        fs::remove_file(&rt, "pw_io-written-by-a-test")?;
+        Ok(())
+    }
+}

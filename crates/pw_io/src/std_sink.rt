@@ -1,0 +1,112 @@
+//! A sink of bytes over a writer of std, such as standard output or standard error.
+ghost use Rattle.std.specs.Prelude.{◌≡◌, [], ◌∷◌, OnOk, OnErr};
+ghost use Rattle.std.specs.Io.KnownBytes.{Appends, Keeps};
+ghost use Rattle.pw_io.specs.Sink.{SinkFails, wrote, flushed_all};
+ghost use Rattle.pw_io.specs.Adapter.{silent_sink};
+
+use crate::ports::{Failed, Sink};
+use std::io::Write;
+use std::marker::Model;
+
+/// A sink over any writer of std. It tells nothing of its bytes. Each byte is written by itself; an error of the
+/// writer, an interruption included, is a failure, and so is a write that takes nothing.
+#[derive(Drop)]
+pub struct StdSink<W> {
+    writer: W,
+    faults: u64,
+}
+
+impl<W> Model for StdSink<W> {
+    ghost use Rattle.pw_io.specs.Adapter.{Adapter};
+
+    ghost Value = { Adapter W };
+
+    ghost view = { λ s. record { inner = s.writer; faults = s.faults } };
+}
+
+impl<W> StdSink<W> {
+    /// A sink over this writer.
+    pub fn new(writer: W) -> StdSink<W>
+        ensures { result ≡ record { inner = writer; faults = 0 } }
+    {
+        StdSink { writer, faults: 0 }
+    }
+
+    /// How many calls have failed, up to 2^64-1.
+    pub fn faults(&self) -> u64
+        ensures { result ≡ self.now.faults }
+    {
+        self.faults
+    }
+}
+
+impl<W: Write> Sink for StdSink<W> {
+    ghost state = { silent_sink };
+
+    /// Writes the byte.
+    fn put(&mut self, byte: u8) -> Result<(), Failed>
+        ensures ok { OnOk result (silent_sink self.new ≡ wrote (byte ∷ []) (silent_sink self.old)) }
+        ensures err { OnErr result (SinkFails (silent_sink self.old) (silent_sink self.new)) }
+        ensures written { OnOk result (Appends (W.contents self.old.inner) (W.contents self.new.inner) (byte ∷ [])) }
+        ensures refused { OnErr result (Appends (W.contents self.old.inner) (W.contents self.new.inner) []) }
+    {
+        let buffer = [byte];
+        match self.writer.write(&buffer) {
+            Ok(0) | Err(_) => {
+                self.faults = self.faults.saturating_add(1);
+                Err(Failed)
+            }
+            Ok(_) => Ok(()),
+        }
+    }
+
+    /// Flushes the writer.
+    fn flush(&mut self) -> Result<(), Failed>
+        ensures ok { OnOk result (silent_sink self.new ≡ flushed_all (silent_sink self.old)) }
+        ensures err { OnErr result (SinkFails (silent_sink self.old) (silent_sink self.new)) }
+        ensures kept { Keeps (W.contents self.old.inner) (W.contents self.new.inner) }
+    {
+        match self.writer.flush() {
+            Ok(()) => Ok(()),
+            Err(_) => {
+                self.faults = self.faults.saturating_add(1);
+                Err(Failed)
+            }
+        }
+    }
+}
+
+#[cfg(test)]
+mod tests {
+    use super::*;
+    use std::io;
+
+    /// A writer that takes nothing, and cannot be flushed.
+    #[derive(Drop)]
+    struct Closed;
+
+    impl Write for Closed {
+        fn write(&mut self, _buf: &[u8]) -> io::Result<usize> {
+            Ok(0)
+        }
+
+        fn flush(&mut self) -> io::Result<()> {
+            Err(io::Error::from(io::ErrorKind::Interrupted))
+        }
+    }
+
+    #[test]
+    fn a_sink_over_a_writer_writes_each_byte_and_counts_what_is_not_taken(rt: HostRuntime) {
+        let mut written = Vec::new(rt.alloc());
+        let mut sink = StdSink::new(&mut written);
+        assert_eq!(rt; sink.put(b'a'), Ok(()));
+        assert_eq!(rt; sink.put(b'b'), Ok(()));
+        assert_eq!(rt; sink.flush(), Ok(()));
+        assert_eq!(rt; sink.faults(), 0);
+        assert_eq!(rt; written.as_slice(), b"ab".as_slice());
+        let mut closed = StdSink::new(Closed);
+        assert_eq!(rt; closed.put(b'a'), Err(Failed));
+        assert_eq!(rt; closed.flush(), Err(Failed));
+        assert_eq!(rt; closed.faults(), 2);
+    }
+}

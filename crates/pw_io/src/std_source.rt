@@ -1,0 +1,87 @@
+//! A source of bytes over a reader of std, such as standard input.
+ghost use Rattle.std.specs.Prelude.{◌≡◌};
+ghost use Rattle.pw_io.specs.Source.{Gives};
+ghost use Rattle.pw_io.specs.Adapter.{silent_source, TakesFrom};
+
+use crate::ports::{Next, Source};
+use std::io::Read;
+use std::marker::Model;
+
+/// A source over any reader of std. It tells nothing of its bytes. Each call reads one byte; an error of the reader,
+/// an interruption included, is a failure.
+#[derive(Drop)]
+pub struct StdSource<R> {
+    reader: R,
+    faults: u64,
+}
+
+impl<R> Model for StdSource<R> {
+    ghost use Rattle.pw_io.specs.Adapter.{Adapter};
+
+    ghost Value = { Adapter R };
+
+    ghost view = { λ s. record { inner = s.reader; faults = s.faults } };
+}
+
+impl<R> StdSource<R> {
+    /// A source over this reader.
+    pub fn new(reader: R) -> StdSource<R>
+        ensures { result ≡ record { inner = reader; faults = 0 } }
+    {
+        StdSource { reader, faults: 0 }
+    }
+
+    /// How many calls have failed, up to 2^64-1.
+    pub fn faults(&self) -> u64
+        ensures { result ≡ self.now.faults }
+    {
+        self.faults
+    }
+}
+
+impl<R: Read> Source for StdSource<R> {
+    ghost state = { silent_source };
+
+    /// The reader's next byte, or the end where it gives none.
+    fn next(&mut self) -> Next
+        ensures gives { Gives (silent_source self.old) result (silent_source self.new) }
+        ensures reader { TakesFrom (R.remaining self.old.inner) result (R.remaining self.new.inner) }
+    {
+        let mut buffer = [0u8; 1];
+        match self.reader.read(&mut buffer) {
+            Ok(0) => Next::End,
+            Ok(_) => Next::Byte(buffer[0]),
+            Err(_) => {
+                self.faults = self.faults.saturating_add(1);
+                Next::Failed
+            }
+        }
+    }
+}
+
+#[cfg(test)]
+mod tests {
+    use super::*;
+    use std::io;
+
+    /// A reader that each call fails of.
+    #[derive(Drop)]
+    struct Broken;
+
+    impl Read for Broken {
+        fn read(&mut self, _buf: &mut [u8]) -> io::Result<usize> {
+            Err(io::Error::from(io::ErrorKind::Interrupted))
+        }
+    }
+
+    #[test]
+    fn a_source_over_a_reader_gives_its_bytes_and_counts_its_errors(rt: HostRuntime) {
+        let mut source = StdSource::new(b"a".as_slice());
+        assert_eq!(rt; source.next(), Next::Byte(b'a'));
+        assert_eq!(rt; source.next(), Next::End);
+        assert_eq!(rt; source.faults(), 0);
+        let mut broken = StdSource::new(Broken);
+        assert_eq!(rt; broken.next(), Next::Failed);
+        assert_eq!(rt; broken.faults(), 1);
+    }
+}
