@@ -1,0 +1,10 @@
+pub mod Bytes
+pub mod Regions
+pub mod Words
+pub mod Text
+pub mod Mapping
+pub mod Zeros
+pub mod Find
+pub mod Writes
+pub mod Loads
+pub mod Apart

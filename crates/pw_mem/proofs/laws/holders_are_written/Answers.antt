@@ -1,0 +1,5 @@
+use Rattle.pw_mem.proofs.Apart.{holders_are_written}
+use Rattle.pw_mem.proofs.laws.holders_are_written.Goals as goal
+
+pub returns : goal.returns
+returns c = holders_are_written

@@ -1,0 +1,5 @@
+use Rattle.pw_mem.proofs.Apart.{mapped_regions_are_apart}
+use Rattle.pw_mem.proofs.laws.mapped_regions_are_apart.Goals as goal
+
+pub returns : goal.returns
+returns c = mapped_regions_are_apart

@@ -1,0 +1,5 @@
+use Rattle.pw_mem.proofs.Writes.{sealed_text_stays}
+use Rattle.pw_mem.proofs.laws.sealed_text_stays.Goals as goal
+
+pub returns : goal.returns
+returns c = sealed_text_stays

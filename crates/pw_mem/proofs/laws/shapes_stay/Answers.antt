@@ -1,0 +1,5 @@
+use Rattle.pw_mem.proofs.Writes.{shapes_stay}
+use Rattle.pw_mem.proofs.laws.shapes_stay.Goals as goal
+
+pub returns : goal.returns
+returns c = shapes_stay

@@ -1,0 +1,5 @@
+use Rattle.pw_mem.proofs.Writes.{stores_write}
+use Rattle.pw_mem.proofs.laws.stores_write.Goals as goal
+
+pub returns : goal.returns
+returns c = stores_write

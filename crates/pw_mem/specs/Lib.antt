@@ -1,0 +1,9 @@
+pub mod Regions
+pub mod Memory
+pub mod Fetches
+pub mod Map
+pub mod Words
+pub mod WordLaws
+pub mod Flat
+pub mod WriteLaws
+pub mod Apart

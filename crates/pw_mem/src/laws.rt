@@ -1,0 +1,100 @@
+//! Laws of memory, over what its calls mean alone. Each is the contract of a function, which does nothing.
+
+ghost use Rattle.pw_mem.specs.WordLaws.{WordsAreLoaded, WordsAreStored, StoredWordsAreRead, OtherWordsStay, WordsAreNoText, TextIsFetched};
+ghost use Rattle.pw_mem.specs.WriteLaws.{StoresWrite, PutsWrite, WrittenBytesAreRead, OtherBytesStay, StoresAreLoaded, OtherNumbersStay, ShapesStay, SealedTextStays, SealedInstructionsStay};
+ghost use Rattle.pw_mem.specs.Apart.{MappedRegionsAreApart, WritesKeepApart, HoldersAreSeen, HoldersAreWritten};
+
+/// A word, a number of 8 bytes that may be read and stored, is what a load of 8 bytes gives.
+pub fn words_are_loaded()
+    ensures { WordsAreLoaded }
+{}
+
+/// A store of 8 bytes where there is a word puts another in its place.
+pub fn words_are_stored()
+    ensures { WordsAreStored }
+{}
+
+/// A word that was put in the place of another is the word there.
+pub fn stored_words_are_read()
+    ensures { StoredWordsAreRead }
+{}
+
+/// Putting a word in the place of another changes no word at another address.
+pub fn other_words_stay()
+    ensures { OtherWordsStay }
+{}
+
+/// Once a memory is sealed, putting a word in the place of another changes no instruction word at any address.
+pub fn words_are_no_text()
+    ensures { WordsAreNoText }
+{}
+
+/// Each instruction word of the text that an executable region begins with is fetched from its place.
+pub fn text_is_fetched()
+    ensures { TextIsFetched }
+{}
+
+/// A store that answers Ok writes the lowest bytes of its number, into a region that is no sealed text, and does nothing else.
+pub fn stores_write()
+    ensures { StoresWrite }
+{}
+
+/// A put of some bytes that answers Ok writes them, into a region that is no sealed text, and does nothing else.
+pub fn puts_write()
+    ensures { PutsWrite }
+{}
+
+/// Bytes that were written stand there.
+pub fn written_bytes_are_read()
+    ensures { WrittenBytesAreRead }
+{}
+
+/// A write changes no bytes beside its own.
+pub fn other_bytes_stay()
+    ensures { OtherBytesStay }
+{}
+
+/// What was stored is loaded from there, as far as its width says it.
+pub fn stores_are_loaded()
+    ensures { StoresAreLoaded }
+{}
+
+/// A write changes no number beside its bytes, whatever its width.
+pub fn other_numbers_stay()
+    ensures { OtherNumbersStay }
+{}
+
+/// A write changes no region's place, length or rights, and not the seal.
+pub fn shapes_stay()
+    ensures { ShapesStay }
+{}
+
+/// Once a memory is sealed, a write changes no executable region.
+pub fn sealed_text_stays()
+    ensures { SealedTextStays }
+{}
+
+/// Once a memory is sealed, a write changes no instruction word.
+pub fn sealed_instructions_stay()
+    ensures { SealedInstructionsStay }
+{}
+
+/// Regions that can be mapped have no address in common once they are mapped.
+pub fn mapped_regions_are_apart()
+    ensures { MappedRegionsAreApart }
+{}
+
+/// And have none after a write.
+pub fn writes_keep_apart()
+    ensures { WritesKeepApart }
+{}
+
+/// Where no regions have an address in common, the one that holds some bytes is seen at them.
+pub fn holders_are_seen()
+    ensures { HoldersAreSeen }
+{}
+
+/// And it is the one that they are written into.
+pub fn holders_are_written()
+    ensures { HoldersAreWritten }
+{}
