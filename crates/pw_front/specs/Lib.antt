@@ -1,0 +1,5 @@
+pub mod Bytes
+pub mod Tokens
+pub mod Names
+pub mod Grammar
+pub mod Reading
