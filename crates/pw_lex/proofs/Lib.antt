@@ -1,0 +1,11 @@
+pub mod Lists
+pub mod Value
+pub mod Entries
+pub mod FirstBytes
+pub mod Comments
+pub mod Characters
+pub mod Constants
+pub mod Fronts
+pub mod Whole
+pub mod OneWay
+pub mod Places

@@ -1,0 +1,9 @@
+pub mod Bytes
+pub mod Tables
+pub mod Number
+pub mod Character
+pub mod Token
+pub mod Fault
+pub mod Text
+pub mod Laws
+pub mod Reading

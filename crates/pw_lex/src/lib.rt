@@ -1,0 +1,29 @@
+//! Cuts a source text into its tokens, or answers the first place where the text is no C of this product.
+//!
+//! `tokens` promises the whole: the text is white space, comments and tokens in turn, each token the longest that
+//! fits, or the five faults are answered exactly, the first in the text.
+#![tactic(auto)]
+
+mod bytes;
+mod character;
+mod comment;
+mod error;
+mod front;
+pub mod keyword;
+mod laws;
+mod lexer;
+mod line;
+mod number;
+pub mod punct;
+mod table;
+mod token;
+mod word;
+
+pub use error::LexError;
+pub use laws::{a_text_reads_in_one_way, the_tables_keep_their_rules, tokens_stand_in_their_text};
+pub use lexer::tokens;
+pub use line::{end_line, line_at};
+pub use token::{Token, TokenKind};
+
+#[cfg(test)]
+mod tests;
