@@ -1,0 +1,6 @@
+-- The copies made so far are the first items.
+use Rattle.std.proofs.Common.{◌≡◌, take}
+use Rattle.pw_tree.proofs.copies.copy_all.Given as goal
+
+abbrev pub invariant-loop-item : goal.invariant-loop-item
+invariant-loop-item g l = l.copies ≡ take l.item-index l.items

@@ -1,0 +1,16 @@
+pub mod Phrases
+pub mod Statements
+pub mod Declarations
+pub mod Trees
+pub mod Commands
+pub mod Units
+pub mod Numbers
+pub mod TypeTexts
+pub mod Names
+pub mod States
+pub mod Evaluation
+pub mod Execution
+pub mod Meaning
+pub mod Depends
+pub mod Binding
+pub mod Laws
