@@ -1,0 +1,104 @@
+-- One instruction at a time: what it takes from an input that may have come to its end, what it puts behind an output, and how it moves the run on.
+use Rattle.std.specs.Prelude.{◌≡◌, ℕ, Bool, true, List, [], ◌∷◌, ◌++◌, Option, Some, None}
+use Rattle.pw_isa.specs.declared.instruction.Inst.TheVariants.{Ecall}
+use Rattle.pw_mem.specs.Memory.{Mem}
+use Rattle.pw_mem.specs.Fetches.{counted, Told}
+use Rattle.pw_io.specs.Source.{SourceState, SourceFails, after}
+use Rattle.pw_io.specs.Sink.{SinkState, SinkFails, wrote}
+use Rattle.pw_hart.specs.declared.hart.Hart.{Hart}
+use Rattle.pw_hart.specs.declared.ends.End.{End}
+use Rattle.pw_hart.specs.declared.ends.End.TheVariants.{ReadFault, WriteFault, Limit}
+use Rattle.pw_hart.specs.State.{State, Next, Goes, Ends, get}
+use Rattle.pw_hart.specs.Exec.{exec, takes_input, puts_output}
+use Rattle.pw_hart.specs.Run.{step}
+use Rattle.pw_hart.specs.Harts.{registers, state_of}
+use Rattle.pw_hart.specs.Runs.{Moment, IsLeft, FailsToRead, FailsToWrite}
+
+-- an end that the machine itself has: not that of the input or the output, and not the limit
+abbrev pub IsMachines : End → Type 0
+IsMachines ReadFault = ⊥
+IsMachines WriteFault = ⊥
+IsMachines Limit = ⊥
+IsMachines end = Unit {0}
+
+-- an input, whether it came to its end before, and an output
+pub record Ports : Type 0 where
+  pub input : SourceState
+  pub used_up : Bool
+  pub out : SinkState
+
+-- these bytes may be what is left in an input, which came to its end before or did not
+pub record CanBeLeft (input : SourceState) (used_up : Bool) (bytes : List ℕ) : Type 0 where
+  pub is_left : IsLeft bytes input
+  pub none : used_up ≡ true → bytes ≡ []
+
+-- what an instruction does with bytes that were taken from the input and put behind the output, whatever is left in the input behind them and was put before
+pub record Uses (instruction : State → Next) (old : Ports) (hart : Hart) (mem : Mem) (new : Ports) (hart' : Hart) (mem' : Mem) (next : State → Next) : Type 0 where
+  pub taken : List ℕ
+  pub put : List ℕ
+  pub input : new.input ≡ after taken old.input
+  pub out : new.out ≡ wrote put old.out
+  pub offered : (rest : List ℕ) → CanBeLeft new.input new.used_up rest → CanBeLeft old.input old.used_up (taken ++ rest)
+  pub leaves : (left : List ℕ) → CanBeLeft old.input old.used_up left → (rest : List ℕ) × CanBeLeft new.input new.used_up rest
+  pub does : (rest output : List ℕ) → CanBeLeft new.input new.used_up rest →
+      instruction (state_of hart mem (taken ++ rest) output) ≡ next (state_of hart' mem' rest (output ++ put))
+
+-- the call of input moves the processor on, or fails and leaves it
+abbrev pub Takes : SourceState → Bool → Hart → SourceState → Bool → Hart → Option End → Type 0
+Takes old used_up hart new used_up' hart' None =
+    (mem : Mem) (out : SinkState) → Uses (λ s. takes_input s.input s) (record { input = old; used_up = used_up; out = out }) hart mem
+    (record { input = new; used_up = used_up'; out = out }) hart' mem Goes
+Takes old used_up hart new used_up' hart' (Some ReadFault) = SourceFails old new × (hart' ≡ hart)
+Takes old used_up hart new used_up' hart' (Some end) = ⊥
+
+-- the call of output moves the processor on, or fails and leaves it
+abbrev pub Puts : SinkState → Hart → SinkState → Hart → Option End → Type 0
+Puts old hart new hart' None =
+    (mem : Mem) (input : SourceState) (used_up : Bool) → Uses puts_output (record { input = input; used_up = used_up; out = old }) hart mem
+    (record { input = input; used_up = used_up; out = new }) hart' mem Goes
+Puts old hart new hart' (Some WriteFault) = SinkFails old new × (hart' ≡ hart)
+Puts old hart new hart' (Some end) = ⊥
+
+-- the input failed at its call, and nothing else changed
+pub record InputFails (old : Ports) (hart : Hart) (new : Ports) (hart' : Hart) : Type 0 where
+  pub call : get (registers hart) 17 ≡ 1024
+  pub stays : hart' ≡ hart
+  pub input : SourceFails old.input new.input
+  pub out : new.out ≡ old.out
+
+-- the output failed at its call, and nothing else changed
+pub record OutputFails (old : Ports) (hart : Hart) (new : Ports) (hart' : Hart) : Type 0 where
+  pub call : get (registers hart) 17 ≡ 1025
+  pub stays : hart' ≡ hart
+  pub input : new.input ≡ old.input
+  pub out : SinkFails old.out new.out
+
+-- what an environment call answers and leaves
+abbrev pub Calls : Ports → Hart → Ports → Hart → Option End → Type 0
+Calls old hart new hart' None = (mem : Mem) → Uses (exec Ecall) old hart mem new hart' mem Goes
+Calls old hart new hart' (Some ReadFault) = InputFails old hart new hart'
+Calls old hart new hart' (Some WriteFault) = OutputFails old hart new hart'
+Calls old hart new hart' (Some Limit) = ⊥
+Calls old hart new hart' (Some end) = (mem : Mem) → Uses (exec Ecall) old hart mem new hart' mem (Ends end)
+
+-- the ports at a moment
+abbrev pub ports : Moment → Bool → Ports
+ports m used_up = record { input = m.input; used_up = used_up; out = m.out }
+
+-- one fetch at the pc was counted and told
+pub record Fetches (old new : Moment) : Type 0 where
+  pub counts : new.fetches ≡ counted old.fetches 1
+  pub tells : Told old.told (old.hart.pc ∷ []) new.told
+
+-- one step of the machine, from a moment to the next
+pub record Steps (old : Moment) (used_up : Bool) (new : Moment) (used_up' : Bool) (next : State → Next) : Type 0 where
+  pub fetches : Fetches old new
+  pub uses : Uses step (ports old used_up) old.hart old.mem (ports new used_up') new.hart new.mem next
+
+-- what one instruction answers and leaves: nothing where the run goes on, or how it ends
+abbrev pub Advances : Moment → Bool → Moment → Bool → Option End → Type 0
+Advances old used_up new used_up' None = Steps old used_up new used_up' Goes
+Advances old used_up new used_up' (Some ReadFault) = FailsToRead old new
+Advances old used_up new used_up' (Some WriteFault) = FailsToWrite old new
+Advances old used_up new used_up' (Some Limit) = ⊥
+Advances old used_up new used_up' (Some end) = Steps old used_up new used_up' (Ends end)

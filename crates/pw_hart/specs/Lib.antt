@@ -1,0 +1,11 @@
+pub mod Bits
+pub mod Integer
+pub mod Word
+pub mod Multiply
+pub mod State
+pub mod Exec
+pub mod Run
+pub mod Access
+pub mod Harts
+pub mod Runs
+pub mod Advances
