@@ -1,0 +1,6 @@
+long dead(void) { return 7; }
+long main(void) {
+  __out(72);
+  __out(105);
+  return 0;
+}

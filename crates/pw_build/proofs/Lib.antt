@@ -1,0 +1,5 @@
+pub mod Sizes
+pub mod Parts
+pub mod Whole
+pub mod Ending
+pub mod Meaning

@@ -1,0 +1,140 @@
+-- The run of an image is what the source means, at its end and where the output fails.
+use Rattle.std.proofs.Common.{◌≡◌, ℕ, zero, suc, ◌+◌, ◌*◌, ◌-◌, ◌<◌, ◌≤◌, List, [], ◌∷◌, ◌++◌, length, refl, ap, sym, subst, ◌∙◌, arith, Some, inl, inr, append-nil, length-append}
+use Rattle.std.specs.Prelude.{◌⊎◌}
+use Rattle.pw_front.specs.declared.function.FirstFun.{FirstFun}
+use Rattle.pw_mem.specs.Memory.{Mem}
+use Rattle.pw_mem.specs.Fetches.{counted, Told}
+use Rattle.pw_io.specs.Source.{SourceState, after}
+use Rattle.pw_io.specs.Sink.{SinkState, SinkFails, wrote, flushed_all}
+use Rattle.pw_io.proofs.Sources.{after_nothing}
+use Rattle.pw_hart.specs.declared.hart.Hart.{Hart}
+use Rattle.pw_hart.specs.declared.ends.End.{End}
+use Rattle.pw_hart.specs.declared.ends.End.TheVariants as ends
+use Rattle.pw_hart.specs.Run.{Outcome, run}
+use Rattle.pw_hart.specs.Runs.{Moment, state_at, Leaves, RunsTo, RunsUpTo, FailsToWrite}
+use Rattle.pw_agree.specs.Image.{CanPlace, image, main_of, all_words}
+use Rattle.pw_agree.specs.Start.{start}
+use Rattle.pw_agree.specs.Meaning.{output_of, value_of}
+use Rattle.pw_agree.specs.Agreement.{RunsAsMeant, KeepsText, IsFrontOf}
+use Rattle.pw_agree.proofs.TextStays.{text_stays}
+use Rattle.pw_agree.proofs.CutShort.{front_of_longer}
+use Rattle.pw_build.specs.declared.run.Ended.{Ended}
+use Rattle.pw_build.specs.declared.run.Ended.TheVariants.{Exit, ReadFault, WriteFault}
+use Rattle.pw_build.specs.Executed.{Given, moment, HasMain, IsFresh, HasRun, Flushes, Finishes, Executes}
+use Rattle.pw_build.specs.Meant.{FetchesKeptCode, EndsAsMeant, BreaksOffAsMeant, IsMeant}
+use Rattle.pw_build.proofs.Ending.{meant, starts, ends_with_main, finishes}
+
+-- a rest that holds all that it is a rest of is all of it
+all_is_left : (input taken rest put : List ℕ) → input ≡ taken ++ rest → rest ≡ put ++ input → rest ≡ input
+all_is_left input taken rest [] e f = f
+all_is_left input taken rest (b ∷ put) e f =
+    let n : length input ≡ length taken + length rest = ap length e ∙ length-append taken rest in
+    let m : length rest ≡ length (b ∷ put) + length input = ap length f ∙ length-append (b ∷ put) input in
+    absurd (omega (arith, n, m))
+
+-- nothing stands before the whole of a list
+nothing_before : (input taken rest : List ℕ) → input ≡ taken ++ rest → rest ≡ input → taken ≡ []
+nothing_before input [] rest e f = refl
+nothing_before input (b ∷ taken) rest e f =
+    let n : length input ≡ length (b ∷ taken) + length rest = ap length e ∙ length-append (b ∷ taken) rest in
+    let m : length rest ≡ length input = ap length f in
+    absurd (omega (arith, n, m))
+
+-- what a run takes of the input, where its outcome has the input whole, is nothing
+takes_nothing : (old new : Moment) (input : List ℕ) (o : Outcome) → o.state.input ≡ input → Leaves old input o new → new.input ≡ old.input
+takes_nothing old new input o whole l = l.left ∙ ap (λ t. after t old.input) (nothing_before input l.taken o.state.input l.took whole) ∙ after_nothing old.input
+
+-- the memory that a run leaves keeps the text
+keeps_text : (funs : List FirstFun) (steps k : ℕ) (fresh : Hart) (old : Given) (new : Moment) (input : List ℕ) → IsFresh steps fresh → old.mem ≡ image funs → Leaves (moment fresh old) input (run k (state_at (moment fresh old) input)) new → KeepsText funs new.mem
+keeps_text funs steps k fresh old new input is_fresh is l =
+    let P : Mem → Type 0 = λ m. KeepsText funs m in
+    let stays = text_stays funs input [] steps k in
+    let here = subst (λ s. KeepsText funs (run k s).state.mem) (sym (starts funs steps fresh old input is_fresh is)) stays in
+    subst P (ap (λ s. s.mem) l.state) here
+
+-- a run that ended with a value, with the flush behind it
+ended_as_meant : (funs : List FirstFun) (main : FirstFun) (steps value : ℕ) (fresh last : Hart) (old new : Given) (mid : SinkState) → CanPlace funs → main_of funs ≡ Some main → 1 ≤ steps → IsFresh steps fresh → old.mem ≡ image funs → RunsTo ((steps + 1) * all_words funs) (moment fresh old) (moment last (record new { out = mid })) (ends.Exit value) → new.out ≡ flushed_all mid → EndsAsMeant funs old new value
+ended_as_meant funs main steps value fresh last old new mid placed has bound is_fresh is r flushed =
+    let m = meant funs main steps fresh old r.input placed has bound is_fresh is in
+    let l = r.leaves in
+    record {
+      main = main;
+      is_main = has;
+      value_is = value_same (sym r.ends ∙ m.ends);
+      out = flushed ∙ ap flushed_all (l.put ∙ ap (λ bytes. wrote bytes old.out) m.writes);
+      input = takes_nothing _ _ r.input _ m.reads l;
+      fetches = record { fetched = _; kept = m.kept; counts = l.counts; tells = l.tells };
+      text = keeps_text funs steps _ fresh old _ r.input is_fresh is l;
+    }
+  where
+    value_same : {v w : ℕ} → ends.Exit v ≡ ends.Exit w → v ≡ w
+    value_same e = cc
+
+-- the output failed at a byte
+broke_off_at : (funs : List FirstFun) (main : FirstFun) (steps : ℕ) (fresh last : Hart) (old new : Given) → CanPlace funs → main_of funs ≡ Some main → 1 ≤ steps → IsFresh steps fresh → old.mem ≡ image funs → RunsUpTo ((steps + 1) * all_words funs) FailsToWrite (moment fresh old) (moment last new) → BreaksOffAsMeant funs old new
+broke_off_at funs main steps fresh last old new placed has bound is_fresh is r =
+    let b = r.before in
+    let m = meant funs main steps fresh old b.input placed has bound is_fresh is in
+    let n = (steps + 1) * all_words funs in
+    let s = state_at (moment fresh old) b.input in
+    let below : r.k ≤ n = omega (arith, r.below) in
+    let front = front_of_longer r.k n s below b.ends in
+    let left : (run r.k s).state.input ≡ b.input = all_is_left b.input b.leaves.taken _ front.taken b.leaves.took (front.input ∙ ap (λ rest. front.taken ++ rest) m.reads) in
+    record {
+      main = main;
+      is_main = has;
+      front = (run r.k s).state.output;
+      more = front.more_output;
+      whole = sym m.writes ∙ front.output;
+      out = subst (λ o. SinkFails o new.out) b.leaves.put r.failure.out;
+      input = r.failure.input ∙ takes_nothing _ _ b.input _ left b.leaves;
+      text = subst (λ k. KeepsText funs k) (sym r.failure.mem) (keeps_text funs steps r.k fresh old _ b.input is_fresh is b.leaves);
+    }
+
+-- the output failed at the flush behind the last byte
+broke_off_behind : (funs : List FirstFun) (main : FirstFun) (steps value : ℕ) (fresh last : Hart) (old new : Given) (mid : SinkState) → CanPlace funs → main_of funs ≡ Some main → 1 ≤ steps → IsFresh steps fresh → old.mem ≡ image funs → RunsTo ((steps + 1) * all_words funs) (moment fresh old) (moment last (record new { out = mid })) (ends.Exit value) → SinkFails mid new.out → BreaksOffAsMeant funs old new
+broke_off_behind funs main steps value fresh last old new mid placed has bound is_fresh is r fails =
+    let m = meant funs main steps fresh old r.input placed has bound is_fresh is in
+    let l = r.leaves in
+    record {
+      main = main;
+      is_main = has;
+      front = output_of main;
+      more = [];
+      whole = sym (append-nil (output_of main));
+      out = subst (λ o. SinkFails o new.out) (l.put ∙ ap (λ bytes. wrote bytes old.out) m.writes) fails;
+      input = takes_nothing _ _ r.input _ m.reads l;
+      text = keeps_text funs steps _ fresh old _ r.input is_fresh is l;
+    }
+
+-- each end of a run has to do with the source what it should
+pub is_meant : (funs : List FirstFun) (steps : ℕ) (old new : Given) (ended : Ended) → CanPlace funs → HasMain funs → 1 ≤ steps → old.mem ≡ image funs → Executes funs steps old new ended → IsMeant funs old new ended
+is_meant funs steps old new (Exit value) placed has bound is f =
+    let r = f.runs in
+    subst (λ v. EndsAsMeant funs old new v) (sym f.flushes.0)
+    (ended_as_meant funs has.main steps f.value r.fresh r.last old new f.mid placed has.is bound r.is_fresh is r.runs f.flushes.1)
+is_meant funs steps old new ReadFault placed has bound is f = tt
+is_meant funs steps old new WriteFault placed has bound is (inl r) = broke_off_at funs has.main steps r.fresh r.last old new placed has.is bound r.is_fresh is r.runs
+is_meant funs steps old new WriteFault placed has bound is (inr f) =
+    let r = f.runs in broke_off_behind funs has.main steps f.value r.fresh r.last old new f.mid placed has.is bound r.is_fresh is r.runs f.flushes
+
+-- what a moment gives beside the processor
+abbrev pub given_at : Moment → Given
+given_at m = record { mem = m.mem; fetches = m.fetches; told = m.told; input = m.input; out = m.out }
+
+-- no other end of the machine's run than the exit with the value of `main`
+pub only_exit : (funs : List FirstFun) (steps n : ℕ) (old new : Moment) (end : End) → CanPlace funs → (has : HasMain funs) → 1 ≤ steps → IsFresh steps old.hart → old.mem ≡ image funs → n ≡ (steps + 1) * all_words funs → RunsTo n old new end → end ≡ ends.Exit (value_of has.main)
+only_exit funs steps n old new end placed has bound is_fresh is limit r =
+    ends_with_main funs has.main steps old.hart new.hart (given_at old) (given_at new) end placed has.is bound is_fresh is (subst (λ k. RunsTo k old new end) limit r)
+
+-- a run that ended with a value, and the flush behind it, are as meant
+pub meant_at_exit : (funs : List FirstFun) (steps n value : ℕ) (old mid : Moment) (out : SinkState) (ended : Ended) → CanPlace funs → HasMain funs → 1 ≤ steps → IsFresh steps old.hart → old.mem ≡ image funs → n ≡ (steps + 1) * all_words funs → RunsTo n old mid (ends.Exit value) → Flushes value mid.out out ended → IsMeant funs (given_at old) (record { mem = mid.mem; fetches = mid.fetches; told = mid.told; input = mid.input; out = out }) ended
+meant_at_exit funs steps n value old mid out ended placed has bound is_fresh is limit r flushes =
+    is_meant funs steps (given_at old) _ ended placed has bound is
+    (finishes funs steps value old.hart mid.hart (given_at old) (record { mem = mid.mem; fetches = mid.fetches; told = mid.told; input = mid.input; out = out }) mid.out ended is_fresh
+    (subst (λ k. RunsTo k old mid (ends.Exit value)) limit r) flushes)
+
+-- so is a run whose output failed at a byte
+pub meant_at_fault : (funs : List FirstFun) (steps n : ℕ) (old new : Moment) → CanPlace funs → (has : HasMain funs) → 1 ≤ steps → IsFresh steps old.hart → old.mem ≡ image funs → n ≡ (steps + 1) * all_words funs → RunsUpTo n FailsToWrite old new → BreaksOffAsMeant funs (given_at old) (given_at new)
+meant_at_fault funs steps n old new placed has bound is_fresh is limit r =
+    broke_off_at funs has.main steps old.hart new.hart (given_at old) (given_at new) placed has.is bound is_fresh is (subst (λ k. RunsUpTo k FailsToWrite old new) limit r)

@@ -1,0 +1,65 @@
+-- What the run of an image answers, and what it leaves of its memory, its input and its output.
+use Rattle.std.specs.Prelude.{◌≡◌, ℕ, ◌+◌, ◌*◌, ◌⊎◌, List, Option, Some}
+use Rattle.pw_front.specs.declared.function.FirstFun.{FirstFun}
+use Rattle.pw_mem.specs.Memory.{Mem}
+use Rattle.pw_io.specs.Source.{SourceState}
+use Rattle.pw_io.specs.Sink.{SinkState, SinkFails, flushed_all}
+use Rattle.pw_hart.specs.declared.hart.Hart.{Hart}
+use Rattle.pw_hart.specs.declared.ends.End.{End}
+use Rattle.pw_hart.specs.declared.ends.End.TheVariants as ends
+use Rattle.pw_hart.specs.Harts.{registers}
+use Rattle.pw_hart.specs.State.{set}
+use Rattle.pw_hart.specs.Runs.{Moment, Runs}
+use Rattle.pw_agree.specs.Image.{text_start, stack_start, stack_len, all_words, main_of}
+use Rattle.pw_build.specs.declared.run.Ended.{Ended}
+use Rattle.pw_build.specs.declared.run.Ended.TheVariants.{Exit, ReadFault, WriteFault}
+
+-- What a run is given, and what it leaves, beside the processor.
+pub record Given : Type 0 where
+  pub mem : Mem
+  pub fetches : ℕ
+  pub told : Option (List ℕ)
+  pub input : SourceState
+  pub out : SinkState
+
+-- the moment at which a processor has this given
+abbrev pub moment : Hart → Given → Moment
+moment hart g = record { hart = hart; mem = g.mem; fetches = g.fetches; told = g.told; input = g.input; out = g.out }
+
+-- There is a function named `main`.
+pub record HasMain (funs : List FirstFun) : Type 0 where
+  pub main : FirstFun
+  pub is : main_of funs ≡ Some main
+
+-- The processor as a run begins: at the entry, its registers 0 but the stack pointer, with these counted steps.
+pub record IsFresh (steps : ℕ) (hart : Hart) : Type 0 where
+  pub pc : hart.pc ≡ text_start
+  pub steps_left : hart.steps ≡ steps
+  pub x : registers hart ≡ set (λ _. 0) 2 (stack_start + stack_len)
+
+-- The machine's run from the start, of at most as many instructions as the words for each counted step and once more,
+-- ends so and leaves that.
+pub record HasRun (funs : List FirstFun) (steps : ℕ) (old new : Given) (end : End) : Type 0 where
+  pub fresh : Hart
+  pub is_fresh : IsFresh steps fresh
+  pub last : Hart
+  pub runs : Runs ((steps + 1) * all_words funs) (moment fresh old) (moment last new) end
+
+-- a flush behind the last byte of a run that ended with a value
+abbrev pub Flushes : ℕ → SinkState → SinkState → Ended → Type 0
+Flushes value old new (Exit v) = (v ≡ value) × (new ≡ flushed_all old)
+Flushes value old new ReadFault = ⊥
+Flushes value old new WriteFault = SinkFails old new
+
+-- The run was done, and then the output was flushed, or that failed.
+pub record Finishes (funs : List FirstFun) (steps : ℕ) (old new : Given) (ended : Ended) : Type 0 where
+  pub value : ℕ
+  pub mid : SinkState
+  pub runs : HasRun funs steps old (record new { out = mid }) (ends.Exit value)
+  pub flushes : Flushes value mid new.out ended
+
+-- the run of an image: it ends with a value, and the output is flushed; or the input or the output failed
+abbrev pub Executes : List FirstFun → ℕ → Given → Given → Ended → Type 0
+Executes funs steps old new (Exit value) = Finishes funs steps old new (Exit value)
+Executes funs steps old new ReadFault = HasRun funs steps old new ends.ReadFault
+Executes funs steps old new WriteFault = HasRun funs steps old new ends.WriteFault ⊎ Finishes funs steps old new WriteFault

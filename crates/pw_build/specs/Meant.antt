@@ -1,0 +1,47 @@
+-- What the run of an image has to do with the source: what the output gained, what the value is, and what ran.
+use Rattle.std.specs.Prelude.{◌≡◌, ℕ, List, [], ◌++◌, length, All, Some}
+use Rattle.pw_front.specs.declared.function.FirstFun.{FirstFun}
+use Rattle.pw_mem.specs.Fetches.{counted, Told}
+use Rattle.pw_io.specs.Sink.{SinkFails, wrote, flushed_all}
+use Rattle.pw_agree.specs.Image.{main_of}
+use Rattle.pw_agree.specs.Meaning.{output_of, value_of}
+use Rattle.pw_agree.specs.KeptCode.{LiesInKeptCode}
+use Rattle.pw_agree.specs.Agreement.{KeepsText}
+use Rattle.pw_build.specs.declared.run.Ended.{Ended}
+use Rattle.pw_build.specs.declared.run.Ended.TheVariants.{Exit, ReadFault, WriteFault}
+use Rattle.pw_build.specs.Executed.{Given}
+
+-- Every fetch was counted and told, each from kept code.
+pub record FetchesKeptCode (funs : List FirstFun) (old new : Given) : Type 0 where
+  pub fetched : List ℕ
+  pub kept : All (LiesInKeptCode funs) fetched
+  pub counts : new.fetches ≡ counted old.fetches (length fetched)
+  pub tells : Told old.told fetched new.told
+
+-- The run ended with what `main` returns; the output gained what `main` writes and is flushed, and the input lost nothing.
+pub record EndsAsMeant (funs : List FirstFun) (old new : Given) (value : ℕ) : Type 0 where
+  pub main : FirstFun
+  pub is_main : main_of funs ≡ Some main
+  pub value_is : value ≡ value_of main
+  pub out : new.out ≡ flushed_all (wrote (output_of main) old.out)
+  pub input : new.input ≡ old.input
+  pub fetches : FetchesKeptCode funs old new
+  pub text : KeepsText funs new.mem
+
+-- The output failed: it gained a front of what `main` writes, and the input lost nothing.
+pub record BreaksOffAsMeant (funs : List FirstFun) (old new : Given) : Type 0 where
+  pub main : FirstFun
+  pub is_main : main_of funs ≡ Some main
+  pub front : List ℕ
+  pub more : List ℕ
+  pub whole : output_of main ≡ front ++ more
+  pub out : SinkFails (wrote front old.out) new.out
+  pub input : new.input ≡ old.input
+  pub text : KeepsText funs new.mem
+
+-- what each end of the run has to do with the source; the input of a program of the first form is never asked for, so
+-- of its failure nothing is said here
+abbrev pub IsMeant : List FirstFun → Given → Given → Ended → Type 0
+IsMeant funs old new (Exit value) = EndsAsMeant funs old new value
+IsMeant funs old new ReadFault = Unit {0}
+IsMeant funs old new WriteFault = BreaksOffAsMeant funs old new

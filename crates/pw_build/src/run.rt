@@ -1,0 +1,91 @@
+//! Runs the image of a program.
+ghost use Rattle.std.specs.Prelude.{◌≡◌, ◌≤◌, ◌<◌, ◌^◌};
+ghost use Rattle.pw_agree.specs.Image.{CanPlace, image};
+ghost use Rattle.pw_build.specs.Meant.{IsMeant};
+ghost use Rattle.pw_build.specs.Executed.{HasMain, IsFresh, Executes, Flushes};
+
+use crate::entry::{TEXT_START, words_of};
+use pw_base::Limits;
+use pw_front::FirstFun;
+use pw_hart::{End, Hart};
+use pw_io::{Sink, Source};
+use pw_mem::Memory;
+
+/// How the run of an image ended.
+#[derive(Clone, Copy, PartialEq, Eq, Debug)]
+pub enum Ended {
+    /// `main` returned this value.
+    Exit(u64),
+    /// The input failed.
+    ReadFault,
+    /// The output failed, at a byte or at the flush behind the last.
+    WriteFault,
+}
+
+/// The number of the register that is the stack pointer (psABI, "Integer Register Convention").
+const SP: usize = 2;
+
+/// Runs the image of the functions with so many counted steps, and flushes the output. No memory is taken.
+pub fn execute<M: Memory, I: Source, O: Sink>(
+    funs: &[FirstFun],
+    steps: u64,
+    mem: &mut M,
+    input: &mut I,
+    out: &mut O,
+) -> Ended
+    requires has_image { M.mem mem.old ≡ image funs.now }
+    requires placed { CanPlace funs.now }
+    requires has_main { HasMain funs.now }
+    requires bound { (1 ≤ steps) × (steps ≤ 10 ^ 9) }
+    ensures executes { Executes funs.now steps
+        (record { mem = M.mem mem.old; fetches = M.fetches mem.old; told = M.told mem.old; input = I.state input.old; out = O.state out.old })
+        (record { mem = M.mem mem.new; fetches = M.fetches mem.new; told = M.told mem.new; input = I.state input.new; out = O.state out.new })
+        result }
+    ensures meant { IsMeant funs.now
+        (record { mem = M.mem mem.old; fetches = M.fetches mem.old; told = M.told mem.old; input = I.state input.old; out = O.state out.old })
+        (record { mem = M.mem mem.new; fetches = M.fetches mem.new; told = M.told mem.new; input = I.state input.new; out = O.state out.new })
+        result }
+{
+    let mut hart = fresh(steps);
+    let limit = (steps + 1) * words_of(funs);
+    match hart.run(mem, input, out, limit) {
+        End::Exit(value) => flushed(out, value),
+        End::ReadFault => Ended::ReadFault,
+        End::WriteFault => Ended::WriteFault,
+        End::Checked {
+            kind: _,
+            line: _,
+            pc: _,
+        } => unreachable!(),
+        End::Spent => unreachable!(),
+        End::Trap {
+            cause: _,
+            pc: _,
+            value: _,
+        } => unreachable!(),
+        End::Limit => unreachable!(),
+    }
+}
+
+/// The processor as a run begins, with so many counted steps.
+fn fresh(steps: u64) -> Hart
+    ensures { IsFresh steps result }
+{
+    let mut x = [0; 32];
+    x[SP] = Limits::STACK_START + Limits::STACK_BYTES;
+    Hart {
+        x,
+        pc: TEXT_START,
+        steps,
+    }
+}
+
+/// Flushes the output behind the last byte of a run that ended with a value.
+fn flushed<O: Sink>(out: &mut O, value: u64) -> Ended
+    ensures { Flushes value (O.state out.old) (O.state out.new) result }
+{
+    match out.flush() {
+        Ok(()) => Ended::Exit(value),
+        Err(_) => Ended::WriteFault,
+    }
+}

@@ -1,0 +1,25 @@
+-- Which words ask for which command.
+use Rattle.std.specs.Prelude.{◌≡◌, ℕ, List, [], ◌∷◌, map, codes, Result, Ok, Err, String}
+use Rattle.std.specs.String.{string_bytes}
+use Rattle.std.specs.declared.alloc.Global.{Global}
+use Rattle.pw_base.specs.Name.{IsName}
+use Rattle.pw_cmd.specs.declared.words.Command.{Command}
+use Rattle.pw_cmd.specs.declared.words.Command.TheVariants.{One}
+use Rattle.pw_cmd.specs.declared.answer.Stop.{Stop}
+use Rattle.pw_cmd.specs.declared.answer.Stop.TheVariants.{Usage, TooLong, Form, NoMain, ReadFailed, WriteFailed, NoMemory}
+
+-- the bytes of each word
+abbrev pub texts : List (String Global) → List (List ℕ)
+texts words = map string_bytes words
+
+-- The words are `one FILE`, and FILE is a name.
+pub record AsksForOne (words : List (List ℕ)) (file : List ℕ) : Type 0 where
+  pub spelled : words ≡ codes "one" ∷ file ∷ []
+  pub name : IsName file
+
+-- the command of the words, or that they are of none; memory is asked for only where they are of one
+abbrev pub Judges : List (List ℕ) → Result Command Stop → Type 0
+Judges words (Ok (One file)) = AsksForOne words file
+Judges words (Err Usage) = (file : List ℕ) → ¬ AsksForOne words file
+Judges words (Err NoMemory) = (file : List ℕ) × AsksForOne words file
+Judges words (Err _) = ⊥
