@@ -1,10 +1,9 @@
 //! Reads a text from standard input and says how many tokens it has, or its fault: what the benchmark of the lexer times.
 #![tactic(auto)]
 
-use std::io::{self, Read};
-
 use pw_base::Limits;
 use pw_lex::tokens;
+use std::io::{self, Read};
 
 /// The bytes of standard input, at most those of a source file.
 fn text<R: Input + AllocGlobal>(rt: &R) -> io::Result<Vec<u8>> {
