@@ -5,7 +5,12 @@ mod answer;
 mod commands;
 mod message;
 mod perform;
-mod running;mod unit;
+#[cfg(test)]
+mod recorder;
+mod running;
+#[cfg(test)]
+mod tests;
+mod unit;
 mod words;
 
 pub use answer::{Outcome, Stop};

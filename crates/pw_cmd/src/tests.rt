@@ -1,0 +1,260 @@
+//! What the command answers and writes on small programs, and what it leaves of the memory.
+use crate::commands::top;
+use crate::recorder::Recorder;
+use pw_base::Name;
+use pw_hart::Hart;
+use pw_io::{MemSink, MemSource, MemStore};
+use pw_mem::{FlatMemory, Memory};
+use std::alloc::Global;
+use std::test::Fail;
+
+/// The program of two functions, one of which is never called.
+const TWO_BYTES: &[u8] =
+    b"long dead(void) { return 7; }\nlong main(void) {\n  __out(72);\n  __out(105);\n  return 0;\n}\n";
+
+/// A program that writes three bytes.
+const THREE_BYTES: &[u8] = b"long main(void) { __out(97); __out(98); __out(99); return 0; }";
+
+/// The words of its `main`, whose name stands in line 2.
+const MAIN: [u32; 21] = [
+    0x0004_9a63,
+    0x0040_0513,
+    0x0020_0593,
+    0x4020_0893,
+    0x0000_0073,
+    0xfff4_8493,
+    0xff01_0113,
+    0x0011_3023,
+    0x0480_0513,
+    0x4010_0893,
+    0x0000_0073,
+    0x0690_0513,
+    0x4010_0893,
+    0x0000_0073,
+    0x0000_0513,
+    0x0080_006f,
+    0x0000_0513,
+    0x0001_3083,
+    0x0101_0113,
+    0x0014_8493,
+    0x0000_8067,
+];
+
+/// The numbers of the calls of each port that are to fail, from 1.
+#[derive(Clone, Copy)]
+struct Fails {
+    store: &'static [u64],
+    out: &'static [u64],
+    msg: &'static [u64],
+}
+
+/// No call fails.
+const NONE: Fails = Fails {
+    store: &[],
+    out: &[],
+    msg: &[],
+};
+
+/// What a command answered and left.
+#[derive(Drop)]
+struct Seen<M> {
+    status: u8,
+    out: MemSink,
+    msg: MemSink,
+    mem: M,
+}
+
+/// Runs the command of these words over a store with the one file main.c.
+fn run<M: Memory + Drop>(
+    alloc: Global,
+    words: &[&str],
+    text: &[u8],
+    fails: Fails,
+    mem: M,
+) -> Result<Seen<M>, Fail> {
+    let mut own = Vec::new(alloc);
+    for word in words {
+        own.push(String::from_str(alloc, word)?)?;
+    }
+    let mut files = Vec::new(alloc);
+    files.push((Name::read(alloc, b"main.c")?, Vec::from_slice(alloc, text)?))?;
+    let mut store = MemStore::new(alloc, files, Vec::from_slice(alloc, fails.store)?);
+    let mut input = MemSource::new(Vec::new(alloc), Vec::new(alloc));
+    let mut out = MemSink::new(alloc, 64, Vec::from_slice(alloc, fails.out)?)?;
+    let mut msg = MemSink::new(alloc, 128, Vec::from_slice(alloc, fails.msg)?)?;
+    let (status, mem) = top(
+        alloc,
+        own.as_slice(),
+        &mut store,
+        &mut input,
+        &mut out,
+        &mut msg,
+        mem,
+    );
+    Ok(Seen {
+        status,
+        out,
+        msg,
+        mem,
+    })
+}
+
+#[test]
+fn each_status_has_its_line_and_its_output(rt: HostRuntime) -> Result<(), Fail> {
+    let one = ["one", "main.c"];
+    let rows: [(&[&str], &[u8], Fails, u8, &[u8], &[u8]); 12] = [
+        (&one, TWO_BYTES, NONE, 0, b"Hi", b"ended 0\n"),
+        (&one, b"", NONE, 3, b"", b"refused: app: no main\n"),
+        (
+            &one,
+            b"long main(void) { return 2048; }",
+            NONE,
+            3,
+            b"",
+            b"refused: main.c: form not built\n",
+        ),
+        (
+            &one,
+            b"long main(void) { return 2047; }",
+            NONE,
+            1,
+            b"",
+            b"ended 2047\n",
+        ),
+        (&["one", "other.c"], b"", NONE, 6, b"", b"read failed\n"),
+        (
+            &["one", "a b"],
+            b"",
+            NONE,
+            2,
+            b"",
+            b"usage: pw COMMAND ARGUMENTS\n",
+        ),
+        (
+            &["one"],
+            b"",
+            NONE,
+            2,
+            b"",
+            b"usage: pw COMMAND ARGUMENTS\n",
+        ),
+        (&[], b"", NONE, 2, b"", b"usage: pw COMMAND ARGUMENTS\n"),
+        (
+            &one,
+            THREE_BYTES,
+            Fails { out: &[3], ..NONE },
+            7,
+            b"ab",
+            b"write failed\n",
+        ),
+        (
+            &one,
+            THREE_BYTES,
+            Fails { out: &[4], ..NONE },
+            7,
+            b"abc",
+            b"write failed\n",
+        ),
+        (
+            &one,
+            TWO_BYTES,
+            Fails {
+                store: &[1],
+                ..NONE
+            },
+            6,
+            b"",
+            b"read failed\n",
+        ),
+        (
+            &one,
+            TWO_BYTES,
+            Fails { msg: &[3], ..NONE },
+            7,
+            b"Hi",
+            b"en",
+        ),
+    ];
+    for (words, text, fails, status, out, msg) in rows {
+        let seen = run(rt.alloc(), words, text, fails, FlatMemory::new(rt.alloc()))?;
+        assert_eq!(rt; seen.status, status);
+        assert_eq!(rt; seen.out.written(), out);
+        assert_eq!(rt; seen.msg.written(), msg);
+    }
+    Ok(())
+}
+
+#[test]
+fn only_the_entry_and_main_are_in_memory(rt: HostRuntime) -> Result<(), Fail> {
+    let seen = run(
+        rt.alloc(),
+        &["one", "main.c"],
+        TWO_BYTES,
+        NONE,
+        FlatMemory::new(rt.alloc()),
+    )?;
+    let mut mem = seen.mem;
+    let entry = [
+        0x3e80_0493,
+        0x0100_0297,
+        0xffc2_b283,
+        0x0002_80e7,
+        0x05d0_0893,
+        0x0000_0073,
+    ];
+    for (k, word) in entry.iter().enumerate() {
+        assert_eq!(rt; mem.fetch(0x500_0000 + 4 * k as u64), Ok(*word));
+    }
+    for k in 0..15 {
+        assert_eq!(rt; mem.fetch(0x500_0018 + 4 * k), Ok(0));
+    }
+    for (k, word) in MAIN.iter().enumerate() {
+        assert_eq!(rt; mem.fetch(0x500_0054 + 4 * k as u64), Ok(*word));
+    }
+    assert_eq!(rt; mem.load(0x600_0000, 8), Ok(0x500_0054));
+    Ok(())
+}
+
+/// The addresses that a run from the entry fetches from, noted before each step of a processor of its own.
+fn addresses(alloc: Global, mut mem: FlatMemory) -> Result<Vec<u64>, Fail> {
+    let mut x = [0; 32];
+    x[2] = 0x1_0020_0000;
+    let mut hart = Hart {
+        x,
+        pc: 0x500_0000,
+        steps: 1,
+    };
+    let mut input = MemSource::new(Vec::new(alloc), Vec::new(alloc));
+    let mut out = MemSink::new(alloc, 64, Vec::new(alloc))?;
+    let mut list = Vec::new(alloc);
+    for _ in 0..64 {
+        list.push(hart.pc)?;
+        if hart.step(&mut mem, &mut input, &mut out).is_some() {
+            break;
+        }
+    }
+    Ok(list)
+}
+
+#[test]
+fn the_memory_tells_the_addresses_of_the_run(rt: HostRuntime) -> Result<(), Fail> {
+    let words = ["one", "main.c"];
+    let told = run(
+        rt.alloc(),
+        &words,
+        TWO_BYTES,
+        NONE,
+        Recorder::new(rt.alloc())?,
+    )?;
+    let quiet = run(
+        rt.alloc(),
+        &words,
+        TWO_BYTES,
+        NONE,
+        FlatMemory::new(rt.alloc()),
+    )?;
+    let noted = addresses(rt.alloc(), quiet.mem)?;
+    assert_eq!(rt; noted.len(), 22);
+    assert_eq!(rt; told.mem.told(), Some(noted.as_slice()));
+    Ok(())
+}
