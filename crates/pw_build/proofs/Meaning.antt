@@ -4,14 +4,14 @@ use Rattle.std.specs.Prelude.{◌⊎◌}
 use Rattle.pw_front.specs.declared.function.FirstFun.{FirstFun}
 use Rattle.pw_mem.specs.Memory.{Mem}
 use Rattle.pw_mem.specs.Fetches.{counted, Told}
-use Rattle.pw_io.specs.Source.{SourceState, after}
+use Rattle.pw_io.specs.Source.{SourceState, SourceFails, after}
 use Rattle.pw_io.specs.Sink.{SinkState, SinkFails, wrote, flushed_all}
 use Rattle.pw_io.proofs.Sources.{after_nothing}
 use Rattle.pw_hart.specs.declared.hart.Hart.{Hart}
 use Rattle.pw_hart.specs.declared.ends.End.{End}
 use Rattle.pw_hart.specs.declared.ends.End.TheVariants as ends
 use Rattle.pw_hart.specs.Run.{Outcome, run}
-use Rattle.pw_hart.specs.Runs.{Moment, state_at, Leaves, RunsTo, RunsUpTo, FailsToWrite}
+use Rattle.pw_hart.specs.Runs.{Moment, state_at, Leaves, RunsTo, RunsUpTo, FailsToRead, FailsToWrite}
 use Rattle.pw_agree.specs.Image.{CanPlace, image, main_of, all_words}
 use Rattle.pw_agree.specs.Start.{start}
 use Rattle.pw_agree.specs.Meaning.{output_of, value_of}
@@ -21,7 +21,7 @@ use Rattle.pw_agree.proofs.CutShort.{front_of_longer}
 use Rattle.pw_build.specs.declared.run.Ended.{Ended}
 use Rattle.pw_build.specs.declared.run.Ended.TheVariants.{Exit, ReadFault, WriteFault}
 use Rattle.pw_build.specs.Executed.{Given, moment, HasMain, IsFresh, HasRun, Flushes, Finishes, Executes}
-use Rattle.pw_build.specs.Meant.{FetchesKeptCode, EndsAsMeant, BreaksOffAsMeant, IsMeant}
+use Rattle.pw_build.specs.Meant.{FetchesKeptCode, EndsAsMeant, BreaksOffAsMeant, StopsAsMeant, IsMeant}
 use Rattle.pw_build.proofs.Ending.{meant, starts, ends_with_main, finishes}
 
 -- a rest that holds all that it is a rest of is all of it
@@ -91,6 +91,27 @@ broke_off_at funs main steps fresh last old new placed has bound is_fresh is r =
       text = subst (λ k. KeepsText funs k) (sym r.failure.mem) (keeps_text funs steps r.k fresh old _ b.input is_fresh is b.leaves);
     }
 
+-- the input failed at a byte
+stopped_at : (funs : List FirstFun) (main : FirstFun) (steps : ℕ) (fresh last : Hart) (old new : Given) → CanPlace funs → main_of funs ≡ Some main → 1 ≤ steps → IsFresh steps fresh → old.mem ≡ image funs → RunsUpTo ((steps + 1) * all_words funs) FailsToRead (moment fresh old) (moment last new) → StopsAsMeant funs old new
+stopped_at funs main steps fresh last old new placed has bound is_fresh is r =
+    let b = r.before in
+    let m = meant funs main steps fresh old b.input placed has bound is_fresh is in
+    let n = (steps + 1) * all_words funs in
+    let s = state_at (moment fresh old) b.input in
+    let below : r.k ≤ n = omega (arith, r.below) in
+    let front = front_of_longer r.k n s below b.ends in
+    let left : (run r.k s).state.input ≡ b.input = all_is_left b.input b.leaves.taken _ front.taken b.leaves.took (front.input ∙ ap (λ rest. front.taken ++ rest) m.reads) in
+    record {
+      main = main;
+      is_main = has;
+      front = (run r.k s).state.output;
+      more = front.more_output;
+      whole = sym m.writes ∙ front.output;
+      out = r.failure.out ∙ b.leaves.put;
+      input = subst (λ i. SourceFails i new.input) (takes_nothing _ _ b.input _ left b.leaves) r.failure.input;
+      text = subst (λ k. KeepsText funs k) (sym r.failure.mem) (keeps_text funs steps r.k fresh old _ b.input is_fresh is b.leaves);
+    }
+
 -- the output failed at the flush behind the last byte
 broke_off_behind : (funs : List FirstFun) (main : FirstFun) (steps value : ℕ) (fresh last : Hart) (old new : Given) (mid : SinkState) → CanPlace funs → main_of funs ≡ Some main → 1 ≤ steps → IsFresh steps fresh → old.mem ≡ image funs → RunsTo ((steps + 1) * all_words funs) (moment fresh old) (moment last (record new { out = mid })) (ends.Exit value) → SinkFails mid new.out → BreaksOffAsMeant funs old new
 broke_off_behind funs main steps value fresh last old new mid placed has bound is_fresh is r fails =
@@ -113,7 +134,7 @@ is_meant funs steps old new (Exit value) placed has bound is f =
     let r = f.runs in
     subst (λ v. EndsAsMeant funs old new v) (sym f.flushes.0)
     (ended_as_meant funs has.main steps f.value r.fresh r.last old new f.mid placed has.is bound r.is_fresh is r.runs f.flushes.1)
-is_meant funs steps old new ReadFault placed has bound is f = tt
+is_meant funs steps old new ReadFault placed has bound is r = stopped_at funs has.main steps r.fresh r.last old new placed has.is bound r.is_fresh is r.runs
 is_meant funs steps old new WriteFault placed has bound is (inl r) = broke_off_at funs has.main steps r.fresh r.last old new placed has.is bound r.is_fresh is r.runs
 is_meant funs steps old new WriteFault placed has bound is (inr f) =
     let r = f.runs in broke_off_behind funs has.main steps f.value r.fresh r.last old new f.mid placed has.is bound r.is_fresh is r.runs f.flushes
@@ -138,3 +159,8 @@ meant_at_exit funs steps n value old mid out ended placed has bound is_fresh is 
 pub meant_at_fault : (funs : List FirstFun) (steps n : ℕ) (old new : Moment) → CanPlace funs → (has : HasMain funs) → 1 ≤ steps → IsFresh steps old.hart → old.mem ≡ image funs → n ≡ (steps + 1) * all_words funs → RunsUpTo n FailsToWrite old new → BreaksOffAsMeant funs (given_at old) (given_at new)
 meant_at_fault funs steps n old new placed has bound is_fresh is limit r =
     broke_off_at funs has.main steps old.hart new.hart (given_at old) (given_at new) placed has.is bound is_fresh is (subst (λ k. RunsUpTo k FailsToWrite old new) limit r)
+
+-- and a run whose input failed
+pub meant_at_read_fault : (funs : List FirstFun) (steps n : ℕ) (old new : Moment) → CanPlace funs → (has : HasMain funs) → 1 ≤ steps → IsFresh steps old.hart → old.mem ≡ image funs → n ≡ (steps + 1) * all_words funs → RunsUpTo n FailsToRead old new → StopsAsMeant funs (given_at old) (given_at new)
+meant_at_read_fault funs steps n old new placed has bound is_fresh is limit r =
+    stopped_at funs has.main steps old.hart new.hart (given_at old) (given_at new) placed has.is bound is_fresh is (subst (λ k. RunsUpTo k FailsToRead old new) limit r)

@@ -2,6 +2,7 @@
 use Rattle.std.specs.Prelude.{◌≡◌, ℕ, List, [], ◌++◌, length, All, Some}
 use Rattle.pw_front.specs.declared.function.FirstFun.{FirstFun}
 use Rattle.pw_mem.specs.Fetches.{counted, Told}
+use Rattle.pw_io.specs.Source.{SourceFails}
 use Rattle.pw_io.specs.Sink.{SinkFails, wrote, flushed_all}
 use Rattle.pw_agree.specs.Image.{main_of}
 use Rattle.pw_agree.specs.Meaning.{output_of, value_of}
@@ -39,9 +40,19 @@ pub record BreaksOffAsMeant (funs : List FirstFun) (old new : Given) : Type 0 wh
   pub input : new.input ≡ old.input
   pub text : KeepsText funs new.mem
 
--- what each end of the run has to do with the source; the input of a program of the first form is never asked for, so
--- of its failure nothing is said here
+-- The input failed: the output gained a front of what `main` writes, and the input lost nothing.
+pub record StopsAsMeant (funs : List FirstFun) (old new : Given) : Type 0 where
+  pub main : FirstFun
+  pub is_main : main_of funs ≡ Some main
+  pub front : List ℕ
+  pub more : List ℕ
+  pub whole : output_of main ≡ front ++ more
+  pub out : new.out ≡ wrote front old.out
+  pub input : SourceFails old.input new.input
+  pub text : KeepsText funs new.mem
+
+-- what each end of the run has to do with the source
 abbrev pub IsMeant : List FirstFun → Given → Given → Ended → Type 0
 IsMeant funs old new (Exit value) = EndsAsMeant funs old new value
-IsMeant funs old new ReadFault = Unit {0}
+IsMeant funs old new ReadFault = StopsAsMeant funs old new
 IsMeant funs old new WriteFault = BreaksOffAsMeant funs old new

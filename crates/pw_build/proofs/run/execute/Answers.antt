@@ -2,7 +2,7 @@
 use Rattle.std.proofs.Common.{◌≡◌, ℕ, ◌+◌, ◌*◌, ap}
 use Rattle.pw_hart.specs.declared.ends.End.{End}
 use Rattle.pw_hart.specs.declared.ends.End.TheVariants as ends
-use Rattle.pw_build.proofs.Meaning.{only_exit, meant_at_exit, meant_at_fault}
+use Rattle.pw_build.proofs.Meaning.{only_exit, meant_at_exit, meant_at_fault, meant_at_read_fault}
 use Rattle.pw_build.proofs.run.execute.Goals as goal
 
 -- the machine has other ends than the exit
@@ -41,3 +41,7 @@ returns-in-Exit-clause-meant g c =
 pub returns-in-WriteFault-clause-meant : goal.returns-in-WriteFault-clause-meant
 returns-in-WriteFault-clause-meant g c =
     meant_at_fault _ _ _ _ _ c.requires.placed c.requires.has_main c.requires.bound.0 c.fresh-hart.ensures c.requires.has_image (ap (λ k. (c.args.steps + 1) * k) c.words_of.ensures) c.in-WriteFault.ensures
+
+pub returns-in-ReadFault-clause-meant : goal.returns-in-ReadFault-clause-meant
+returns-in-ReadFault-clause-meant g c =
+    meant_at_read_fault _ _ _ _ _ c.requires.placed c.requires.has_main c.requires.bound.0 c.fresh-hart.ensures c.requires.has_image (ap (λ k. (c.args.steps + 1) * k) c.words_of.ensures) c.in-ReadFault.ensures
