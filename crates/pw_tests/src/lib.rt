@@ -1,5 +1,7 @@
-//! Worked rows that cross crates: what the processor computes over a memory, with the values of the manual.
+//! Worked rows that cross crates, with the values of the manual, and that with ample memory each copy succeeds.
 #![tactic(auto)]
 
+#[cfg(test)]
+mod copies;
 #[cfg(test)]
 mod division;
