@@ -1,0 +1,343 @@
+-- The derivations of declarations at file level and of units, and their trees (C17, 6.9).
+use Rattle.std.specs.Prelude.{◌≡◌, ℕ, suc, ◌+◌, ◌-◌, ◌%◌, ◌^◌, Bool, true, false, List, [], ◌∷◌, ◌++◌, length, map, ◌⊎◌, Option, Some, None, ⊤}
+use Rattle.pw_grammar.specs.declared.sort.Sort.{Sort}
+use Rattle.pw_grammar.specs.declared.sort.Sort.TheVariants as s
+use Rattle.pw_grammar.specs.Terminals.{sort}
+use Rattle.pw_grammar.specs.Expressions.{name_in, value_in, IsConstant}
+use Rattle.pw_grammar.specs.Statements.{TypePhrase, spelled_type, IsType, type_in, Statements, spelled_statements, AreStatements, trees_of_statements, first_line}
+use Rattle.pw_lex.specs.declared.token.Token.{Token}
+use Rattle.pw_tree.specs.declared.ty.Ty.{Ty}
+use Rattle.pw_tree.specs.declared.ty.Ty.TheVariants.{Void}
+use Rattle.pw_tree.specs.declared.decl.Param.{Param}
+use Rattle.pw_tree.specs.declared.decl.InitItem.{InitItem}
+use Rattle.pw_tree.specs.declared.decl.InitKind.{InitKind}
+use Rattle.pw_tree.specs.declared.decl.InitKind.TheVariants as i
+use Rattle.pw_tree.specs.declared.decl.Linkage.{Linkage}
+use Rattle.pw_tree.specs.declared.decl.Linkage.TheVariants as linkage
+use Rattle.pw_tree.specs.declared.decl.DeclKind.{DeclKind}
+use Rattle.pw_tree.specs.declared.decl.DeclKind.TheVariants as d
+use Rattle.pw_tree.specs.declared.decl.Decl.{Decl}
+use Rattle.pw_tree.specs.declared.decl.Unit.{Unit}
+
+-- ---- the storage class and the result
+
+abbrev pub spelled_storage : Option Token → List Token
+spelled_storage None = []
+spelled_storage (Some t) = t ∷ []
+
+-- `extern` or `static`, or none of them
+abbrev pub IsStorage : Option Token → Type 0
+IsStorage None = ⊤
+IsStorage (Some t) = (sort t ≡ s.Extern) ⊎ (sort t ≡ s.Static)
+
+-- `static`, or none: what is defined
+abbrev pub IsDefining : Option Token → Type 0
+IsDefining None = ⊤
+IsDefining (Some t) = sort t ≡ s.Static
+
+abbrev pub linkage_by : Sort → Linkage
+linkage_by s.Extern = linkage.Extern
+linkage_by _ = linkage.Static
+
+abbrev pub linkage_of : Option Token → Linkage
+linkage_of None = linkage.Plain
+linkage_of (Some t) = linkage_by (sort t)
+
+-- what a function gives
+pub data ResultPhrase : Type 0 where
+  nothing : Token → ResultPhrase
+  value : TypePhrase → ResultPhrase
+
+abbrev pub spelled_result : ResultPhrase → List Token
+spelled_result (nothing t) = t ∷ []
+spelled_result (value ty) = spelled_type ty
+
+abbrev pub IsResult : ResultPhrase → Type 0
+IsResult (nothing t) = sort t ≡ s.Void
+IsResult (value ty) = IsType ty
+
+abbrev pub result_in : ResultPhrase → Ty
+result_in (nothing t) = Void
+result_in (value ty) = type_in ty
+
+-- ---- parameters
+
+-- a type, and a name or none
+pub record Parameter : Type 0 where
+  pub ty : TypePhrase
+  pub name : Option Token
+
+abbrev pub spelled_name : Option Token → List Token
+spelled_name None = []
+spelled_name (Some t) = t ∷ []
+
+abbrev pub spelled_parameter : Parameter → List Token
+spelled_parameter p = spelled_type p.ty ++ spelled_name p.name
+
+abbrev pub IsNamed : Option Token → Type 0
+IsNamed None = ⊤
+IsNamed (Some t) = sort t ≡ s.Name
+
+abbrev pub IsParameter : Parameter → Type 0
+IsParameter p = IsType p.ty × IsNamed p.name
+
+abbrev pub has_name : Option Token → Bool
+has_name None = false
+has_name (Some t) = true
+
+abbrev pub named : Option Token → Option (List ℕ)
+named None = None
+named (Some t) = Some (name_in t.kind)
+
+-- further parameters, each behind its comma
+pub data MoreParameters : Type 0 where
+  end : MoreParameters
+  more : Token → Parameter → MoreParameters → MoreParameters
+
+-- `void`, or one or more parameters
+pub data Parameters : Type 0 where
+  none : Token → Parameters
+  some : Parameter → MoreParameters → Parameters
+
+unfoldable pub spelled_more_parameters : MoreParameters → List Token
+spelled_more_parameters end = []
+spelled_more_parameters (more t p ps) = t ∷ (spelled_parameter p ++ spelled_more_parameters ps)
+
+abbrev pub spelled_parameters : Parameters → List Token
+spelled_parameters (none t) = t ∷ []
+spelled_parameters (some p ps) = spelled_parameter p ++ spelled_more_parameters ps
+
+unfoldable pub AreMoreParameters : MoreParameters → Type 0
+AreMoreParameters end = ⊤
+AreMoreParameters (more t p ps) = (sort t ≡ s.Comma) × IsParameter p × AreMoreParameters ps
+
+abbrev pub AreParameters : Parameters → Type 0
+AreParameters (none t) = sort t ≡ s.Void
+AreParameters (some p ps) = IsParameter p × AreMoreParameters ps
+
+-- each has a name, as a function's definition asks
+unfoldable pub AllNamed : MoreParameters → Type 0
+AllNamed end = ⊤
+AllNamed (more t p ps) = (has_name p.name ≡ true) × AllNamed ps
+
+abbrev pub HaveNames : Parameters → Type 0
+HaveNames (none t) = ⊤
+HaveNames (some p ps) = (has_name p.name ≡ true) × AllNamed ps
+
+abbrev pub parameter_of : ℕ → Parameter → Param
+parameter_of at p =
+    record { ty = type_in p.ty; name = named p.name; first = at; last = at + length (spelled_parameter p) - 1 }
+
+unfoldable pub more_parameters_of : ℕ → MoreParameters → List Param
+more_parameters_of at end = []
+more_parameters_of at (more t p ps) =
+    parameter_of (suc at) p ∷ more_parameters_of (suc at + length (spelled_parameter p)) ps
+
+abbrev pub parameters_of : ℕ → Parameters → List Param
+parameters_of at (none t) = []
+parameters_of at (some p ps) = parameter_of at p ∷ more_parameters_of (at + length (spelled_parameter p)) ps
+
+-- ---- initialisers
+
+-- a name, or a constant, maybe behind a minus sign
+pub data Element : Type 0 where
+  word : Token → Element
+  positive : Token → Element
+  negative : Token → Token → Element
+
+abbrev pub spelled_element : Element → List Token
+spelled_element (word t) = t ∷ []
+spelled_element (positive t) = t ∷ []
+spelled_element (negative m t) = m ∷ t ∷ []
+
+abbrev pub IsElement : Element → Type 0
+IsElement (word t) = sort t ≡ s.Name
+IsElement (positive t) = IsConstant (sort t)
+IsElement (negative m t) = (sort m ≡ s.Minus) × IsConstant (sort t)
+
+-- a number's two's complement
+abbrev pub negated : ℕ → ℕ
+negated n = (2 ^ 64 - n) % 2 ^ 64
+
+abbrev pub kind_of_element : Element → InitKind
+kind_of_element (word t) = i.Word (name_in t.kind)
+kind_of_element (positive t) = i.Num (value_in t.kind)
+kind_of_element (negative m t) = i.Num (negated (value_in t.kind))
+
+abbrev pub element_of : ℕ → Element → InitItem
+element_of at x =
+    record { first = at; last = at + length (spelled_element x) - 1; line = first_line (spelled_element x); kind = kind_of_element x }
+
+-- further elements, each behind its comma, and maybe a comma at the end
+pub data MoreElements : Type 0 where
+  end : MoreElements
+  comma : Token → MoreElements
+  more : Token → Element → MoreElements → MoreElements
+
+unfoldable pub spelled_more_elements : MoreElements → List Token
+spelled_more_elements end = []
+spelled_more_elements (comma t) = t ∷ []
+spelled_more_elements (more t x xs) = t ∷ (spelled_element x ++ spelled_more_elements xs)
+
+unfoldable pub AreMoreElements : MoreElements → Type 0
+AreMoreElements end = ⊤
+AreMoreElements (comma t) = sort t ≡ s.Comma
+AreMoreElements (more t x xs) = (sort t ≡ s.Comma) × IsElement x × AreMoreElements xs
+
+unfoldable pub more_elements_of : ℕ → MoreElements → List InitItem
+more_elements_of at end = []
+more_elements_of at (comma t) = []
+more_elements_of at (more t x xs) = element_of (suc at) x ∷ more_elements_of (suc at + length (spelled_element x)) xs
+
+-- a variable's size, where it is an array, and its initialiser, where it has one
+pub data Variable : Type 0 where
+  scalar : Variable
+  scalar_set : Token → Element → Variable
+  array : Token → Token → Token → Variable
+  array_set : Token → Token → Token → Token → Token → Element → MoreElements → Token → Variable
+
+abbrev pub spelled_variable : Variable → List Token
+spelled_variable scalar = []
+spelled_variable (scalar_set q x) = q ∷ spelled_element x
+spelled_variable (array o n c) = o ∷ n ∷ c ∷ []
+spelled_variable (array_set o n c q b x xs e) =
+    o ∷ n ∷ c ∷ q ∷ b ∷ (spelled_element x ++ (spelled_more_elements xs ++ e ∷ []))
+
+abbrev pub IsExtent : Token → Token → Token → Type 0
+IsExtent o n c = (sort o ≡ s.LeftBracket) × (sort n ≡ s.Number) × (sort c ≡ s.RightBracket)
+
+abbrev pub IsVariable : Variable → Type 0
+IsVariable scalar = ⊤
+IsVariable (scalar_set q x) = (sort q ≡ s.Assign) × IsElement x
+IsVariable (array o n c) = IsExtent o n c
+IsVariable (array_set o n c q b x xs e) =
+    IsExtent o n c × (sort q ≡ s.Assign) × (sort b ≡ s.LeftBrace) × IsElement x × AreMoreElements xs × (sort e ≡ s.RightBrace)
+
+-- a variable that is declared `extern` has no initialiser
+abbrev pub HasNoValue : Variable → Type 0
+HasNoValue scalar = ⊤
+HasNoValue (scalar_set q x) = ⊥
+HasNoValue (array o n c) = ⊤
+HasNoValue (array_set o n c q b x xs e) = ⊥
+
+-- where the storage class asks for it, there is no initialiser
+abbrev pub MayHave : Option Token → Variable → Type 0
+MayHave None v = ⊤
+MayHave (Some t) v = (sort t ≡ s.Static) ⊎ ((sort t ≡ s.Extern) × HasNoValue v)
+
+abbrev pub count_in : Variable → Option ℕ
+count_in scalar = None
+count_in (scalar_set q x) = None
+count_in (array o n c) = Some (value_in n.kind)
+count_in (array_set o n c q b x xs e) = Some (value_in n.kind)
+
+-- how many tokens a declarator has behind its name
+abbrev pub extent : Variable → ℕ
+extent scalar = 0
+extent (scalar_set q x) = 0
+extent (array o n c) = 3
+extent (array_set o n c q b x xs e) = 3
+
+-- the elements, where the variable's part begins at `at`
+abbrev pub elements_of : ℕ → Variable → Option (List InitItem)
+elements_of at scalar = None
+elements_of at (scalar_set q x) = Some (element_of (at + 1) x ∷ [])
+elements_of at (array o n c) = None
+elements_of at (array_set o n c q b x xs e) =
+    Some (element_of (at + 5) x ∷ more_elements_of (at + 5 + length (spelled_element x)) xs)
+
+-- ---- declarations
+
+pub data Declaration : Type 0 where
+  -- result name ( parameters ) ;
+  prototype : Option Token → ResultPhrase → Token → Token → Parameters → Token → Token → Declaration
+  -- result name ( parameters ) { statements }
+  function : Option Token → ResultPhrase → Token → Token → Parameters → Token → Token → Statements → Token → Declaration
+  -- type name variable ;
+  variable : Option Token → TypePhrase → Token → Variable → Token → Declaration
+
+abbrev pub spelled_declaration : Declaration → List Token
+spelled_declaration (prototype g r x o ps c e) =
+    spelled_storage g ++ (spelled_result r ++ x ∷ o ∷ (spelled_parameters ps ++ c ∷ e ∷ []))
+spelled_declaration (function g r x o ps c b body e) =
+    spelled_storage g ++ (spelled_result r ++ x ∷ o ∷ (spelled_parameters ps ++ c ∷ b ∷ (spelled_statements body ++ e ∷ [])))
+spelled_declaration (variable g ty x v e) =
+    spelled_storage g ++ (spelled_type ty ++ x ∷ (spelled_variable v ++ e ∷ []))
+
+abbrev pub IsDeclaration : Declaration → Type 0
+IsDeclaration (prototype g r x o ps c e) =
+    IsStorage g × IsResult r × (sort x ≡ s.Name) × (sort o ≡ s.LeftParen) × AreParameters ps
+    × (sort c ≡ s.RightParen) × (sort e ≡ s.Semicolon)
+IsDeclaration (function g r x o ps c b body e) =
+    IsDefining g × IsResult r × (sort x ≡ s.Name) × (sort o ≡ s.LeftParen) × AreParameters ps × HaveNames ps
+    × (sort c ≡ s.RightParen) × (sort b ≡ s.LeftBrace) × AreStatements body × (sort e ≡ s.RightBrace)
+IsDeclaration (variable g ty x v e) =
+    IsType ty × (sort x ≡ s.Name) × IsVariable v × MayHave g v × (sort e ≡ s.Semicolon)
+
+-- the number of the name's token
+abbrev pub name_at : ℕ → Option Token → List Token → ℕ
+name_at at g ty = at + length (spelled_storage g) + length ty
+
+abbrev pub behind_parameters : ℕ → Option Token → ResultPhrase → Parameters → ℕ
+behind_parameters at g r ps = suc (suc (name_at at g (spelled_result r))) + length (spelled_parameters ps)
+
+abbrev pub tree_of_declaration : ℕ → Declaration → Decl
+tree_of_declaration at (prototype g r x o ps c e) = record {
+  first = at;
+  name_at = name_at at g (spelled_result r);
+  declarator = behind_parameters at g r ps;
+  last = suc (behind_parameters at g r ps);
+  line = x.line;
+  linkage = linkage_of g;
+  name = name_in x.kind;
+  kind = d.Proto (result_in r) (parameters_of (suc (suc (name_at at g (spelled_result r)))) ps);
+}
+tree_of_declaration at (function g r x o ps c b body e) = record {
+  first = at;
+  name_at = name_at at g (spelled_result r);
+  declarator = behind_parameters at g r ps;
+  last = suc (suc (behind_parameters at g r ps)) + length (spelled_statements body);
+  line = x.line;
+  linkage = linkage_of g;
+  name = name_in x.kind;
+  kind = d.Fun (result_in r) (parameters_of (suc (suc (name_at at g (spelled_result r)))) ps)
+      (trees_of_statements (suc (suc (behind_parameters at g r ps))) body);
+}
+tree_of_declaration at (variable g ty x v e) = record {
+  first = at;
+  name_at = name_at at g (spelled_type ty);
+  declarator = name_at at g (spelled_type ty) + extent v;
+  last = suc (name_at at g (spelled_type ty)) + length (spelled_variable v);
+  line = x.line;
+  linkage = linkage_of g;
+  name = name_in x.kind;
+  kind = d.Var (type_in ty) (count_in v) (elements_of (suc (name_at at g (spelled_type ty))) v);
+}
+
+-- ---- units
+
+abbrev pub UnitPhrase : Type 0
+UnitPhrase = List Declaration
+
+unfoldable pub spelled_unit : UnitPhrase → List Token
+spelled_unit [] = []
+spelled_unit (c ∷ cs) = spelled_declaration c ++ spelled_unit cs
+
+unfoldable pub IsUnit : UnitPhrase → Type 0
+IsUnit [] = ⊤
+IsUnit (c ∷ cs) = IsDeclaration c × IsUnit cs
+
+unfoldable pub trees_of_declarations : ℕ → UnitPhrase → List Decl
+trees_of_declarations at [] = []
+trees_of_declarations at (c ∷ cs) = tree_of_declaration at c ∷ trees_of_declarations (at + length (spelled_declaration c)) cs
+
+abbrev pub lines_of : List Token → List ℕ
+lines_of tokens = map (λ t. t.line) tokens
+
+-- the grammar derives this unit from the tokens
+pub record Derives (tokens : List Token) (unit : Unit) : Type 0 where
+  pub phrase : UnitPhrase
+  pub is : IsUnit phrase
+  pub spells : spelled_unit phrase ≡ tokens
+  pub decls : unit.decls ≡ trees_of_declarations 0 phrase
+  pub lines : unit.lines ≡ lines_of tokens

@@ -1,0 +1,111 @@
+-- The faults of a token list, and which is the first.
+use Rattle.std.specs.Prelude.{◌≡◌, ℕ, suc, ◌+◌, ◌<◌, ◌≤◌, Bool, true, false, ◌||◌, List, [], ◌∷◌, ◌++◌, length, take, drop, ◌⊎◌, ⊤, Option, Some, None}
+use Rattle.std.specs.List.{count_by}
+use Rattle.pw_grammar.specs.declared.sort.Sort.{Sort}
+use Rattle.pw_grammar.specs.declared.sort.Sort.TheVariants as s
+use Rattle.pw_grammar.specs.declared.error.SyntaxError.{SyntaxError}
+use Rattle.pw_grammar.specs.declared.error.SyntaxError.TheVariants.{At, TooNested, TooLong, NoMemory}
+use Rattle.pw_grammar.specs.Terminals.{sort, first_sort}
+use Rattle.pw_grammar.specs.Statements.{spelled_statements}
+use Rattle.pw_grammar.specs.Declarations.{Declaration, function, spelled_declaration, spelled_storage, spelled_result, spelled_parameters, UnitPhrase, spelled_unit, IsUnit}
+use Rattle.pw_lex.specs.declared.token.Token.{Token}
+
+-- ---- prefixes
+
+-- some unit's tokens begin with these
+pub record Begins (tokens : List Token) : Type 0 where
+  pub phrase : UnitPhrase
+  pub is : IsUnit phrase
+  pub rest : List Token
+  pub spells : spelled_unit phrase ≡ tokens ++ rest
+
+-- the tokens are a whole unit's
+pub record IsWhole (tokens : List Token) : Type 0 where
+  pub phrase : UnitPhrase
+  pub is : IsUnit phrase
+  pub spells : spelled_unit phrase ≡ tokens
+
+-- ---- brackets
+
+abbrev pub opens_by : Sort → Bool
+opens_by s.LeftParen = true
+opens_by s.LeftBracket = true
+opens_by s.LeftBrace = true
+opens_by _ = false
+
+abbrev pub closes_by : Sort → Bool
+closes_by s.RightParen = true
+closes_by s.RightBracket = true
+closes_by s.RightBrace = true
+closes_by _ = false
+
+abbrev pub opens : Token → Bool
+opens t = opens_by (sort t)
+
+abbrev pub closes : Token → Bool
+closes t = closes_by (sort t)
+
+-- at least this many brackets are open behind these tokens
+abbrev pub HasOpen : ℕ → List Token → Type 0
+HasOpen n tokens = n + count_by closes tokens ≤ count_by opens tokens
+
+-- ---- long functions
+
+-- how many tokens a function's definition has before the brace that opens its body, and in all; for other declarations
+-- there is no such brace
+abbrev pub before_body : Declaration → Option ℕ
+before_body (function g r x o ps c b body e) =
+    Some (length (spelled_storage g) + length (spelled_result r) + length (spelled_parameters ps) + 3)
+before_body _ = None
+
+-- token t, counted from the declaration's first, stands in the body, its braces included, behind 8,192 others
+abbrev pub IsLate : Declaration → ℕ → Option ℕ → Type 0
+IsLate c t None = ⊥
+IsLate c t (Some brace) = (brace ≤ t) × (8192 ≤ t) × (t < length (spelled_declaration c))
+
+-- token t, counted from the unit's first, stands so in one of its functions
+unfoldable pub StandsLate : UnitPhrase → ℕ → Type 0
+StandsLate [] t = ⊥
+StandsLate (c ∷ cs) t =
+    IsLate c t (before_body c) ⊎ ((before : ℕ) × (t ≡ length (spelled_declaration c) + before) × StandsLate cs before)
+
+-- some unit goes on from tokens 0 to t, and t stands late in it
+pub record GoesOnTooLong (tokens : List Token) (t : ℕ) : Type 0 where
+  pub phrase : UnitPhrase
+  pub is : IsUnit phrase
+  pub rest : List Token
+  pub spells : spelled_unit phrase ≡ take (suc t) tokens ++ rest
+  pub late : StandsLate phrase t
+
+-- ---- faults
+
+-- no unit has tokens 0 to t as its first; at the end of the list, that the tokens are no unit
+abbrev pub IsStuck : List Token → ℕ → Type 0
+IsStuck tokens t = ((t < length tokens) × (Begins (take (suc t) tokens) → ⊥)) ⊎ ((t ≡ length tokens) × (IsWhole tokens → ⊥))
+
+abbrev pub IsFault : List Token → SyntaxError → Type 0
+IsFault tokens (At t) = IsStuck tokens t
+IsFault tokens (TooNested t) = (t < length tokens) × (opens_by (first_sort (drop t tokens)) ≡ true) × HasOpen 200 (take t tokens)
+IsFault tokens (TooLong t) = (t < length tokens) × GoesOnTooLong tokens t
+IsFault tokens NoMemory = ⊥
+
+abbrev pub token_of : SyntaxError → ℕ
+token_of (At t) = t
+token_of (TooNested t) = t
+token_of (TooLong t) = t
+token_of NoMemory = 0
+
+-- faults at one token come in this order
+abbrev pub rank : SyntaxError → ℕ
+rank (At t) = 0
+rank (TooNested t) = 1
+rank (TooLong t) = 2
+rank NoMemory = 3
+
+abbrev pub ComesBefore : SyntaxError → SyntaxError → Type 0
+ComesBefore a b = (token_of a < token_of b) ⊎ ((token_of a ≡ token_of b) × (rank a ≤ rank b))
+
+-- the fault that is answered
+pub record IsFirstFault (tokens : List Token) (fault : SyntaxError) : Type 0 where
+  pub is : IsFault tokens fault
+  pub first : (other : SyntaxError) → IsFault tokens other → ComesBefore fault other

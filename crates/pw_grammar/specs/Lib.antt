@@ -1,0 +1,9 @@
+pub mod Terminals
+pub mod Expressions
+pub mod Statements
+pub mod Declarations
+pub mod Steps
+pub mod ReadingExpressions
+pub mod ReadingStatements
+pub mod ReadingDeclarations
+pub mod Faults

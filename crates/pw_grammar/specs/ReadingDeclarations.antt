@@ -1,0 +1,245 @@
+-- Reading declarations and units from left to right.
+use Rattle.std.specs.Prelude.{ℕ, zero, suc, ◌+◌, ◌-◌, Bool, true, false, not, ◌||◌, ◌&&◌, if◌then◌else◌, List, [], ◌∷◌, ◌++◌, Option, Some, None, Ok}
+use Rattle.std.specs.List.{list_all}
+use Rattle.pw_grammar.specs.declared.sort.Sort.{Sort}
+use Rattle.pw_grammar.specs.declared.sort.Sort.TheVariants as s
+use Rattle.pw_grammar.specs.Terminals.{is_same}
+use Rattle.pw_grammar.specs.Expressions.{value_in}
+use Rattle.pw_grammar.specs.Declarations.{negated}
+use Rattle.pw_grammar.specs.Steps.{Place, Parser, ◌>>=◌, pure, refuse, next_sort, sees, here, line_here, take, skip, expect, name, either, on_option}
+use Rattle.pw_grammar.specs.ReadingExpressions.{expression}
+use Rattle.pw_grammar.specs.ReadingStatements.{type_name, is_some, some, elements, statement}
+use Rattle.pw_lex.specs.declared.token.Token.{Token}
+use Rattle.pw_tree.specs.declared.ty.Ty.{Ty}
+use Rattle.pw_tree.specs.declared.ty.Ty.TheVariants as ty
+use Rattle.pw_tree.specs.declared.expr.Expr.{Expr}
+use Rattle.pw_tree.specs.declared.stmt.Stmt.{Stmt}
+use Rattle.pw_tree.specs.declared.decl.Param.{Param}
+use Rattle.pw_tree.specs.declared.decl.InitItem.{InitItem}
+use Rattle.pw_tree.specs.declared.decl.InitKind.{InitKind}
+use Rattle.pw_tree.specs.declared.decl.InitKind.TheVariants as i
+use Rattle.pw_tree.specs.declared.decl.Linkage.{Linkage}
+use Rattle.pw_tree.specs.declared.decl.Linkage.TheVariants as linkage
+use Rattle.pw_tree.specs.declared.decl.DeclKind.{DeclKind}
+use Rattle.pw_tree.specs.declared.decl.DeclKind.TheVariants as d
+use Rattle.pw_tree.specs.declared.decl.Decl.{Decl}
+
+-- ---- the storage class and the result
+
+unfoldable pub given : {A : Type 0} → A → Parser A
+given a = do
+  o ← skip
+  pure a
+
+unfoldable pub storage : Parser Linkage
+storage = either s.Extern (given linkage.Extern) (either s.Static (given linkage.Static) (pure linkage.Plain))
+
+unfoldable pub result : Parser Ty
+result = either s.Void (given ty.Void) type_name
+
+-- ---- parameters
+
+unfoldable pub maybe_name : Parser (Option (List ℕ))
+maybe_name = either s.Name (some name) (pure None)
+
+abbrev pub finish_parameter : ℕ → Ty → Option (List ℕ) → Parser Param
+finish_parameter first ty x = λ i. Ok (record { ty = ty; name = x; first = first; last = i.at - 1 }, i)
+
+unfoldable pub parameter : Parser Param
+parameter = do
+  first ← here
+  ty ← type_name
+  x ← maybe_name
+  finish_parameter first ty x
+
+unfoldable pub more_parameters : ℕ → List Param → Parser (List Param)
+more_parameters zero found = pure found
+more_parameters (suc n) found = either s.Comma (do
+  o ← skip
+  p ← parameter
+  more_parameters n (found ++ p ∷ [])) (pure found)
+
+unfoldable pub some_parameters : ℕ → Parser (List Param)
+some_parameters n = do
+  p ← parameter
+  more_parameters n (p ∷ [])
+
+unfoldable pub parameters : ℕ → Parser (List Param)
+parameters n = either s.Void (given []) (some_parameters n)
+
+abbrev pub is_named : Param → Bool
+is_named p = is_some p.name
+
+-- ---- functions
+
+abbrev pub is_extern : Linkage → Bool
+is_extern linkage.Plain = false
+is_extern linkage.Extern = true
+is_extern linkage.Static = false
+
+unfoldable pub prototype : Ty → List Param → Parser DeclKind
+prototype ty ps = do
+  e ← expect s.Semicolon
+  pure (d.Proto ty ps)
+
+unfoldable pub body : Parser Expr → Parser Stmt → ℕ → Ty → List Param → Parser DeclKind
+body expr stmt n ty ps = do
+  o ← expect s.LeftBrace
+  ys ← elements expr stmt n []
+  c ← expect s.RightBrace
+  pure (d.Fun ty ps ys)
+
+-- whether a function of this storage class and these parameters may have a body
+unfoldable pub may_define : Linkage → List Param → Bool
+may_define linkage ps = not (is_extern linkage) && list_all is_named ps
+
+unfoldable pub function_end : Parser Expr → Parser Stmt → ℕ → Linkage → Ty → List Param → Parser DeclKind
+function_end expr stmt n linkage ty ps = λ i.
+    if sees s.Semicolon i || not (may_define linkage ps) then prototype ty ps i else body expr stmt n ty ps i
+
+-- the form of a declaration, and its declarator's last token
+unfoldable pub function : Parser Expr → Parser Stmt → ℕ → Linkage → Ty → Parser (ℕ × DeclKind)
+function expr stmt n linkage ty = do
+  o ← skip
+  ps ← parameters n
+  declarator ← here
+  c ← expect s.RightParen
+  kind ← function_end expr stmt n linkage ty ps
+  pure (declarator, kind)
+
+-- ---- initialisers
+
+abbrev pub finish_element : ℕ → ℕ → InitKind → Parser InitItem
+finish_element first line kind = λ i. Ok (record { first = first; last = i.at - 1; line = line; kind = kind }, i)
+
+unfoldable pub element_word : Parser InitKind
+element_word = do
+  x ← name
+  pure (i.Word x)
+
+-- a constant's value
+unfoldable pub constant_value : Parser ℕ
+constant_value = λ i. if sees s.Number i || sees s.Character i then (take >>= (λ t. pure (value_in t.kind))) i else refuse i
+
+unfoldable pub element_positive : Parser InitKind
+element_positive = do
+  n ← constant_value
+  pure (i.Num n)
+
+unfoldable pub element_negative : Parser InitKind
+element_negative = do
+  o ← skip
+  n ← constant_value
+  pure (i.Num (negated n))
+
+unfoldable pub element_kind : Parser InitKind
+element_kind = either s.Name element_word (either s.Minus element_negative element_positive)
+
+unfoldable pub initial : Parser InitItem
+initial = do
+  first ← here
+  line ← line_here
+  kind ← element_kind
+  finish_element first line kind
+
+unfoldable pub more_initials : ℕ → List InitItem → Parser (List InitItem)
+more_initials zero found = pure found
+more_initials (suc n) found = either s.Comma (do
+  o ← skip
+  either s.RightBrace (pure found) (do
+    x ← initial
+    more_initials n (found ++ x ∷ []))) (pure found)
+
+unfoldable pub one_initial : Parser (Option (List InitItem))
+one_initial = do
+  o ← skip
+  x ← initial
+  pure (Some (x ∷ []))
+
+unfoldable pub listed_initials : ℕ → Parser (Option (List InitItem))
+listed_initials n = do
+  o ← skip
+  b ← expect s.LeftBrace
+  x ← initial
+  xs ← more_initials n (x ∷ [])
+  c ← expect s.RightBrace
+  pure (Some xs)
+
+-- ---- variables
+
+unfoldable pub size : Parser (Option ℕ)
+size = do
+  o ← skip
+  n ← (λ i. if sees s.Number i then (take >>= (λ t. pure (value_in t.kind))) i else refuse i)
+  c ← expect s.RightBracket
+  pure (Some n)
+
+unfoldable pub maybe_size : Parser (Option ℕ)
+maybe_size = either s.LeftBracket size (pure None)
+
+abbrev pub initials_by : ℕ → Option ℕ → Parser (Option (List InitItem))
+initials_by n None = one_initial
+initials_by n (Some count) = listed_initials n
+
+unfoldable pub maybe_initials : ℕ → Linkage → Option ℕ → Parser (Option (List InitItem))
+maybe_initials n linkage count = λ i.
+    if sees s.Assign i && not (is_extern linkage) then initials_by n count i else pure None i
+
+unfoldable pub last_taken : Parser ℕ
+last_taken = λ i. Ok (i.at - 1, i)
+
+unfoldable pub variable : ℕ → Linkage → Ty → Parser (ℕ × DeclKind)
+variable n linkage ty = do
+  count ← maybe_size
+  declarator ← last_taken
+  xs ← maybe_initials n linkage count
+  e ← expect s.Semicolon
+  pure (declarator, d.Var ty count xs)
+
+-- ---- declarations and units
+
+abbrev pub is_void : Ty → Bool
+is_void ty.Void = true
+is_void ty.Long = false
+is_void ty.Ulong = false
+is_void (ty.Fn n) = false
+
+-- what comes behind the name
+unfoldable pub declarator : Parser Expr → Parser Stmt → ℕ → Linkage → Ty → Parser (ℕ × DeclKind)
+declarator expr stmt n linkage ty = λ i.
+    if sees s.LeftParen i then function expr stmt n linkage ty i
+    else (if is_void ty then refuse i else variable n linkage ty i)
+
+abbrev pub finish_declaration : ℕ → ℕ → ℕ → Linkage → List ℕ → ℕ × DeclKind → Parser Decl
+finish_declaration first at line linkage x p = λ i. Ok (
+  record
+      { first = first; name_at = at; declarator = p.0; last = i.at - 1; line = line; linkage = linkage; name = x; kind = p.1 },
+  i,
+)
+
+unfoldable pub declaration : Parser Expr → Parser Stmt → ℕ → Parser Decl
+declaration expr stmt n = do
+  first ← here
+  linkage ← storage
+  ty ← result
+  at ← here
+  line ← line_here
+  x ← name
+  p ← declarator expr stmt n linkage ty
+  finish_declaration first at line linkage x p
+
+unfoldable pub declarations : Parser Decl → ℕ → List Decl → Parser (List Decl)
+declarations decl zero found = pure found
+declarations decl (suc n) found = either s.End (pure found) (do
+  c ← decl
+  declarations decl n (found ++ c ∷ []))
+
+-- the declarations up to the end of the list
+unfoldable pub all_declarations : Parser Decl → ℕ → Parser (List Decl)
+all_declarations decl n = do
+  cs ← declarations decl n []
+  either s.End (pure cs) refuse
+
+-- the declarations of a whole list of fewer than n tokens
+unfoldable pub unit : ℕ → Parser (List Decl)
+unit n = all_declarations (declaration (expression n) (statement n) n) n

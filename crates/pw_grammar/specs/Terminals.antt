@@ -1,0 +1,89 @@
+-- The terminal symbols of the grammar, and what the operators among them mean.
+use Rattle.std.specs.Prelude.{◌≡◌, ℕ, Bool, List, [], ◌∷◌, slice_index_or, Option, Some, None}
+use denote.Enum.Bare.{sameb}
+use Rattle.pw_grammar.specs.contracts.sort.Sort.{the_type}
+use Rattle.pw_grammar.specs.declared.sort.Sort.{Sort}
+use Rattle.pw_grammar.specs.declared.sort.Sort.TheVariants as s
+use Rattle.pw_grammar.specs.declared.sort.TheConstants.{KEYWORDS, PUNCTUATORS}
+use Rattle.pw_lex.specs.declared.token.Token.{Token}
+use Rattle.pw_lex.specs.declared.token.TokenKind.{TokenKind}
+use Rattle.pw_lex.specs.declared.token.TokenKind.TheVariants as t
+use Rattle.pw_tree.specs.declared.operator.Un.{Un}
+use Rattle.pw_tree.specs.declared.operator.Un.TheVariants as un
+use Rattle.pw_tree.specs.declared.operator.Bin.{Bin}
+use Rattle.pw_tree.specs.declared.operator.Bin.TheVariants as bin
+
+-- the symbol of this number, or `Other` where the table has none
+abbrev pub numbered : List Sort → ℕ → Sort
+numbered table number = slice_index_or table number s.Other
+
+-- the symbol of a token
+unfoldable pub sort_of : TokenKind → Sort
+sort_of (t.Word name) = s.Name
+sort_of (t.Number value unsigned) = s.Number
+sort_of (t.Char value) = s.Character
+sort_of (t.Keyword number) = numbered KEYWORDS number
+sort_of (t.Punct number) = numbered PUNCTUATORS number
+
+abbrev pub sort : Token → Sort
+sort token = sort_of token.kind
+
+-- the symbol of the first of these tokens, or `End`
+abbrev pub first_sort : List Token → Sort
+first_sort [] = s.End
+first_sort (token ∷ tokens) = sort token
+
+-- whether they are one symbol
+unfoldable pub is_same : Sort → Sort → Bool
+is_same = sameb the_type
+
+-- the operator that a symbol is in front of its operand (C17, 6.5.3.3)
+abbrev pub prefix_of : Sort → Option Un
+prefix_of s.Minus = Some un.Neg
+prefix_of s.Plus = Some un.Plus
+prefix_of s.Tilde = Some un.Not
+prefix_of s.Bang = Some un.Bang
+prefix_of _ = None
+
+-- the operator that a symbol is between its operands (C17, 6.5.5 to 6.5.14)
+abbrev pub binary_of : Sort → Option Bin
+binary_of s.Star = Some bin.Mul
+binary_of s.Slash = Some bin.Div
+binary_of s.Percent = Some bin.Rem
+binary_of s.Plus = Some bin.Add
+binary_of s.Minus = Some bin.Sub
+binary_of s.ShiftLeft = Some bin.Shl
+binary_of s.ShiftRight = Some bin.Shr
+binary_of s.Less = Some bin.Lt
+binary_of s.Greater = Some bin.Gt
+binary_of s.LessEqual = Some bin.Le
+binary_of s.GreaterEqual = Some bin.Ge
+binary_of s.Equal = Some bin.Eq
+binary_of s.NotEqual = Some bin.Ne
+binary_of s.And = Some bin.And
+binary_of s.Xor = Some bin.Xor
+binary_of s.Or = Some bin.Or
+binary_of s.AndAnd = Some bin.AndAnd
+binary_of s.OrOr = Some bin.OrOr
+binary_of _ = None
+
+-- the level of an operator: the tightest have level 3, the loosest 12 (C17, 6.5.5 to 6.5.14)
+abbrev pub level_of : Bin → ℕ
+level_of bin.Mul = 3
+level_of bin.Div = 3
+level_of bin.Rem = 3
+level_of bin.Add = 4
+level_of bin.Sub = 4
+level_of bin.Shl = 5
+level_of bin.Shr = 5
+level_of bin.Lt = 6
+level_of bin.Gt = 6
+level_of bin.Le = 6
+level_of bin.Ge = 6
+level_of bin.Eq = 7
+level_of bin.Ne = 7
+level_of bin.And = 8
+level_of bin.Xor = 9
+level_of bin.Or = 10
+level_of bin.AndAnd = 11
+level_of bin.OrOr = 12

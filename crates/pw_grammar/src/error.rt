@@ -1,0 +1,20 @@
+//! The faults of a token list.
+
+use thiserror::Error;
+
+/// Why a token list has no tree: its first fault, with the faulty token's number, from 0.
+#[derive(Clone, Copy, PartialEq, Eq, Debug, Error)]
+pub enum SyntaxError {
+    /// No unit begins with the tokens up to this one; the number of tokens, where the list ends too early.
+    #[error("syntax")]
+    At(u32),
+    /// The token opens the 201st bracket that is open at once.
+    #[error("too nested")]
+    TooNested(u32),
+    /// The token is the first of a function's body that is past the 8,192nd of its declaration.
+    #[error("too long")]
+    TooLong(u32),
+    /// Memory for the tree was refused.
+    #[error("out of memory")]
+    NoMemory,
+}
