@@ -1,0 +1,5 @@
+pub mod Lawful
+pub mod Branches
+pub mod Tokens
+pub mod Parts
+pub mod LawfulExpressions
