@@ -1,6 +1,5 @@
 -- The faults of a token list, and which is the first.
-use Rattle.std.specs.Prelude.{◌≡◌, ℕ, suc, ◌+◌, ◌<◌, ◌≤◌, Bool, true, false, ◌||◌, List, [], ◌∷◌, ◌++◌, length, take, drop, ◌⊎◌, ⊤, Option, Some, None}
-use Rattle.std.specs.List.{count_by}
+use Rattle.std.specs.Prelude.{◌≡◌, ℕ, suc, ◌+◌, ◌<◌, ◌≤◌, Bool, true, false, ◌||◌, if◌then◌else◌, ◌-◌, List, [], ◌∷◌, ◌++◌, length, take, drop, ◌⊎◌, ⊤, Option, Some, None}
 use Rattle.pw_grammar.specs.declared.sort.Sort.{Sort}
 use Rattle.pw_grammar.specs.declared.sort.Sort.TheVariants as s
 use Rattle.pw_grammar.specs.declared.error.SyntaxError.{SyntaxError}
@@ -45,9 +44,14 @@ opens t = opens_by (sort t)
 abbrev pub closes : Token → Bool
 closes t = closes_by (sort t)
 
--- at least this many brackets are open behind these tokens
-abbrev pub HasOpen : ℕ → List Token → Type 0
-HasOpen n tokens = n + count_by closes tokens ≤ count_by opens tokens
+-- how many brackets are open behind a token, where n are open before it
+abbrev pub bracket : ℕ → Token → ℕ
+bracket n t = if opens t then suc n else (if closes t then n - 1 else n)
+
+-- how many brackets are open behind these tokens
+unfoldable pub open_behind : ℕ → List Token → ℕ
+open_behind n [] = n
+open_behind n (t ∷ ts) = open_behind (bracket n t) ts
 
 -- ---- long functions
 
@@ -85,7 +89,7 @@ IsStuck tokens t = ((t < length tokens) × (Begins (take (suc t) tokens) → ⊥
 
 abbrev pub IsFault : List Token → SyntaxError → Type 0
 IsFault tokens (At t) = IsStuck tokens t
-IsFault tokens (TooNested t) = (t < length tokens) × (opens_by (first_sort (drop t tokens)) ≡ true) × HasOpen 200 (take t tokens)
+IsFault tokens (TooNested t) = (t < length tokens) × (opens_by (first_sort (drop t tokens)) ≡ true) × (200 ≤ open_behind 0 (take t tokens))
 IsFault tokens (TooLong t) = (t < length tokens) × GoesOnTooLong tokens t
 IsFault tokens NoMemory = ⊥
 

@@ -7,3 +7,4 @@ pub mod ReadingExpressions
 pub mod ReadingStatements
 pub mod ReadingDeclarations
 pub mod Faults
+pub mod Limits

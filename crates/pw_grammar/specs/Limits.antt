@@ -1,0 +1,54 @@
+-- Reading the limits from left to right: the first bracket that nests too deep, and the first token of a function that
+-- is too long. Nothing of the grammar is asked but where a declaration ends: at a `;` outside brackets, or at the brace
+-- that closes a function's body, which a brace outside brackets and behind a `)` opens.
+use Rattle.std.specs.Prelude.{ℕ, suc, ◌+◌, ◌-◌, Bool, true, false, ◌||◌, ◌&&◌, if◌then◌else◌, ◌==◌, nat_le, List, [], ◌∷◌, Option, Some, None}
+use Rattle.pw_grammar.specs.declared.sort.Sort.TheVariants as s
+use Rattle.pw_grammar.specs.Terminals.{sort, is_same}
+use Rattle.pw_grammar.specs.Faults.{opens, bracket}
+use Rattle.pw_lex.specs.declared.token.Token.{Token}
+
+-- the first token that opens a bracket where 200 are open; the first of the tokens has the number `at`, and n are open
+unfoldable pub first_nested : ℕ → ℕ → List Token → Option ℕ
+first_nested at n [] = None
+first_nested at n (t ∷ ts) = if opens t && nat_le 200 n then Some at else first_nested (suc at) (bracket n t) ts
+
+-- where a reader of declarations stands
+pub record Walk : Type 0 where
+  -- the next token's number, and how many brackets are open
+  pub at : ℕ
+  pub depth : ℕ
+  -- the declaration's first token, and whether a function's body has begun
+  pub start : ℕ
+  pub in_body : Bool
+  -- the last token was a `)`, and no bracket is open
+  pub behind_list : Bool
+
+-- whether the token stands in a function's body, its braces included
+abbrev pub is_inside : Walk → Token → Bool
+is_inside w t = w.in_body || (is_same (sort t) s.LeftBrace && w.depth == 0 && w.behind_list)
+
+abbrev pub is_late : Walk → Token → Bool
+is_late w t = is_inside w t && nat_le (w.start + 8192) w.at
+
+-- whether the declaration ends with the token
+abbrev pub is_last : Walk → Token → Bool
+is_last w t = bracket w.depth t == 0 && (is_same (sort t) s.Semicolon || (is_same (sort t) s.RightBrace && w.in_body))
+
+abbrev pub anew : ℕ → Walk
+anew at = record { at = at; depth = 0; start = at; in_body = false; behind_list = false }
+
+abbrev pub onward : Walk → Token → Walk
+onward w t = record
+  { at = suc w.at
+  ; depth = bracket w.depth t
+  ; start = w.start
+  ; in_body = is_inside w t
+  ; behind_list = is_same (sort t) s.RightParen && bracket w.depth t == 0 }
+
+unfoldable pub step : Walk → Token → Walk
+step w t = if is_last w t then anew (suc w.at) else onward w t
+
+-- the first token that stands in a function's body behind 8,192 others of the function
+unfoldable pub first_late : Walk → List Token → Option ℕ
+first_late w [] = None
+first_late w (t ∷ ts) = if is_late w t then Some w.at else first_late (step w t) ts
