@@ -8,3 +8,5 @@ pub mod ReadingStatements
 pub mod ReadingDeclarations
 pub mod Faults
 pub mod Limits
+pub mod Reading
+pub mod Laws

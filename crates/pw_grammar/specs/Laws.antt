@@ -1,0 +1,29 @@
+-- Laws of the grammar.
+use Rattle.std.specs.Prelude.{◌≡◌, ℕ, ◌<◌, List, length, Result, Ok, Err}
+use Rattle.pw_grammar.specs.declared.error.SyntaxError.{SyntaxError}
+use Rattle.pw_grammar.specs.Declarations.{UnitPhrase, spelled_unit, IsUnit, trees_of_declarations, Derives}
+use Rattle.pw_grammar.specs.Faults.{IsFault, IsFirstFault}
+use Rattle.pw_grammar.specs.Reading.{parsed}
+use Rattle.pw_lex.specs.declared.token.Token.{Token}
+use Rattle.pw_tree.specs.declared.decl.Decl.{Decl}
+use Rattle.pw_tree.specs.declared.decl.Unit.{Unit}
+
+-- the tokens have no fault, and the grammar derives these declarations from them
+pub record HasTree (tokens : List Token) (decls : List Decl) : Type 0 where
+  pub phrase : UnitPhrase
+  pub is : IsUnit phrase
+  pub spells : spelled_unit phrase ≡ tokens
+  pub trees : decls ≡ trees_of_declarations 0 phrase
+  pub no_fault : (fault : SyntaxError) → IsFault tokens fault → ⊥
+
+abbrev pub Tells : List Token → Result (List Decl) SyntaxError → Type 0
+Tells tokens (Ok decls) = HasTree tokens decls
+Tells tokens (Err fault) = IsFirstFault tokens fault
+
+-- reading from left to right gives the tree, or exactly the first fault
+abbrev pub ReadingTells : Type 0
+ReadingTells = (n : ℕ) (tokens : List Token) → length tokens < n → Tells tokens (parsed n tokens)
+
+-- no list of tokens has two trees
+abbrev pub OneTree : Type 0
+OneTree = (tokens : List Token) (a b : Unit) → Derives tokens a → Derives tokens b → a ≡ b
