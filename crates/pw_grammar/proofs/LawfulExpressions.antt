@@ -20,15 +20,15 @@ use Rattle.pw_lex.specs.declared.token.TokenKind.TheVariants as t
 
 -- ---- primary expressions
 
-paren : Sample s.RightParen
+pub paren : Sample s.RightParen
 unfolding sort_of
 paren = record { token = a_token (t.Punct 1); sort_is = refl; no_else = λ p. cc; no_end = λ p. cc }
 
-left_paren : Sample s.LeftParen
+pub left_paren : Sample s.LeftParen
 unfolding sort_of
 left_paren = record { token = a_token (t.Punct 0); sort_is = refl; no_else = λ p. cc; no_end = λ p. cc }
 
-is_no_end : (z : Sort) → s.End ≢ z → is_same s.End z ≡ true → ⊥
+pub is_no_end : (z : Sort) → s.End ≢ z → is_same s.End z ≡ true → ⊥
 is_no_end z other e = other (same_sorts s.End z e)
 
 count_output : (at n m : ℕ) → m ≡ n + 1 → suc (suc (suc at) + n) ≡ at + suc (suc m)

@@ -1,0 +1,154 @@
+-- The laws of the readers of prefix operators.
+use Rattle.std.proofs.Common.{◌≡◌, ◌≢◌, refl, sym, ◌∙◌, ap, subst, ℕ, zero, suc, ◌+◌, ◌-◌, ◌<◌, ◌≤◌, List, [], ◌∷◌, ◌++◌, length, ◌⊎◌, inl, inr, Result, Ok, Err, Bool, true, false, if◌then◌else◌, Option, Some, None, arith}
+use Rattle.std.proofs.lemmas.List.{append-nil, append_assoc, length-append}
+use Rattle.std.specs.Bool.{⊤}
+use Rattle.pw_grammar.specs.declared.sort.Sort.{Sort}
+use Rattle.pw_grammar.specs.declared.sort.Sort.TheVariants as s
+use Rattle.pw_grammar.specs.declared.error.SyntaxError.{SyntaxError}
+use Rattle.pw_grammar.specs.Terminals.{prefix_of, binary_of, level_of, sort, sort_of, first_sort, is_same}
+use Rattle.pw_grammar.specs.Expressions as g
+use Rattle.pw_grammar.specs.Expressions.{Phrase, Arguments, More, spelled, spelled_arguments, spelled_more, IsAt, AreArguments, AreMore, tree_of, trees_of, trees_of_more, node, IsOperator, IsPrefix, prefix_or, prefix_in, binary_or, binary_in}
+use Rattle.pw_grammar.specs.Steps.{on_option, either, Place, Outcome, Parser, and_then, ◌>>=◌, pure, refuse, next_sort, sees, here, take, skip, expect, finish}
+use Rattle.pw_grammar.specs.ReadingExpressions as r
+use Rattle.pw_grammar.proofs.Lawful.{Language, sort_before, Leads, Agree, GoesOn, HasRead, HasStopped, Says, Reaches, Same, Lawful, Within, Lax, within, Seq, bind, bind_from, Leaves, leaves_fewer, Shrinks, Pure, Nothing, lawful_pure, same_passed, near_or_far, leads_nowhere}
+use Rattle.pw_grammar.proofs.Branches.{Keeps, keeps, keeps_equal, keeps_refuse, keeps_pure, lawful_test, lawful_option, keeps_within, keeps_bind_from, next_agrees, same_sorts}
+use Rattle.pw_grammar.proofs.Tokens.{AToken, ALine, Given, Taken, One, Sample, a_token, a_token_is_lax, a_line_is_lax, keeps_take, keeps_skip, lawful_expect, take_shrinks, skip_shrinks, expect_shrinks}
+use Rattle.pw_grammar.proofs.Parts.{IsExpression, AnExpression, an_expression_is_lax, expression_goes_on, ANode, IsNode, lawful_finish, Here, lawful_from, keeps_from, Then, lawful_then, keeps_then, WithExpression, lawful_with}
+use Rattle.pw_grammar.proofs.LawfulExpressions.{paren, left_paren, is_no_end, lawful_equal, lawful_primary}
+use Rattle.pw_grammar.proofs.LawfulOperands.{lawful_fewer, lawful_none, looser, expression_looser, Onward, AnOnward, an_onward_is_lax, onward_stays, onward_goes_on, lawful_stays, lawful_onward, same_node, lawful_postfix}
+use Rattle.pw_tree.specs.declared.operator.Un.{Un}
+use Rattle.pw_tree.specs.declared.operator.Bin.{Bin}
+use Rattle.pw_tree.specs.declared.expr.Expr.{Expr, roll-Expr}
+use Rattle.pw_tree.specs.declared.expr.ExprKind.{ExprKind}
+use Rattle.pw_tree.specs.declared.expr.ExprKind.TheVariants as e
+use Rattle.pw_lex.specs.declared.token.Token.{Token}
+use Rattle.pw_lex.specs.declared.token.TokenKind.TheVariants as t
+
+-- ---- an option, and one token where it has a value
+
+pub then_option : {A U : Type 0} (o : Outcome ℕ) (op : U) (stop : Parser A) (f : U × ℕ → Parser A)
+    → and_then (and_then o (λ line. pure (Some (op, line)))) (λ x. on_option x stop f) ≡ and_then o (λ line. f (op, line))
+then_option (Ok p) op stop f = refl
+then_option (Err fault) op stop f = refl
+
+-- ---- operators in front of an operand
+
+ArePrefixes : List Token → Type 0
+ArePrefixes [] = ⊤
+ArePrefixes (t ∷ ts) = IsPrefix (sort t) × ArePrefixes ts
+
+-- the operators that these tokens are, with their lines
+operators_in : List Token → List (Un × ℕ)
+operators_in [] = []
+operators_in (t ∷ ts) = (prefix_in t, t.line) ∷ operators_in ts
+
+record HasOperators (found value : List (Un × ℕ)) (u : List Token) : Type 0 where
+  are : ArePrefixes u
+  is : value ≡ found ++ operators_in u
+
+abbrev SomeOperators : List (Un × ℕ) → Language (List (Un × ℕ))
+SomeOperators found = λ at a u x. HasOperators found a u
+
+no_operators : (found : List (Un × ℕ)) → HasOperators found found []
+unfolding ArePrefixes operators_in
+no_operators found = record { are = tt; is = sym (append-nil found) }
+
+operators_go_on : (found : List (Un × ℕ)) (at : ℕ) → GoesOn (SomeOperators found) at []
+operators_go_on found at = record { rest = []; value = found; reads = λ x o. no_operators found; starts = λ e x o. o }
+
+one_operator : (found : List (Un × ℕ)) (op : Un)
+    → Within (Then (λ x. prefix_of x ≡ Some op) (λ line. SomeOperators (found ++ (op, line) ∷ []))) (SomeOperators found)
+unfolding ArePrefixes operators_in
+one_operator found op at a u x y = record
+  { are = subst ArePrefixes (sym y.splits) ((op, y.sort_is), y.second.are)
+  ; is = y.second.is ∙ (append_assoc found ((op, y.token.line) ∷ []) (operators_in y.behind)
+      ∙ ap (λ v. found ++ v) (ap (λ b. (b, y.token.line) ∷ operators_in y.behind) (sym (ap prefix_or y.sort_is)) ∙ ap operators_in (sym y.splits))) }
+
+end_has_no_prefix : (op : Un) → prefix_of s.End ≡ Some op → ⊥
+end_has_no_prefix op e = cc
+
+-- where the next symbol is this operator, or none
+operators_at : ℕ → List (Un × ℕ) → Option Un → Parser (List (Un × ℕ))
+operators_at m found None = pure found
+operators_at m found (Some op) = skip >>= (λ line. r.operators m (found ++ (op, line) ∷ []))
+
+operators_by : (m : ℕ) (found : List (Un × ℕ)) (b : Option Un) (i : Place)
+    → and_then (r.prefix_by b i) (λ x. on_option x (pure found) (λ op. r.operators m (found ++ op ∷ []))) ≡ operators_at m found b i
+unfolding operators_at
+operators_by m found None i = refl
+operators_by m found (Some op) i = then_option (skip i) op (pure found) (λ op. r.operators m (found ++ op ∷ []))
+
+operators_are : (m : ℕ) (found : List (Un × ℕ)) (i : Place) → r.operators (suc m) found i ≡ operators_at m found (prefix_of (next_sort i)) i
+unfolding r.operators r.prefix_operator
+operators_are m found i = operators_by m found (prefix_of (next_sort i)) i
+
+lawful_operators : (m : ℕ) (found : List (Un × ℕ)) → Lawful m (SomeOperators found) (r.operators m found) (r.operators (suc m) found)
+unfolding operators_at
+lawful_operators zero found = lawful_none 0 (SomeOperators found) _ (pure found) _ none_read
+  where
+    inside : Within (Pure found) (SomeOperators found)
+    inside at a u x y = subst (λ v. HasOperators found a v) (sym y.empty) (subst (λ b. HasOperators found b []) (sym y.is) (no_operators found))
+    none_read : Lawful 0 (SomeOperators found) (r.operators 0 found) (pure found)
+    unfolding r.operators
+    none_read = within inside (lawful_pure 0 found)
+lawful_operators (suc m) found = lawful_equal (suc m) (SomeOperators found) _ _ _ _ (operators_are m found) (operators_are (suc m) found)
+    (lawful_option prefix_of (suc m) (SomeOperators found) (operators_at m found) (operators_at (suc m) found)
+        (keeps_pure _ (suc m) (SomeOperators found) found (λ at x o. no_operators found))
+        (λ op. keeps_within (λ x. prefix_of x ≡ Some op) (suc m) _ _ _ _ (one_operator found op)
+            (keeps_then (λ x. prefix_of x ≡ Some op) m _ _ _ (end_has_no_prefix op) (λ line. lawful_operators m (found ++ (op, line) ∷ []))))
+        (operators_go_on found))
+
+-- ---- the operand behind them
+
+record IsWrapped (first : ℕ) (ops : List (Un × ℕ)) (operand : Expr) (at : ℕ) (a : Expr) (u : List Token) : Type 0 where
+  is : a ≡ r.wrapped first (at - 1) ops operand
+  empty : u ≡ []
+
+abbrev AWrapped : ℕ → List (Un × ℕ) → Expr → Language Expr
+AWrapped first ops operand = λ at a u x. IsWrapped first ops operand at a u
+
+lawful_wrap : (n first : ℕ) (ops : List (Un × ℕ)) (operand : Expr)
+    → Lawful n (AWrapped first ops operand) (r.wrap first ops operand) (r.wrap first ops operand)
+unfolding r.wrap
+lawful_wrap n first ops operand = record
+  { settled = λ i short. refl
+  ; says = λ i. record { tokens = []; leads = leads_nowhere i; reads = record { is = refl; empty = refl } }
+  ; steady = λ k i j same near. record { place = j; is = ap (λ at. Ok (r.wrapped first (at - 1) ops operand, j)) (sym same.at); agree = same }
+  ; can = λ at. record { rest = []; value = _; reads = λ x o. record { is = refl; empty = refl }; starts = λ e x o. o } }
+
+-- the phrase behind these operators
+prefixes : List Token → Phrase → Phrase
+prefixes [] c = c
+prefixes (t ∷ ts) c = g.prefixed t (prefixes ts c)
+
+prefixes_are : (ts : List Token) (c : Phrase) → ArePrefixes ts → IsAt 2 c → IsAt 2 (prefixes ts c)
+unfolding ArePrefixes prefixes IsAt
+prefixes_are [] c are is = is
+prefixes_are (t ∷ ts) c are is = (omega arith, are.0, prefixes_are ts c are.1 is)
+
+prefixes_spell : (ts : List Token) (c : Phrase) → spelled (prefixes ts c) ≡ ts ++ spelled c
+unfolding prefixes spelled
+prefixes_spell [] c = refl
+prefixes_spell (t ∷ ts) c = ap (λ v. t ∷ v) (prefixes_spell ts c)
+
+count_prefixes : (at last : ℕ) (t : Token) (ts u v : List Token) → v ≡ ts ++ u → last ≡ at + length ((t ∷ ts) ++ u) - 1 → last ≡ at + length (t ∷ v) - 1
+count_prefixes at last t ts u v e f = omega (arith, ap length e, f)
+
+prefixes_tree : (ts : List Token) (c : Phrase) (at last : ℕ) → last ≡ at + length (ts ++ spelled c) - 1
+    → r.wrapped at last (operators_in ts) (tree_of (at + length ts) c) ≡ tree_of at (prefixes ts c)
+unfolding prefixes operators_in r.wrapped spelled tree_of
+prefixes_tree [] c at last e = ap (λ n. tree_of n c) (omega arith)
+prefixes_tree (t ∷ ts) c at last e =
+    ap (λ l. roll-Expr (record { first = at; last = l; line = t.line; kind = e.Unary (prefix_in t) (r.wrapped (suc at) last (operators_in ts) (tree_of (at + suc (length ts)) c)) }))
+        (count_prefixes at last t ts (spelled c) (spelled (prefixes ts c)) (prefixes_spell ts c) e)
+    ∙ ap (λ a. roll-Expr (record { first = at; last = at + length (t ∷ spelled (prefixes ts c)) - 1; line = t.line; kind = e.Unary (prefix_in t) a }))
+        (ap (λ n. r.wrapped (suc at) last (operators_in ts) (tree_of n c)) (omega arith) ∙ prefixes_tree ts c (suc at) last (omega (arith, e)))
+
+prefix_is : Within (Here (λ first. Seq (SomeOperators []) (λ ops. WithExpression 1 (λ a. AWrapped first ops a)))) (AnExpression 2)
+prefix_is at a u x y = ?
+
+pub lawful_prefix : (n : ℕ) (p q : Parser Expr) → Lawful n (AnExpression 13) p q
+    → Lawful (suc n) (AnExpression 2) (r.prefix p (suc n)) (r.prefix q (suc (suc n)))
+unfolding r.prefix
+lawful_prefix n p q l = within prefix_is (lawful_from (suc n) _ _ _ (λ first. bind (suc n) (SomeOperators []) _ _ _ _ _ (λ at a u x y o z. o)
+    (lawful_operators (suc n) []) (λ ops. lawful_with (suc n) 1 _ _ _ _ _ (lawful_postfix n p q l) (λ a. lawful_wrap (suc n) first ops a))))
