@@ -83,13 +83,12 @@ unfolding r.operators r.prefix_operator
 operators_are m found i = operators_by m found (prefix_of (next_sort i)) i
 
 lawful_operators : (m : ℕ) (found : List (Un × ℕ)) → Lawful m (SomeOperators found) (r.operators m found) (r.operators (suc m) found)
-unfolding operators_at
+unfolding operators_at r.operators
 lawful_operators zero found = lawful_none 0 (SomeOperators found) _ (pure found) _ none_read
   where
     inside : Within (Pure found) (SomeOperators found)
     inside at a u x y = subst (λ v. HasOperators found a v) (sym y.empty) (subst (λ b. HasOperators found b []) (sym y.is) (no_operators found))
     none_read : Lawful 0 (SomeOperators found) (r.operators 0 found) (pure found)
-    unfolding r.operators
     none_read = within inside (lawful_pure 0 found)
 lawful_operators (suc m) found = lawful_equal (suc m) (SomeOperators found) _ _ _ _ (operators_are m found) (operators_are (suc m) found)
     (lawful_option prefix_of (suc m) (SomeOperators found) (operators_at m found) (operators_at (suc m) found)
@@ -137,15 +136,27 @@ count_prefixes at last t ts u v e f = omega (arith, ap length e, f)
 prefixes_tree : (ts : List Token) (c : Phrase) (at last : ℕ) → last ≡ at + length (ts ++ spelled c) - 1
     → r.wrapped at last (operators_in ts) (tree_of (at + length ts) c) ≡ tree_of at (prefixes ts c)
 unfolding prefixes operators_in r.wrapped spelled tree_of
-prefixes_tree [] c at last e = ap (λ n. tree_of n c) (omega arith)
-prefixes_tree (t ∷ ts) c at last e =
+prefixes_tree [] c at last last_is = ap (λ n. tree_of n c) (omega arith)
+prefixes_tree (t ∷ ts) c at last last_is =
     ap (λ l. roll-Expr (record { first = at; last = l; line = t.line; kind = e.Unary (prefix_in t) (r.wrapped (suc at) last (operators_in ts) (tree_of (at + suc (length ts)) c)) }))
-        (count_prefixes at last t ts (spelled c) (spelled (prefixes ts c)) (prefixes_spell ts c) e)
+        (count_prefixes at last t ts (spelled c) (spelled (prefixes ts c)) (prefixes_spell ts c) last_is)
     ∙ ap (λ a. roll-Expr (record { first = at; last = at + length (t ∷ spelled (prefixes ts c)) - 1; line = t.line; kind = e.Unary (prefix_in t) a }))
-        (ap (λ n. r.wrapped (suc at) last (operators_in ts) (tree_of n c)) (omega arith) ∙ prefixes_tree ts c (suc at) last (omega (arith, e)))
+        (ap (λ n. r.wrapped (suc at) last (operators_in ts) (tree_of n c)) (omega arith) ∙ prefixes_tree ts c (suc at) last (omega (arith, last_is)))
+
+count_operand : (at : ℕ) (u v : List Token) → at + length u + length v - 1 ≡ at + length (u ++ v) - 1
+count_operand at u v = omega (arith, length-append u v)
 
 prefix_is : Within (Here (λ first. Seq (SomeOperators []) (λ ops. WithExpression 1 (λ a. AWrapped first ops a)))) (AnExpression 2)
-prefix_is at a u x y = ?
+unfolding spelled
+prefix_is at a u x y =
+    let b = y.second in
+    record
+      { phrase = prefixes y.front b.phrase
+      ; is = prefixes_are y.front b.phrase y.first.are (looser 1 2 b.phrase (omega arith) b.is)
+      ; spells = y.splits ∙ (ap (λ v. y.front ++ v) (b.splits ∙ (ap (λ v. spelled b.phrase ++ v) b.second.empty ∙ append-nil (spelled b.phrase)))
+          ∙ sym (prefixes_spell y.front b.phrase))
+      ; tree = b.second.is ∙ (ap (λ ops. r.wrapped at (at + length y.front + length (spelled b.phrase) - 1) ops (tree_of (at + length y.front) b.phrase)) y.first.is
+          ∙ prefixes_tree y.front b.phrase at _ (count_operand at y.front (spelled b.phrase))) }
 
 pub lawful_prefix : (n : ℕ) (p q : Parser Expr) → Lawful n (AnExpression 13) p q
     → Lawful (suc n) (AnExpression 2) (r.prefix p (suc n)) (r.prefix q (suc (suc n)))

@@ -5,3 +5,4 @@ pub mod Parts
 pub mod LawfulExpressions
 pub mod LawfulOperands
 pub mod LawfulPrefixes
+pub mod LawfulChains
