@@ -1,26 +1,22 @@
 -- The laws of the readers of binary operators, of choices, and of whole expressions.
-use Rattle.std.proofs.Common.{◌≡◌, ◌≢◌, refl, sym, ◌∙◌, ap, subst, ℕ, zero, suc, ◌+◌, ◌-◌, ◌<◌, ◌≤◌, List, [], ◌∷◌, ◌++◌, length, ◌⊎◌, inl, inr, Result, Ok, Err, Bool, true, false, if◌then◌else◌, Option, Some, None, arith}
+use Rattle.std.proofs.Common.{◌≡◌, refl, sym, ◌∙◌, ap, subst, ℕ, zero, suc, ◌+◌, ◌-◌, ◌<◌, ◌≤◌, List, [], ◌∷◌, ◌++◌, length, Err, Bool, true, false, if◌then◌else◌, Option, Some, None, arith}
 use Rattle.std.proofs.lemmas.List.{append-nil, append_assoc, length-append}
 use Rattle.std.proofs.lemmas.Bool.{eqb-true}
 use Rattle.std.specs.Bool.{◌==◌}
-use Rattle.std.specs.Bool.{⊤}
-use Rattle.pw_grammar.specs.declared.sort.Sort.{Sort}
 use Rattle.pw_grammar.specs.declared.sort.Sort.TheVariants as s
-use Rattle.pw_grammar.specs.declared.error.SyntaxError.{SyntaxError}
 use Rattle.pw_grammar.specs.declared.error.SyntaxError.TheVariants.{At}
-use Rattle.pw_grammar.specs.Terminals.{prefix_of, binary_of, level_of, sort, sort_of, first_sort, is_same}
+use Rattle.pw_grammar.specs.Terminals.{binary_of, level_of, sort, sort_of, is_same}
 use Rattle.pw_grammar.specs.Expressions as g
 use Rattle.pw_grammar.specs.Expressions.{Phrase, Arguments, More, spelled, spelled_arguments, spelled_more, IsAt, AreArguments, AreMore, tree_of, trees_of, trees_of_more, node, IsOperator, IsPrefix, prefix_or, prefix_in, binary_or, binary_in}
-use Rattle.pw_grammar.specs.Steps.{on_option, either, Place, Outcome, Parser, and_then, ◌>>=◌, pure, refuse, next_sort, sees, here, take, skip, expect, finish}
+use Rattle.pw_grammar.specs.Steps.{on_option, Place, Parser, and_then, ◌>>=◌, pure, refuse, next_sort, sees, skip, finish}
 use Rattle.pw_grammar.specs.ReadingExpressions as r
-use Rattle.pw_grammar.proofs.Lawful.{Language, sort_before, Leads, Agree, GoesOn, HasRead, HasStopped, Says, Reaches, Same, Lawful, Within, Lax, within, Seq, bind, bind_from, Leaves, leaves_fewer, Shrinks, Pure, Nothing, lawful_pure, same_passed, near_or_far, leads_nowhere}
-use Rattle.pw_grammar.proofs.Branches.{Keeps, keeps, keeps_equal, keeps_refuse, keeps_pure, lawful_test, lawful_option, keeps_within, keeps_bind_from, next_agrees, same_sorts}
-use Rattle.pw_grammar.proofs.Tokens.{AToken, ALine, Given, Taken, One, Sample, a_token, a_token_is_lax, a_line_is_lax, keeps_take, keeps_skip, lawful_expect, take_shrinks, skip_shrinks, expect_shrinks}
-use Rattle.pw_grammar.proofs.Parts.{IsExpression, AnExpression, an_expression_is_lax, expression_goes_on, ANode, IsNode, lawful_finish, Here, lawful_from, keeps_from, Then, lawful_then, keeps_then, WithExpression, lawful_with}
-use Rattle.pw_grammar.proofs.LawfulExpressions.{paren, left_paren, is_no_end, lawful_equal, lawful_primary}
-use Rattle.pw_grammar.proofs.LawfulOperands.{lawful_fewer, lawful_none, looser, expression_looser, Onward, AnOnward, an_onward_is_lax, onward_stays, onward_goes_on, lawful_stays, lawful_onward, same_node, lawful_postfix}
+use Rattle.pw_grammar.proofs.Lawful.{Language, GoesOn, Lawful, Within, within, Seq, bind, leads_nowhere}
+use Rattle.pw_grammar.proofs.Branches.{keeps, lawful_test, lawful_option, keeps_within, same_sorts}
+use Rattle.pw_grammar.proofs.Tokens.{Sample, a_token}
+use Rattle.pw_grammar.proofs.Parts.{AnExpression, expression_goes_on, ANode, lawful_finish, Then, lawful_then, keeps_then, WithExpression, lawful_with}
+use Rattle.pw_grammar.proofs.LawfulExpressions.{is_no_end, lawful_equal}
+use Rattle.pw_grammar.proofs.LawfulOperands.{lawful_fewer, lawful_none, expression_looser, Onward, AnOnward, onward_goes_on, lawful_stays, lawful_onward, same_node}
 use Rattle.pw_grammar.proofs.LawfulPrefixes.{then_option, lawful_prefix}
-use Rattle.pw_tree.specs.declared.operator.Un.{Un}
 use Rattle.pw_tree.specs.declared.operator.Bin.{Bin}
 use Rattle.pw_tree.specs.declared.expr.Expr.{Expr, roll-Expr}
 use Rattle.pw_tree.specs.declared.expr.ExprKind.{ExprKind}

@@ -1,20 +1,18 @@
 -- The laws of the readers of operands: lists of arguments, calls and indices.
-use Rattle.std.proofs.Common.{◌≡◌, ◌≢◌, refl, sym, ◌∙◌, ap, subst, ℕ, zero, suc, ◌+◌, ◌-◌, ◌<◌, ◌≤◌, List, [], ◌∷◌, ◌++◌, length, ◌⊎◌, inl, inr, Result, Ok, Err, Bool, true, false, if◌then◌else◌, Option, Some, None, arith}
+use Rattle.std.proofs.Common.{◌≡◌, refl, sym, ◌∙◌, ap, subst, ℕ, zero, suc, ◌+◌, ◌-◌, ◌<◌, ◌≤◌, List, [], ◌∷◌, ◌++◌, length, Ok, Err, true, false, arith}
 use Rattle.std.proofs.lemmas.List.{append-nil, append_assoc, length-append}
-use Rattle.std.specs.Bool.{⊤}
 use Rattle.pw_grammar.specs.declared.sort.Sort.{Sort}
 use Rattle.pw_grammar.specs.declared.sort.Sort.TheVariants as s
-use Rattle.pw_grammar.specs.declared.error.SyntaxError.{SyntaxError}
-use Rattle.pw_grammar.specs.Terminals.{sort, sort_of, first_sort, is_same}
+use Rattle.pw_grammar.specs.Terminals.{sort, sort_of, is_same}
 use Rattle.pw_grammar.specs.Expressions as g
 use Rattle.pw_grammar.specs.Expressions.{Phrase, Arguments, More, spelled, spelled_arguments, spelled_more, IsAt, AreArguments, AreMore, tree_of, trees_of, trees_of_more, node}
-use Rattle.pw_grammar.specs.Steps.{Place, Outcome, Parser, and_then, ◌>>=◌, pure, refuse, next_sort, sees, here, take, skip, expect, finish}
+use Rattle.pw_grammar.specs.Steps.{Place, Outcome, Parser, and_then, ◌>>=◌, pure, sees, here, skip}
 use Rattle.pw_grammar.specs.ReadingExpressions as r
-use Rattle.pw_grammar.proofs.Lawful.{Language, sort_before, Leads, Agree, GoesOn, HasRead, HasStopped, Says, Reaches, Same, Lawful, Within, Lax, within, Seq, bind, bind_from, Leaves, leaves_fewer, Shrinks, Pure, Nothing, lawful_pure, same_passed, near_or_far, leads_nowhere}
-use Rattle.pw_grammar.proofs.Branches.{Keeps, keeps, keeps_equal, keeps_refuse, keeps_pure, lawful_test, keeps_within, keeps_bind_from, next_agrees, same_sorts}
-use Rattle.pw_grammar.proofs.Tokens.{AToken, ALine, Given, Taken, One, Sample, a_token, a_token_is_lax, a_line_is_lax, keeps_take, keeps_skip, lawful_expect, take_shrinks, skip_shrinks, expect_shrinks}
-use Rattle.pw_grammar.proofs.Parts.{IsExpression, AnExpression, an_expression_is_lax, expression_goes_on, ANode, IsNode, lawful_finish, Here, lawful_from, keeps_from, Then, lawful_then, keeps_then, WithExpression, lawful_with}
-use Rattle.pw_grammar.proofs.LawfulExpressions.{paren, left_paren, is_no_end, lawful_equal, lawful_primary}
+use Rattle.pw_grammar.proofs.Lawful.{Language, GoesOn, Says, Lawful, Within, Lax, within, Seq, bind, Leaves, leaves_fewer, Pure, lawful_pure}
+use Rattle.pw_grammar.proofs.Branches.{Keeps, keeps, keeps_pure, lawful_test, keeps_within, keeps_bind_from, same_sorts}
+use Rattle.pw_grammar.proofs.Tokens.{Sample, a_token, skip_shrinks}
+use Rattle.pw_grammar.proofs.Parts.{IsExpression, AnExpression, ANode, lawful_finish, Here, lawful_from, Then, lawful_then, keeps_then, WithExpression, lawful_with}
+use Rattle.pw_grammar.proofs.LawfulExpressions.{paren, is_no_end, lawful_primary}
 use Rattle.pw_tree.specs.declared.expr.Expr.{Expr, roll-Expr}
 use Rattle.pw_tree.specs.declared.expr.ExprKind.{ExprKind}
 use Rattle.pw_tree.specs.declared.expr.ExprKind.TheVariants as e
