@@ -6,3 +6,6 @@ pub mod LawfulExpressions
 pub mod Late
 pub mod Inner
 pub mod Whole
+pub mod LawfulOperands
+pub mod LawfulPrefixes
+pub mod LawfulChains
