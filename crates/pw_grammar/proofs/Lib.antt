@@ -3,3 +3,5 @@ pub mod Branches
 pub mod Tokens
 pub mod Parts
 pub mod LawfulExpressions
+pub mod CompleteSteps
+pub mod CompletePhrases
