@@ -5,3 +5,4 @@ pub mod Parts
 pub mod LawfulExpressions
 pub mod CompleteSteps
 pub mod CompletePhrases
+pub mod CompletePrimary
