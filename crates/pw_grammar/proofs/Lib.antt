@@ -6,3 +6,4 @@ pub mod LawfulExpressions
 pub mod CompleteSteps
 pub mod CompletePhrases
 pub mod CompletePrimary
+pub mod CompleteLevels
