@@ -131,13 +131,13 @@ pub record Chained (p : Parser Expr) (n k : ℕ) (c : Phrase) (at : ℕ) (r : Li
   pub comes : read.level p n (suc k) (record { at = at; rest = spelled c ++ r })
       ≡ read.chain (suc k + 2) (read.level p n k) turns at (tree_of at c) (record { at = at + length (spelled c); rest = r })
 
-chained_reads : (p : Parser Expr) (n k : ℕ) (c : Phrase) (at : ℕ) (r : List Token) → Chained p n k c at r → Stops (suc k + 2) (first_sort r)
+pub chained_reads : (p : Parser Expr) (n k : ℕ) (c : Phrase) (at : ℕ) (r : List Token) → Chained p n k c at r → Stops (suc k + 2) (first_sort r)
     → IsRead (read.level p n (suc k)) c at r
 chained_reads p n k c at r h stops =
     h.comes ∙ chain_ends (suc k + 2) (read.level p n k) h.turns at (tree_of at c) (record { at = at + length (spelled c); rest = r }) stops
 
 -- a phrase of a level is one operand of the next
-lifted : (p : Parser Expr) (n k : ℕ) (c : Phrase) (at : ℕ) (r : List Token) → IsRead (read.level p n k) c at r → length r < n
+pub lifted : (p : Parser Expr) (n k : ℕ) (c : Phrase) (at : ℕ) (r : List Token) → IsRead (read.level p n k) c at r → length r < n
     → Chained p n k c at r
 unfolding read.level
 lifted p n k c at r h short = record
@@ -146,21 +146,21 @@ lifted p n k c at r h short = record
   ; comes = then_reads (read.level p n k) _ _ (tree_of at c) _ _ h refl }
 
 -- a phrase of a level is read at each looser one
-reads_up : (p : Parser Expr) (n : ℕ) (d k m : ℕ) (c : Phrase) (at : ℕ) (r : List Token) → m ≡ d + k → IsRead (read.level p n k) c at r
+pub reads_up : (p : Parser Expr) (n : ℕ) (d k m : ℕ) (c : Phrase) (at : ℕ) (r : List Token) → m ≡ d + k → IsRead (read.level p n k) c at r
     → Stops (m + 2) (first_sort r) → length r < n → IsRead (read.level p n m) c at r
 reads_up p n zero k m c at r same h stops short = subst (λ j. IsRead (read.level p n j) c at r) (let f : k ≡ m = omega (arith, same) in f) h
 reads_up p n (suc d) k m c at r same h stops short =
     reads_up p n d (suc k) m c at r (omega (arith, same))
     (chained_reads p n k c at r (lifted p n k c at r h short) (stops_less (suc k + 2) (m + 2) (first_sort r) (omega (arith, same)) stops)) stops short
 
-low_reads : (p : Parser Expr) (n : ℕ) → Knows p n → (k : ℕ) (c : Phrase) (at : ℕ) (r : List Token) → IsAt 2 c → Stops (k + 2) (first_sort r)
+pub low_reads : (p : Parser Expr) (n : ℕ) → Knows p n → (k : ℕ) (c : Phrase) (at : ℕ) (r : List Token) → IsAt 2 c → Stops (k + 2) (first_sort r)
     → length (spelled c) + length r < suc n → IsRead (read.level p (suc n) k) c at r
 unfolding read.level
 low_reads p n knows k c at r is stops short =
     reads_up p (suc n) k 0 k c at r (omega arith)
     (prefix_reads p n knows c at r is (stops_less 1 (k + 2) (first_sort r) (omega arith) stops) short) stops (omega arith)
 
-binary_chained : (p : Parser Expr) (n k : ℕ) (a : Phrase) (t : Token) (b : Phrase) (at : ℕ) (r : List Token) → IsOperator (suc k + 2) (sort t)
+pub binary_chained : (p : Parser Expr) (n k : ℕ) (a : Phrase) (t : Token) (b : Phrase) (at : ℕ) (r : List Token) → IsOperator (suc k + 2) (sort t)
     → IsRead (read.level p n k) b (suc (at + length (spelled a))) r
     → (turns : ℕ) → length (t ∷ (spelled b ++ r)) < turns
     → read.level p n (suc k) (record { at = at; rest = spelled a ++ t ∷ (spelled b ++ r) })

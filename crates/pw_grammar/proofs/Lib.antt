@@ -7,3 +7,4 @@ pub mod CompleteSteps
 pub mod CompletePhrases
 pub mod CompletePrimary
 pub mod CompleteLevels
+pub mod CompleteExpressions
