@@ -1,17 +1,16 @@
 -- Each expression is read: the readers of expressions are complete.
-use Rattle.std.proofs.Common.{◌≡◌, ◌≢◌, refl, sym, ◌∙◌, ap, ap₂, subst, ℕ, zero, suc, ◌+◌, ◌-◌, ◌<◌, ◌≤◌, List, [], ◌∷◌, ◌++◌, length, ◌⊎◌, inl, inr, Result, Ok, Err, Bool, true, false, if◌then◌else◌, arith}
-use Rattle.std.proofs.lemmas.List.{append_assoc, append-nil, length-append}
-use Rattle.pw_grammar.specs.declared.sort.Sort.{Sort}
+use Rattle.std.proofs.Common.{◌≡◌, refl, sym, ◌∙◌, ap, subst, ℕ, zero, suc, ◌+◌, ◌-◌, ◌<◌, ◌≤◌, List, ◌∷◌, ◌++◌, length, ◌⊎◌, inl, inr, Ok, arith}
+use Rattle.std.proofs.lemmas.List.{length-append}
 use Rattle.pw_grammar.specs.declared.sort.Sort.TheVariants as s
 use Rattle.pw_grammar.specs.Terminals.{sort, first_sort}
 use Rattle.pw_grammar.specs.Expressions.{Phrase, identifier, constant, bracketed, input, output, call, index, prefixed, binary, choice, spelled, IsAt, IsOperator, tree_of}
-use Rattle.pw_grammar.specs.Steps.{Place, Outcome, Parser, and_then, ◌>>=◌, pure, here, skip, expect, finish}
+use Rattle.pw_grammar.specs.Steps.{Parser, skip, expect}
 use Rattle.pw_grammar.specs.ReadingExpressions as read
 use Rattle.pw_grammar.proofs.Lawful.{near_or_far}
-use Rattle.pw_grammar.proofs.CompleteSteps.{then_reads, at_rest, finishes, skips, sees_it, sees_other, expects, Stops, stops_less, operator_stops, question_stops, EndsExpression, ends_stops, ends_no_question}
+use Rattle.pw_grammar.proofs.CompleteSteps.{then_reads, at_rest, finishes, skips, sees_it, sees_other, expects, Stops, stops_less, operator_stops, question_stops, EndsExpression, ends_with, ends_stops, ends_no_question}
 use Rattle.pw_grammar.proofs.CompletePhrases.{operator_low, operator_high, regroup_between, count_between}
 use Rattle.pw_grammar.proofs.CompletePrimary.{IsRead, Knows}
-use Rattle.pw_grammar.proofs.CompleteLevels.{prefix_reads, Chained, chained_reads, lifted, reads_up, low_reads, binary_chained}
+use Rattle.pw_grammar.proofs.CompleteLevels.{Chained, chained_reads, lifted, reads_up, low_reads, binary_chained}
 use Rattle.pw_tree.specs.declared.expr.Expr.{Expr, roll-Expr}
 use Rattle.pw_tree.specs.declared.expr.ExprKind.TheVariants as e
 use Rattle.pw_lex.specs.declared.token.Token.{Token}
@@ -114,7 +113,7 @@ branches_read p n knows first test q a m b at last r is_a colon is_b ends total 
     let behind : length (spelled b ++ r) ≡ length (spelled b) + length r = length-append (spelled b) r in
     then_reads skip _ _ q.line _ _ (skips at q _)
     (then_reads p _ _ (tree_of (suc at) a) (record { at = suc at + length (spelled a); rest = m ∷ (spelled b ++ r) }) _
-        (knows a (suc at) (m ∷ (spelled b ++ r)) is_a (subst EndsExpression (sym colon) refl) (omega (arith, behind)))
+        (knows a (suc at) (m ∷ (spelled b ++ r)) is_a (ends_with (sort m) s.Colon colon refl) (omega (arith, behind)))
     (then_reads (expect s.Colon) _ _ m.line _ _ (expects s.Colon _ m (spelled b ++ r) colon)
     (then_reads p _ _ (tree_of (suc (suc at + length (spelled a))) b) (record { at = suc (suc at + length (spelled a)) + length (spelled b); rest = r }) _
         (knows b (suc (suc at + length (spelled a))) r is_b ends (omega arith))

@@ -1,15 +1,14 @@
 -- Prefix operators and the binary levels are read, given that what stands in brackets is.
-use Rattle.std.proofs.Common.{◌≡◌, ◌≢◌, refl, sym, ◌∙◌, ap, ap₂, subst, ℕ, zero, suc, ◌+◌, ◌-◌, ◌<◌, ◌≤◌, List, [], ◌∷◌, ◌++◌, length, ◌⊎◌, inl, inr, Result, Ok, Err, Bool, true, false, if◌then◌else◌, ◌==◌, Option, Some, None, arith, eq-eqb, ne_eqb}
+use Rattle.std.proofs.Common.{◌≡◌, refl, sym, ◌∙◌, ap, ap₂, subst, ℕ, zero, suc, ◌+◌, ◌-◌, ◌<◌, ◌≤◌, List, [], ◌∷◌, ◌++◌, length, Ok, Option, Some, None, arith, eq-eqb, ne_eqb}
 use Rattle.std.proofs.lemmas.List.{append_assoc, append-nil, length-append}
-use Rattle.pw_grammar.specs.declared.sort.Sort.{Sort}
 use Rattle.pw_grammar.specs.declared.sort.Sort.TheVariants as s
 use Rattle.pw_grammar.specs.Terminals.{sort, first_sort, prefix_of, binary_of, level_of}
 use Rattle.pw_grammar.specs.Expressions.{Phrase, identifier, constant, bracketed, input, output, call, index, prefixed, binary, choice, spelled, IsAt, IsOperator, IsPrefix, tree_of, prefix_in, prefix_or, binary_in, binary_or}
-use Rattle.pw_grammar.specs.Steps.{Place, Outcome, Parser, and_then, on_option, ◌>>=◌, pure, next_sort, here, skip, finish}
+use Rattle.pw_grammar.specs.Steps.{Place, Parser, and_then, on_option, ◌>>=◌, pure, next_sort, skip, finish}
 use Rattle.pw_grammar.specs.ReadingExpressions as read
-use Rattle.pw_grammar.proofs.CompleteSteps.{then_reads, at_rest, same_end, skips, sees_other, Stops, stops_less, operator_stops}
-use Rattle.pw_grammar.proofs.CompletePhrases.{operator_low, operator_high, no_prefix, regroup_between, count_between}
-use Rattle.pw_grammar.proofs.CompletePrimary.{IsRead, Knows, Suffixed, postfix_suffixed}
+use Rattle.pw_grammar.proofs.CompleteSteps.{then_reads, at_rest, same_end, skips, sees_other, Stops, stops_less}
+use Rattle.pw_grammar.proofs.CompletePhrases.{operator_low, no_prefix, regroup_between, count_between}
+use Rattle.pw_grammar.proofs.CompletePrimary.{IsRead, Knows, postfix_suffixed}
 use Rattle.pw_tree.specs.declared.operator.Un.{Un}
 use Rattle.pw_tree.specs.declared.operator.Bin.{Bin}
 use Rattle.pw_tree.specs.declared.expr.Expr.{Expr, roll-Expr}

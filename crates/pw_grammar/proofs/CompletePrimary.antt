@@ -1,17 +1,15 @@
 -- Primary expressions, calls and indices are read, given that what stands in brackets is.
-use Rattle.std.proofs.Common.{◌≡◌, ◌≢◌, refl, sym, ◌∙◌, ap, ap₂, subst, ℕ, zero, suc, ◌+◌, ◌-◌, ◌<◌, ◌≤◌, List, [], ◌∷◌, ◌++◌, length, inl, inr, Result, Ok, Err, Bool, true, false, if◌then◌else◌, Option, Some, None, arith}
+use Rattle.std.proofs.Common.{◌≡◌, refl, sym, ◌∙◌, ap, ℕ, zero, suc, ◌+◌, ◌-◌, ◌<◌, ◌≤◌, List, [], ◌∷◌, ◌++◌, length, inl, inr, Ok, arith}
 use Rattle.std.proofs.lemmas.List.{append_assoc, append-nil, length-append}
-use Rattle.std.specs.Bool.{⊤}
 use Rattle.pw_grammar.specs.declared.sort.Sort.{Sort}
 use Rattle.pw_grammar.specs.declared.sort.Sort.TheVariants as s
-use Rattle.pw_grammar.specs.Terminals.{sort, first_sort, prefix_of}
-use Rattle.pw_grammar.specs.Expressions.{Phrase, identifier, constant, bracketed, input, output, call, index, prefixed, binary, choice, Arguments, nothing, arguments, More, end, more, spelled, spelled_arguments, spelled_more, IsAt, AreArguments, AreMore, tree_of, trees_of, trees_of_more, name_in, value_in, is_unsigned}
-use Rattle.pw_grammar.specs.Steps.{Place, Outcome, Parser, and_then, ◌>>=◌, pure, refuse, next_sort, sees, here, take, skip, expect, finish}
+use Rattle.pw_grammar.specs.Terminals.{sort, first_sort}
+use Rattle.pw_grammar.specs.Expressions.{Phrase, identifier, constant, bracketed, input, output, call, index, prefixed, binary, choice, Arguments, nothing, arguments, More, end, more, spelled, spelled_arguments, spelled_more, IsAt, AreArguments, AreMore, tree_of, trees_of, trees_of_more}
+use Rattle.pw_grammar.specs.Steps.{Place, Outcome, Parser, next_sort, take, skip, expect}
 use Rattle.pw_grammar.specs.ReadingExpressions as read
-use Rattle.pw_grammar.proofs.CompleteSteps.{then_reads, at_rest, same_end, finishes, takes, skips, sees_it, sees_other, expects, EndsExpression, they_end}
-use Rattle.pw_grammar.proofs.CompletePhrases.{operator_low, begins, begins_other, regroup_last, regroup_between, regroup_enclosed, count_last, count_between, count_enclosed}
+use Rattle.pw_grammar.proofs.CompleteSteps.{then_reads, at_rest, same_end, finishes, takes, skips, sees_it, sees_other, expects, EndsExpression, ends_with}
+use Rattle.pw_grammar.proofs.CompletePhrases.{operator_low, begins, begins_other, regroup_last, regroup_enclosed, count_last, count_enclosed}
 use Rattle.pw_tree.specs.declared.expr.Expr.{Expr, roll-Expr}
-use Rattle.pw_tree.specs.declared.expr.ExprKind.{ExprKind}
 use Rattle.pw_tree.specs.declared.expr.ExprKind.TheVariants as e
 use Rattle.pw_lex.specs.declared.token.Token.{Token}
 
@@ -45,7 +43,7 @@ bracketed_reads p n knows o a c at r is closes short =
     then_reads skip _ _ o.line _ _ (skips at o _)
     (then_reads p _ _ (tree_of (suc at) a) (record { at = suc at + length (spelled a); rest = c ∷ r }) _
         (at_rest p (suc at) _ (spelled a ++ c ∷ r) _ (regroup_last (spelled a) c r)
-        (knows a (suc at) (c ∷ r) is (they_end (sort c) closes) (omega (arith, count))))
+        (knows a (suc at) (c ∷ r) is (ends_with (sort c) s.RightParen closes refl) (omega (arith, count))))
     (then_reads (expect s.RightParen) _ _ c.line _ _ (expects s.RightParen _ c r closes)
     (same_end _ _ _ _ r refl (omega (arith, count)))))
 
@@ -68,7 +66,7 @@ output_reads p n knows k o a c at r opens is closes short =
     (then_reads (expect s.LeftParen) _ _ o.line _ _ (expects s.LeftParen _ o _ opens)
     (then_reads p _ _ (tree_of (suc (suc at)) a) (record { at = suc (suc at) + length (spelled a); rest = c ∷ r }) _
         (at_rest p (suc (suc at)) _ (spelled a ++ c ∷ r) _ (regroup_last (spelled a) c r)
-        (knows a (suc (suc at)) (c ∷ r) is (they_end (sort c) closes) (omega (arith, count))))
+        (knows a (suc (suc at)) (c ∷ r) is (ends_with (sort c) s.RightParen closes refl) (omega (arith, count))))
     (then_reads (expect s.RightParen) _ _ c.line _ _ (expects s.RightParen _ c r closes)
     (finishes at k.line _ _ _ _ r refl (omega (arith, count))))))
 
@@ -97,8 +95,8 @@ primary_reads p n knows (choice c q a m b) at r is short = absurd (let h : 13 �
 -- what may follow an argument: a comma, or what follows them all
 more_ends : (xs : More) (r : List Token) → AreMore xs → first_sort r ≡ s.RightParen → EndsExpression (first_sort (spelled_more xs ++ r))
 unfolding spelled_more AreMore
-more_ends end r are closes = they_end (first_sort r) closes
-more_ends (more t a xs) r are closes = subst EndsExpression (sym are.0) refl
+more_ends end r are closes = ends_with (first_sort r) s.RightParen closes refl
+more_ends (more t a xs) r are closes = ends_with (sort t) s.Comma are.0 refl
 
 more_reads : (p : Parser Expr) (n : ℕ) → Knows p n → (xs : More) (turns : ℕ) (found : List Expr) (at : ℕ) (r : List Token)
     → AreMore xs → first_sort r ≡ s.RightParen → length (spelled_more xs) + length r < n → length (spelled_more xs) + length r < turns
@@ -162,7 +160,7 @@ unfolding read.index
 index_reads p n knows first left o i c at last r is closes ends short =
     then_reads skip _ _ o.line _ _ (skips at o _)
     (then_reads p _ _ (tree_of (suc at) i) (record { at = suc at + length (spelled i); rest = c ∷ r }) _
-        (knows i (suc at) (c ∷ r) is (subst EndsExpression (sym closes) refl) (omega arith))
+        (knows i (suc at) (c ∷ r) is (ends_with (sort c) s.RightBracket closes refl) (omega arith))
     (then_reads (expect s.RightBracket) _ _ c.line _ _ (expects s.RightBracket _ c r closes)
     (finishes first o.line _ _ _ last r refl (sym ends))))
 

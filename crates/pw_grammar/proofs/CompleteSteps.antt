@@ -1,17 +1,15 @@
 -- Steps that succeed, and which symbols end a phrase of a level.
-use Rattle.std.proofs.Common.{◌≡◌, ◌≢◌, refl, sym, ◌∙◌, ap, ap₂, subst, ℕ, zero, suc, ◌+◌, ◌-◌, ◌<◌, ◌≤◌, List, [], ◌∷◌, ◌++◌, length, Result, Ok, Err, Bool, true, false, if◌then◌else◌, ◌==◌, Option, Some, None, arith, ne_eqb, eq-eqb}
+use Rattle.std.proofs.Common.{◌≡◌, ◌≢◌, refl, sym, ◌∙◌, ap, ap₂, subst, ℕ, suc, ◌-◌, ◌<◌, ◌≤◌, List, ◌∷◌, Ok, Bool, true, false, Option, Some, None, arith}
 use Rattle.pw_grammar.specs.declared.sort.Sort.{Sort}
 use Rattle.pw_grammar.specs.declared.sort.Sort.TheVariants as s
-use Rattle.pw_grammar.specs.declared.error.SyntaxError.{SyntaxError}
-use Rattle.pw_grammar.specs.Terminals.{sort, first_sort, is_same, binary_of, level_of}
+use Rattle.pw_grammar.specs.Terminals.{sort, binary_of, level_of}
 use Rattle.pw_grammar.specs.Expressions.{IsOperator, binary_or}
-use Rattle.pw_grammar.specs.Steps.{Place, Outcome, Parser, and_then, ◌>>=◌, pure, next_sort, sees, take, take_from, skip, expect, finish}
-use Rattle.pw_grammar.proofs.Branches.{same_sorts, sorts_same, sorts_other}
+use Rattle.pw_grammar.specs.Steps.{Place, Outcome, Parser, and_then, ◌>>=◌, next_sort, sees, take, take_from, skip, expect, finish}
+use Rattle.pw_grammar.proofs.Branches.{sorts_same, sorts_other}
 use Rattle.pw_lex.specs.declared.token.Token.{Token}
-use Rattle.pw_tree.specs.declared.expr.Expr.{Expr, roll-Expr}
+use Rattle.pw_tree.specs.declared.expr.Expr.{roll-Expr}
 use Rattle.pw_tree.specs.declared.expr.ExprKind.{ExprKind}
 use Rattle.pw_tree.specs.declared.operator.Bin.{Bin}
-use Rattle.pw_tree.specs.declared.operator.Bin.TheVariants as bin
 
 -- ---- one reader after another
 
@@ -83,9 +81,14 @@ pub record Stops (m : ℕ) (x : Sort) : Type 0 where
   pub bracket : x ≢ s.LeftBracket
   pub operator : (op : Bin) → binary_of x ≡ Some op → m < level_of op
 
--- each symbol that stands behind an expression ends it
-pub they_end : (x : Sort) → x ≡ s.RightParen → EndsExpression x
-they_end x e = subst EndsExpression (sym e) refl
+-- a symbol that is one of those ends an expression
+pub ends_with : (x y : Sort) → x ≡ y → EndsExpression y → EndsExpression x
+ends_with x y e h = subst EndsExpression (sym e) h
+
+-- what stands behind an expression in the grammar ends it
+pub closers_end : EndsExpression s.RightParen × EndsExpression s.RightBracket × EndsExpression s.Comma × EndsExpression s.Semicolon
+    × EndsExpression s.Colon × EndsExpression s.Assign × EndsExpression s.End
+closers_end = (refl, refl, refl, refl, refl, refl, refl)
 
 no_operator_is : (o : Option Bin) → no_operator o ≡ true → o ≡ None
 no_operator_is None e = refl
