@@ -9,3 +9,8 @@ pub mod Whole
 pub mod LawfulOperands
 pub mod LawfulPrefixes
 pub mod LawfulChains
+pub mod CompleteSteps
+pub mod CompletePhrases
+pub mod CompletePrimary
+pub mod CompleteLevels
+pub mod CompleteExpressions
