@@ -14,3 +14,4 @@ pub mod CompletePhrases
 pub mod CompletePrimary
 pub mod CompleteLevels
 pub mod CompleteExpressions
+pub mod FirstFault
