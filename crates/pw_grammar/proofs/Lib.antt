@@ -5,3 +5,4 @@ pub mod Parts
 pub mod LawfulExpressions
 pub mod Late
 pub mod Inner
+pub mod LateFunctions
