@@ -168,7 +168,7 @@ unfolding is_same
 closes_brace at start v = refl
 
 -- the end of a declaration, and a body's braces
-ends : (at start : ℕ) (list : Bool) (v : List Token) → first_on (after at start list) s.Semicolon v ≡ first_late (anew (suc at)) v
+pub ends : (at start : ℕ) (list : Bool) (v : List Token) → first_on (after at start list) s.Semicolon v ≡ first_late (anew (suc at)) v
 unfolding is_same
 ends at start list v = refl
 

@@ -6,3 +6,5 @@ pub mod LawfulExpressions
 pub mod Late
 pub mod Inner
 pub mod LateFunctions
+pub mod LateUnits
+pub mod Nested
