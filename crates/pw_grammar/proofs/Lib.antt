@@ -15,3 +15,6 @@ pub mod CompletePrimary
 pub mod CompleteLevels
 pub mod CompleteExpressions
 pub mod FirstFault
+pub mod LateFunctions
+pub mod LateUnits
+pub mod Nested
