@@ -18,3 +18,4 @@ pub mod FirstFault
 pub mod LateFunctions
 pub mod LateUnits
 pub mod Nested
+pub mod Ends
