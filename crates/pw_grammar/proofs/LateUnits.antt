@@ -1,9 +1,8 @@
 -- Where a unit's functions are too long: what the walk over its tokens finds is what its derivation says; and what the
 -- walk finds depends on no later token.
-use Rattle.std.proofs.Common.{◌≡◌, refl, sym, ◌∙◌, ap, subst, ℕ, zero, suc, ◌+◌, ◌-◌, ◌<◌, ◌≤◌, List, [], ◌∷◌, ◌++◌, length, ◌⊎◌, inl, inr, Bool, true, false, if◌then◌else◌, Option, Some, None, arith}
+use Rattle.std.proofs.Common.{◌≡◌, refl, sym, ◌∙◌, ap, subst, ℕ, suc, ◌+◌, ◌<◌, ◌≤◌, List, [], ◌∷◌, ◌++◌, length, ◌⊎◌, inl, inr, Bool, true, false, if◌then◌else◌, Option, Some, None, arith}
 use Rattle.std.proofs.lemmas.List.{append_assoc, length-append}
 use Rattle.std.specs.Prelude.{max}
-use Rattle.pw_grammar.specs.declared.sort.Sort.{Sort}
 use Rattle.pw_grammar.specs.declared.sort.Sort.TheVariants as s
 use Rattle.pw_grammar.specs.Terminals.{sort}
 use Rattle.pw_grammar.specs.Statements.{spelled_type, spelled_statements}
@@ -12,7 +11,7 @@ use Rattle.pw_grammar.specs.Faults.{before_body, IsLate, StandsLate}
 use Rattle.pw_grammar.specs.Limits.{Walk, anew, onward, step, is_late, is_last, first_late}
 use Rattle.pw_grammar.proofs.Lawful.{near_or_far}
 use Rattle.pw_grammar.proofs.Late.{IsInner}
-use Rattle.pw_grammar.proofs.Inner.{inner_statements}
+use Rattle.pw_grammar.proofs.Inner.{nothing_is, inner_statements}
 use Rattle.pw_grammar.proofs.LateFunctions.{after, IsOuter, on_sort, ends, outer_head, outer_type, outer_result, outer_storage, outer_variable, defining_storage, variable_storage, inner_parameters, passes_head, passes_body, finds_body}
 use Rattle.pw_lex.specs.declared.token.Token.{Token}
 
@@ -199,10 +198,7 @@ walk_declaration (variable g ty x u e) i = inl (record
 
 -- ---- units
 
-none_is : (n : ℕ) → None ≡ Some n → ⊥
-none_is n e = cc
-
-same_number : (n m : ℕ) → Some n ≡ Some m → m ≡ n
+pub same_number : (n m : ℕ) → Some n ≡ Some m → m ≡ n
 same_number n m e = cc
 
 -- a token of the unit stands late, and has this number
@@ -232,16 +228,16 @@ late_found_with c cs at found others (inr p) e =
 -- what is found stands late
 pub late_found : (c : UnitPhrase) → IsUnit c → (at found : ℕ) → first_late (anew at) (spelled_unit c) ≡ Some found → (t : ℕ) × (found ≡ at + t) × StandsLate c t
 unfolding first_late spelled_unit IsUnit
-late_found [] i at found e = absurd (none_is found e)
+late_found [] i at found e = absurd (nothing_is found e)
 late_found (c ∷ cs) i at found e = late_found_with c cs at found (late_found cs i.1) (walk_declaration c i.0) e
 
 -- something is found up to a number
 abbrev pub FindsBy : Walk → List Token → ℕ → Type 0
 FindsBy w u t = (found : ℕ) × (first_late w u ≡ Some found) × (found ≤ t)
 
--- what a long function's definition has, is found up to a number that is not before its brace nor its token 8,192
+-- in a function that is too long, one is found up to each number from its brace and its token 8,192 on
 finds_by : (c : Declaration) (at t : ℕ) (v : List Token) → (p : Catches c) → p.brace ≤ t → 8192 ≤ t → FindsBy (anew at) (spelled_declaration c ++ v) (at + t)
-finds_by c at t v p brace far = (at + max p.brace 8192, p.finds at v, (let n : ℕ = p.brace in least n brace))
+finds_by c at t v p brace far = (at + max p.brace 8192, p.finds at v, least p.brace brace)
   where
     least : (n : ℕ) → n ≤ t → at + max n 8192 ≤ at + t
     least n e = omega arith
@@ -283,7 +279,7 @@ late_prefix_with false at found o p others e = others e
 -- what is found in the first tokens is found in all
 pub late_prefix : (w : Walk) (u v : List Token) (found : ℕ) → first_late w u ≡ Some found → first_late w (u ++ v) ≡ Some found
 unfolding first_late
-late_prefix w [] v found e = absurd (none_is found e)
+late_prefix w [] v found e = absurd (nothing_is found e)
 late_prefix w (t ∷ u) v found e =
     late_prefix_with (is_late w t) w.at found (first_late (step w t) u) (first_late (step w t) (u ++ v)) (late_prefix (step w t) u v found) e
 
@@ -303,7 +299,7 @@ late_below_with false at n found o others e = let f = others e in omega (arith, 
 -- it is one of the tokens
 pub late_below : (w : Walk) (u : List Token) (found : ℕ) → first_late w u ≡ Some found → (w.at ≤ found) × (found < w.at + length u)
 unfolding first_late
-late_below w [] found e = absurd (none_is found e)
+late_below w [] found e = absurd (nothing_is found e)
 late_below w (t ∷ u) found e =
     late_below_with (is_late w t) w.at (length u) found (first_late (step w t) u)
     (λ f. subst (λ n. (n ≤ found) × (found < n + length u)) (step_at w t) (late_below (step w t) u found f)) e
