@@ -3,11 +3,11 @@ use Rattle.std.proofs.Common.{◌≡◌, refl, sym, ◌∙◌, ap, subst, ℕ, s
 use Rattle.std.proofs.lemmas.List.{append_assoc}
 use Rattle.pw_grammar.specs.declared.sort.Sort.{Sort}
 use Rattle.pw_grammar.specs.declared.sort.Sort.TheVariants as s
-use Rattle.pw_grammar.specs.Terminals.{sort, sort_of, prefix_of, binary_of}
-use Rattle.pw_grammar.specs.Expressions.{Phrase, identifier, constant, bracketed, input, output, call, index, prefixed, binary, choice, Arguments, nothing, arguments, More, end, more, spelled, spelled_arguments, spelled_more, IsAt, AreArguments, AreMore, IsConstant, IsPrefix, IsOperator}
+use Rattle.pw_grammar.specs.Terminals.{sort, prefix_of, binary_of}
+use Rattle.pw_grammar.specs.Expressions.{Phrase, identifier, constant, bracketed, input, output, call, index, prefixed, binary, choice, Arguments, nothing, arguments, More, end, more, spelled, spelled_arguments, spelled_more, IsAt, AreArguments, AreMore, IsConstant}
 use Rattle.pw_grammar.specs.Statements as y
 use Rattle.pw_grammar.specs.Faults.{opens_by, closes_by}
-use Rattle.pw_grammar.proofs.Late.{IsPlain, IsInner, Opens, Closes, inner_nil, inner_token, inner_cons, inner_both, inner_brackets}
+use Rattle.pw_grammar.proofs.Late.{IsPlain, IsInner, inner_nil, inner_token, inner_cons, inner_both, inner_brackets}
 use Rattle.pw_lex.specs.declared.token.Token.{Token}
 use Rattle.pw_tree.specs.declared.ty.Ty.{Ty}
 use Rattle.pw_tree.specs.declared.operator.Un.{Un}
@@ -28,7 +28,7 @@ pub plain_constant : (x : Sort) → IsConstant x → IsPlain x
 plain_constant x (inl e) = plain_sort x s.Number e (refl, refl)
 plain_constant x (inr e) = plain_sort x s.Character e (refl, refl)
 
-nothing_is : {A : Type 0} (a : A) → None ≡ Some a → ⊥
+pub nothing_is : {A : Type 0} (a : A) → None ≡ Some a → ⊥
 nothing_is a e = cc
 
 pub plain_prefix : (x : Sort) (op : Un) → prefix_of x ≡ Some op → IsPlain x

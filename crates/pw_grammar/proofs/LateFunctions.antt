@@ -1,5 +1,5 @@
 -- The walk outside brackets: over the head of a declaration, over brackets, and over a function's body.
-use Rattle.std.proofs.Common.{◌≡◌, refl, sym, ◌∙◌, ap, subst, ℕ, zero, suc, ◌+◌, ◌-◌, ◌<◌, ◌≤◌, List, [], ◌∷◌, ◌++◌, length, ◌⊎◌, inl, inr, Bool, true, false, if◌then◌else◌, ◌&&◌, ◌||◌, ◌==◌, nat_le, Option, Some, None, arith}
+use Rattle.std.proofs.Common.{◌≡◌, refl, sym, ◌∙◌, ap, subst, ℕ, suc, ◌+◌, ◌-◌, ◌<◌, ◌≤◌, List, [], ◌∷◌, ◌++◌, length, ◌⊎◌, inl, inr, Bool, true, false, if◌then◌else◌, ◌&&◌, ◌||◌, ◌==◌, nat_le, Option, Some, None, arith}
 use Rattle.std.proofs.lemmas.List.{append_assoc, length-append}
 use Rattle.std.proofs.lemmas.Bool.{le-leb, lt-leb}
 use Rattle.std.proofs.Math.Nat.{add_assoc}
@@ -13,8 +13,8 @@ use Rattle.pw_grammar.specs.Declarations as d
 use Rattle.pw_grammar.specs.Faults.{opens_by, closes_by}
 use Rattle.pw_grammar.specs.Limits.{Walk, anew, first_late}
 use Rattle.pw_grammar.proofs.Lawful.{near_or_far}
-use Rattle.pw_grammar.proofs.Late.{within_brackets, IsPlain, IsInner, inner_nil, inner_token, inner_both}
-use Rattle.pw_grammar.proofs.Inner.{plain_constant, inner_one, inner_then, inner_type}
+use Rattle.pw_grammar.proofs.Late.{within_brackets, IsInner, inner_nil, inner_token, inner_both}
+use Rattle.pw_grammar.proofs.Inner.{nothing_is, plain_constant, inner_one, inner_then, inner_type}
 use Rattle.pw_lex.specs.declared.token.Token.{Token}
 use Rattle.pw_tree.specs.declared.ty.Ty.{Ty}
 
@@ -126,9 +126,6 @@ outer_number at start v = refl
 outer_character : IsOuterSort s.Character
 unfolding is_same
 outer_character at start v = refl
-
-nothing_is : {A : Type 0} (a : A) → None ≡ Some a → ⊥
-nothing_is a e = cc
 
 outer_type_sort : (x : Sort) (ty : Ty) → y.type_of x ≡ Some ty → IsOuterSort x
 unfolding is_same

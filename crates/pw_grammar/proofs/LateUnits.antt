@@ -1,18 +1,18 @@
 -- Where a unit's functions are too long: what the walk over its tokens finds is what its derivation says; and what the
 -- walk finds depends on no later token.
-use Rattle.std.proofs.Common.{◌≡◌, refl, sym, ◌∙◌, ap, subst, ℕ, zero, suc, ◌+◌, ◌-◌, ◌<◌, ◌≤◌, List, [], ◌∷◌, ◌++◌, length, ◌⊎◌, inl, inr, Bool, true, false, if◌then◌else◌, Option, Some, None, arith}
-use Rattle.std.proofs.lemmas.List.{append_assoc, length-append}
-use Rattle.std.specs.Prelude.{max}
-use Rattle.pw_grammar.specs.declared.sort.Sort.{Sort}
+use Rattle.std.proofs.Common.{◌≡◌, refl, sym, ◌∙◌, ap, subst, ℕ, suc, ◌+◌, ◌<◌, ◌≤◌, List, [], ◌∷◌, ◌++◌, length, ◌⊎◌, inl, inr, Bool, true, false, if◌then◌else◌, Option, Some, None, arith}
+use Rattle.std.proofs.lemmas.List.{append_assoc, length-append, take-append-drop, length-take-le}
+use Rattle.std.specs.Prelude.{max, take, drop}
 use Rattle.pw_grammar.specs.declared.sort.Sort.TheVariants as s
 use Rattle.pw_grammar.specs.Terminals.{sort}
 use Rattle.pw_grammar.specs.Statements.{spelled_type, spelled_statements}
 use Rattle.pw_grammar.specs.Declarations.{Declaration, prototype, function, variable, spelled_declaration, IsDeclaration, spelled_storage, spelled_result, spelled_parameters, spelled_variable, UnitPhrase, spelled_unit, IsUnit}
-use Rattle.pw_grammar.specs.Faults.{before_body, IsLate, StandsLate}
+use Rattle.pw_grammar.specs.declared.error.SyntaxError.TheVariants.{TooLong}
+use Rattle.pw_grammar.specs.Faults.{before_body, IsLate, StandsLate, Begins, GoesOnTooLong, IsFault}
 use Rattle.pw_grammar.specs.Limits.{Walk, anew, onward, step, is_late, is_last, first_late}
 use Rattle.pw_grammar.proofs.Lawful.{near_or_far}
 use Rattle.pw_grammar.proofs.Late.{IsInner}
-use Rattle.pw_grammar.proofs.Inner.{inner_statements}
+use Rattle.pw_grammar.proofs.Inner.{nothing_is, inner_statements}
 use Rattle.pw_grammar.proofs.LateFunctions.{after, IsOuter, on_sort, ends, outer_head, outer_type, outer_result, outer_storage, outer_variable, defining_storage, variable_storage, inner_parameters, passes_head, passes_body, finds_body}
 use Rattle.pw_lex.specs.declared.token.Token.{Token}
 
@@ -199,10 +199,7 @@ walk_declaration (variable g ty x u e) i = inl (record
 
 -- ---- units
 
-none_is : (n : ℕ) → None ≡ Some n → ⊥
-none_is n e = cc
-
-same_number : (n m : ℕ) → Some n ≡ Some m → m ≡ n
+pub same_number : (n m : ℕ) → Some n ≡ Some m → m ≡ n
 same_number n m e = cc
 
 -- a token of the unit stands late, and has this number
@@ -232,16 +229,16 @@ late_found_with c cs at found others (inr p) e =
 -- what is found stands late
 pub late_found : (c : UnitPhrase) → IsUnit c → (at found : ℕ) → first_late (anew at) (spelled_unit c) ≡ Some found → (t : ℕ) × (found ≡ at + t) × StandsLate c t
 unfolding first_late spelled_unit IsUnit
-late_found [] i at found e = absurd (none_is found e)
+late_found [] i at found e = absurd (nothing_is found e)
 late_found (c ∷ cs) i at found e = late_found_with c cs at found (late_found cs i.1) (walk_declaration c i.0) e
 
 -- something is found up to a number
 abbrev pub FindsBy : Walk → List Token → ℕ → Type 0
 FindsBy w u t = (found : ℕ) × (first_late w u ≡ Some found) × (found ≤ t)
 
--- what a long function's definition has, is found up to a number that is not before its brace nor its token 8,192
+-- in a function that is too long, one is found up to each number from its brace and its token 8,192 on
 finds_by : (c : Declaration) (at t : ℕ) (v : List Token) → (p : Catches c) → p.brace ≤ t → 8192 ≤ t → FindsBy (anew at) (spelled_declaration c ++ v) (at + t)
-finds_by c at t v p brace far = (at + max p.brace 8192, p.finds at v, (let n : ℕ = p.brace in least n brace))
+finds_by c at t v p brace far = (at + max p.brace 8192, p.finds at v, least p.brace brace)
   where
     least : (n : ℕ) → n ≤ t → at + max n 8192 ≤ at + t
     least n e = omega arith
@@ -283,7 +280,7 @@ late_prefix_with false at found o p others e = others e
 -- what is found in the first tokens is found in all
 pub late_prefix : (w : Walk) (u v : List Token) (found : ℕ) → first_late w u ≡ Some found → first_late w (u ++ v) ≡ Some found
 unfolding first_late
-late_prefix w [] v found e = absurd (none_is found e)
+late_prefix w [] v found e = absurd (nothing_is found e)
 late_prefix w (t ∷ u) v found e =
     late_prefix_with (is_late w t) w.at found (first_late (step w t) u) (first_late (step w t) (u ++ v)) (late_prefix (step w t) u v found) e
 
@@ -303,7 +300,7 @@ late_below_with false at n found o others e = let f = others e in omega (arith, 
 -- it is one of the tokens
 pub late_below : (w : Walk) (u : List Token) (found : ℕ) → first_late w u ≡ Some found → (w.at ≤ found) × (found < w.at + length u)
 unfolding first_late
-late_below w [] found e = absurd (none_is found e)
+late_below w [] found e = absurd (nothing_is found e)
 late_below w (t ∷ u) found e =
     late_below_with (is_late w t) w.at (length u) found (first_late (step w t) u)
     (λ f. subst (λ n. (n ≤ found) × (found < n + length u)) (step_at w t) (late_below (step w t) u found f)) e
@@ -323,3 +320,37 @@ late_shared w [] v found e near = absurd (late_nowhere w.at found (late_below w 
 late_shared w (t ∷ u) v found e near =
     late_shared_with (is_late w t) w.at (length u) found (first_late (step w t) (u ++ v)) (first_late (step w t) u)
     (λ f g. late_shared (step w t) u v found f (subst (λ n. found < n + length u) (sym (step_at w t)) g)) e near
+
+-- ---- the fault
+
+-- a token up to t is one of the tokens up to t
+among : (found t : ℕ) (ts : List Token) → t < length ts → found ≤ t → found < 0 + length (take (suc t) ts)
+among found t ts short low = subst (λ n. found < 0 + n) (sym (length-take-le (suc t) ts short)) (omega arith)
+
+from_zero : (found t : ℕ) → found ≡ 0 + t → t ≡ found
+from_zero found t e = omega arith
+
+-- what is found is the fault, where a unit goes on from the tokens up to it
+pub too_long_found : (ts : List Token) (found : ℕ) → first_late (anew 0) ts ≡ Some found → Begins (take (suc found) ts) → IsFault ts (TooLong found)
+too_long_found ts found e b =
+    let f = late_found b.phrase b.is 0 found (ap (λ u. first_late (anew 0) u) b.spells ∙ late_prefix (anew 0) (take (suc found) ts) b.rest found at_front) in
+    (short, record { phrase = b.phrase; is = b.is; rest = b.rest; spells = b.spells; late = subst (λ n. StandsLate b.phrase n) (from_zero found f.0 f.1) f.2 })
+  where
+    short : found < length ts
+    short = let z : found < 0 + length ts = (late_below (anew 0) ts found e).1 in omega (arith, z)
+    at_front : first_late (anew 0) (take (suc found) ts) ≡ Some found
+    at_front = late_shared (anew 0) (take (suc found) ts) (drop (suc found) ts) found
+        (ap (λ u. first_late (anew 0) u) (take-append-drop (suc found) ts) ∙ e) (among found found ts short (omega arith))
+
+-- where that fault is, one is found that is not behind it
+pub too_long_first : (ts : List Token) (t : ℕ) → IsFault ts (TooLong t) → (found : ℕ) × (first_late (anew 0) ts ≡ Some found) × (found ≤ t)
+too_long_first ts t fault =
+    let g = fault.1 in
+    let f = late_first g.phrase g.is 0 t g.late in
+    (f.0, ap (λ u. first_late (anew 0) u) (sym (take-append-drop (suc t) ts))
+      ∙ late_prefix (anew 0) (take (suc t) ts) (drop (suc t) ts) f.0
+          (late_shared (anew 0) (take (suc t) ts) g.rest f.0 (sym (ap (λ u. first_late (anew 0) u) g.spells) ∙ f.1) (among f.0 t ts fault.0 (low f.0 f.2))),
+      low f.0 f.2)
+  where
+    low : (found : ℕ) → found ≤ 0 + t → found ≤ t
+    low found e = omega arith

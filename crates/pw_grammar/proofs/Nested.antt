@@ -1,11 +1,13 @@
 -- Where brackets nest too deep: what is found from left to right is the first such token.
-use Rattle.std.proofs.Common.{◌≡◌, refl, sym, ◌∙◌, ap, subst, ℕ, zero, suc, ◌+◌, ◌<◌, ◌≤◌, List, [], ◌∷◌, length, Bool, true, false, if◌then◌else◌, ◌&&◌, nat_le, Option, Some, None, arith}
+use Rattle.std.proofs.Common.{◌≡◌, refl, ◌∙◌, ap, subst, ℕ, zero, suc, ◌+◌, ◌<◌, ◌≤◌, List, [], ◌∷◌, length, Bool, true, false, if◌then◌else◌, ◌&&◌, nat_le, Option, Some, None, arith}
 use Rattle.std.proofs.lemmas.Bool.{leb-true, le-leb, and_parts}
 use Rattle.std.specs.Prelude.{take, drop}
 use Rattle.pw_grammar.specs.declared.error.SyntaxError.TheVariants.{TooNested}
-use Rattle.pw_grammar.specs.Terminals.{sort, first_sort}
+use Rattle.pw_grammar.specs.Terminals.{first_sort}
 use Rattle.pw_grammar.specs.Faults.{opens, opens_by, bracket, open_behind, IsFault}
 use Rattle.pw_grammar.specs.Limits.{first_nested}
+use Rattle.pw_grammar.proofs.Inner.{nothing_is}
+use Rattle.pw_grammar.proofs.LateUnits.{same_number}
 use Rattle.pw_lex.specs.declared.token.Token.{Token}
 
 -- the token in front of which d others stand opens a bracket where 200 are open, if n are before the first
@@ -21,12 +23,6 @@ IsNestedAt at n ts t = (d : ℕ) × (t ≡ at + d) × IsNested n d ts
 -- what is found up to this number
 abbrev pub FindsBy : ℕ → ℕ → List Token → ℕ → Type 0
 FindsBy at n ts t = (found : ℕ) × (first_nested at n ts ≡ Some found) × (found ≤ t)
-
-none_is : (n : ℕ) → None ≡ Some n → ⊥
-none_is n e = cc
-
-same_number : (n m : ℕ) → Some n ≡ Some m → m ≡ n
-same_number n m e = cc
 
 nested_on : (at n t : ℕ) (x : Token) (ts : List Token) → IsNestedAt (suc at) (bracket n x) ts t → IsNestedAt at n (x ∷ ts) t
 unfolding open_behind
@@ -48,7 +44,7 @@ nested_with at n t x ts others false test e = nested_on at n t x ts (others e)
 -- what is found opens a bracket where 200 are open
 pub nested_at : (ts : List Token) (at n t : ℕ) → first_nested at n ts ≡ Some t → IsNestedAt at n ts t
 unfolding first_nested
-nested_at [] at n t e = absurd (none_is t e)
+nested_at [] at n t e = absurd (nothing_is t e)
 nested_at (x ∷ ts) at n t e =
     nested_with at n t x ts (nested_at ts (suc at) (bracket n x) t) (opens x && nat_le 200 n) refl e
 
