@@ -3,3 +3,6 @@ pub mod Branches
 pub mod Tokens
 pub mod Parts
 pub mod LawfulExpressions
+pub mod CompleteSteps
+pub mod CompleteTypes
+pub mod CompleteStarts
