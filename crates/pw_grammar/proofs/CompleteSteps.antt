@@ -26,6 +26,10 @@ then_ f first second = ap (λ o. and_then o f) first ∙ second
 pub counted : {A : Type 0} {x : Outcome A} {a : A} {n : ℕ} {ts : List Token} (m : ℕ) → x ≡ Ok (a, spot n ts) → n ≡ m → x ≡ Ok (a, spot m ts)
 counted {x = x} {a = a} {ts = ts} m first same = subst (λ k. x ≡ Ok (a, spot k ts)) same first
 
+-- a value where its tokens end, by another count of them
+pub done : {A : Type 0} {n : ℕ} (a : A) (m : ℕ) (ts : List Token) → n ≡ m → pure a (spot n ts) ≡ Ok (a, spot m ts)
+done a m ts same = ap (λ k. pure a (spot k ts)) same
+
 -- the same outcome, by another form of the value
 pub valued : {A : Type 0} {x : Outcome A} {a : A} {j : Place} (b : A) → x ≡ Ok (a, j) → a ≡ b → x ≡ Ok (b, j)
 valued {x = x} {j = j} b first same = subst (λ k. x ≡ Ok (k, j)) same first

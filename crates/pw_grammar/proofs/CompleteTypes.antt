@@ -10,6 +10,7 @@ use Rattle.pw_grammar.specs.Steps.{Place, Outcome, Parser, and_then, ◌>>=◌, 
 use Rattle.pw_grammar.specs.ReadingStatements as r
 use Rattle.pw_grammar.proofs.Branches.{same_sorts, sorts_same, sorts_other}
 use Rattle.pw_grammar.proofs.CompleteSteps.{spot, then_, counted, valued, step_skip, step_expect, step_name, sees_it, sees_other, either_this, either_other, behind, parted, told_apart, same_line, fits, node_is, ends_part, ReadsExpressions}
+use Rattle.pw_grammar.proofs.CompleteStarts.{starts_statement, begins_no_type}
 use Rattle.pw_tree.specs.declared.ty.Ty.{Ty}
 use Rattle.pw_tree.specs.declared.ty.Ty.TheVariants as ty
 use Rattle.pw_tree.specs.declared.expr.Expr.{Expr}
@@ -57,6 +58,18 @@ type_begins (unsigned u l) ts (e, f) = ap (λ b. b || r.is_some (type_of (sort u
 pub type_length : (c : TypePhrase) → 0 < length (spelled_type c)
 type_length (word t) = omega arith
 type_length (unsigned u l) = omega arith
+
+pub local_begins : (l : Local) (ts : List Token) → IsLocal l → r.begins_type (first_sort (spelled_local l ++ ts)) ≡ true
+local_begins (plain c x e) ts is = subst (λ v. r.begins_type (first_sort v) ≡ true) (sym (append_assoc (spelled_type c) (x ∷ e ∷ []) ts)) (type_begins c (x ∷ e ∷ ts) is.0)
+local_begins (set c x q a e) ts is =
+    subst (λ v. r.begins_type (first_sort v) ≡ true) (sym (append_assoc (spelled_type c) (x ∷ q ∷ (spelled a ++ e ∷ [])) ts)) (type_begins c _ is.0)
+
+-- the tests that a type passes tell its sort from these
+pub no_type_is : (x y : Sort) → r.begins_type x ≡ true → starts_statement y ≡ true → x ≢ y
+no_type_is x y e f = λ same. not_both (r.begins_type x) e (ap r.begins_type same ∙ begins_no_type y f)
+  where
+    not_both : (b : Bool) → b ≡ true → b ≡ false → ⊥
+    not_both b e f = cc
 
 -- ---- values
 

@@ -6,3 +6,5 @@ pub mod LawfulExpressions
 pub mod CompleteSteps
 pub mod CompleteTypes
 pub mod CompleteStarts
+pub mod CompleteSimple
+pub mod CompleteStatements
