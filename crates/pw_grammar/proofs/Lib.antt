@@ -8,3 +8,4 @@ pub mod CompleteTypes
 pub mod CompleteStarts
 pub mod CompleteSimple
 pub mod CompleteStatements
+pub mod CompleteLoops
