@@ -68,7 +68,7 @@ simple_starts (assign_element x o i c q a) ts e = ap starts_expression e.0
 simple_starts (evaluate a) ts e = phrase_starts 13 a ts e
 
 -- what begins as an expression is not empty
-some_tokens : (f : Sort → Bool) (ts : List Token) → f s.End ≡ false → f (first_sort ts) ≡ true → 0 < length ts
+pub some_tokens : (f : Sort → Bool) (ts : List Token) → f s.End ≡ false → f (first_sort ts) ≡ true → 0 < length ts
 some_tokens f [] end e = absurd (both (sym end ∙ e))
   where
     both : false ≡ true → ⊥

@@ -9,3 +9,4 @@ pub mod CompleteStarts
 pub mod CompleteSimple
 pub mod CompleteStatements
 pub mod CompleteLoops
+pub mod CompleteBlocks
