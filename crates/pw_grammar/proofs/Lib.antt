@@ -10,3 +10,5 @@ pub mod CompleteSimple
 pub mod CompleteStatements
 pub mod CompleteLoops
 pub mod CompleteBlocks
+pub mod CompleteParameters
+pub mod CompleteInitials
