@@ -109,3 +109,111 @@ step_more_elements (suc turns) (dc.more t x xs) found at ts is end short =
         length-append (spelled_more_elements xs) ts)))
         (omega (arith, length-append (spelled_element x) (spelled_more_elements xs))))
         (append_assoc found (element_of (suc at) x ∷ []) (more_elements_of (suc at + length (spelled_element x)) xs)))))
+
+-- ---- variables
+
+step_number : (at : ℕ) (t : Token) (ts : List Token) → sort t ≡ s.Number
+    → (if sees s.Number (spot at (t ∷ ts)) then and_then (take (spot at (t ∷ ts))) (λ t. pure (value_in t.kind)) else refuse (spot at (t ∷ ts))) ≡ Ok (value_in t.kind, spot (suc at) ts)
+step_number at t ts is =
+    ap (λ b. if b then and_then (take (spot at (t ∷ ts))) (λ t. pure (value_in t.kind)) else refuse (spot at (t ∷ ts))) (sees_it s.Number (spot at (t ∷ ts)) is)
+    ∙ then_ _ (step_take at t ts) refl
+
+step_size : (at : ℕ) (o n c : Token) (ts : List Token) → IsExtent o n c → rd.maybe_size (spot at (o ∷ n ∷ c ∷ ts)) ≡ Ok (Some (value_in n.kind), spot (suc (suc (suc at))) ts)
+unfolding rd.maybe_size rd.size
+step_size at o n c ts is =
+    either_this s.LeftBracket rd.size (pure None) (spot at (o ∷ n ∷ c ∷ ts)) is.0
+    ∙ then_ _ (step_skip at o (n ∷ c ∷ ts)) (then_ _ (step_number (suc at) n (c ∷ ts) is.1) (then_ _ (step_expect s.RightBracket (suc (suc at)) c ts is.2) refl))
+
+no_size : (j : Place) → next_sort j ≢ s.LeftBracket → rd.maybe_size j ≡ Ok (None, j)
+unfolding rd.maybe_size
+no_size j other = either_other s.LeftBracket rd.size (pure None) j other
+
+no_initials : (n : ℕ) (l : Linkage) (count : Option ℕ) (j : Place) → next_sort j ≢ s.Assign → rd.maybe_initials n l count j ≡ Ok (None, j)
+unfolding rd.maybe_initials
+no_initials n l count j other = ap (λ b. if (b && not (rd.is_extern l)) then rd.initials_by n count j else pure None j) (sees_other s.Assign j other)
+
+its_initials : (n : ℕ) (l : Linkage) (count : Option ℕ) (j : Place) → next_sort j ≡ s.Assign → rd.is_extern l ≡ false → rd.maybe_initials n l count j ≡ rd.initials_by n count j
+unfolding rd.maybe_initials
+its_initials n l count j is own =
+    ap (λ b. if (b && not (rd.is_extern l)) then rd.initials_by n count j else pure None j) (sees_it s.Assign j is)
+    ∙ ap (λ b. if not b then rd.initials_by n count j else pure None j) own
+
+step_one : (n at : ℕ) (q : Token) (x : Element) (ts : List Token) → IsElement x
+    → rd.initials_by n None (spot at (q ∷ (spelled_element x ++ ts))) ≡ Ok (Some (element_of (suc at) x ∷ []), spot (suc at + length (spelled_element x)) ts)
+unfolding rd.one_initial
+step_one n at q x ts is = then_ _ (step_skip at q _) (then_ _ (step_element x (suc at) ts is) refl)
+
+step_listed : (n count at : ℕ) (q b : Token) (x : Element) (xs : MoreElements) (e : Token) (ts : List Token) → sort b ≡ s.LeftBrace → IsElement x → AreMoreElements xs → sort e ≡ s.RightBrace
+    → length (spelled_element x ++ (spelled_more_elements xs ++ e ∷ ts)) < n
+    → rd.initials_by n (Some count) (spot at (q ∷ b ∷ (spelled_element x ++ (spelled_more_elements xs ++ e ∷ ts))))
+    ≡ Ok (Some (element_of (suc (suc at)) x ∷ more_elements_of (suc (suc at) + length (spelled_element x)) xs),
+        spot (suc (suc (suc at) + length (spelled_element x) + length (spelled_more_elements xs))) ts)
+unfolding rd.listed_initials
+step_listed n count at q b x xs e ts is_b is are is_e short =
+    then_ _ (step_skip at q _)
+    (then_ _ (step_expect s.LeftBrace (suc at) b _ is_b)
+    (then_ _ (step_element x (suc (suc at)) (spelled_more_elements xs ++ e ∷ ts) is)
+    (then_ _ (step_more_elements n xs (element_of (suc (suc at)) x ∷ []) (suc (suc at) + length (spelled_element x)) (e ∷ ts) are is_e
+        (behind (spelled_element x) (spelled_more_elements xs ++ e ∷ ts) n short))
+    (then_ _ (step_expect s.RightBrace (suc (suc at) + length (spelled_element x) + length (spelled_more_elements xs)) e ts is_e) refl))))
+
+-- the variable has no initialiser, or may have one
+abbrev pub MayBe : Linkage → Variable → Type 0
+MayBe l v = HasNoValue v ⊎ (rd.is_extern l ≡ false)
+
+pub may_be : (g : Option Token) (v : Variable) → MayHave g v → MayBe (linkage_of g) v
+may_be None v is = inr refl
+may_be (Some t) v (inl is) = inr (ap (λ x. rd.is_extern (linkage_by x)) is)
+may_be (Some t) v (inr is) = inl is.1
+
+not_extern : {A : Type 0} (b : Bool) → ⊥ ⊎ (b ≡ false) → (b ≡ false → A) → A
+not_extern b (inl e) f = absurd e
+not_extern b (inr e) f = f e
+
+variable_is : (m n : ℕ) (a b : ℕ × DeclKind) (ts : List Token) → a ≡ b → m ≡ n → pure a (spot m ts) ≡ Ok (b, spot n ts)
+variable_is m n a b ts same counts = done a n ts counts ∙ ap (λ a. pure a (spot n ts)) same
+
+scalar_is : (ty : Ty) (x : Element) (a b m n : ℕ) → a ≡ b → m ≡ n
+    → ◌≡◌ {A = ℕ × DeclKind} (a, d.Var ty None (Some (element_of m x ∷ []))) (b, d.Var ty None (Some (element_of n x ∷ [])))
+scalar_is ty x a b m n e f = cc
+
+array_is : (ty : Ty) (count : ℕ) (x : Element) (xs : MoreElements) (a b m n : ℕ) → a ≡ b → m ≡ n
+    → ◌≡◌ {A = ℕ × DeclKind} (a, d.Var ty (Some count) (Some (element_of m x ∷ more_elements_of (m + length (spelled_element x)) xs)))
+        (b, d.Var ty (Some count) (Some (element_of n x ∷ more_elements_of (n + length (spelled_element x)) xs)))
+array_is ty count x xs a b m n e f = cc
+
+listed_parts : (u v : List Token) (z : Token) (ts : List Token) → (u ++ (v ++ z ∷ [])) ++ ts ≡ u ++ (v ++ z ∷ ts)
+listed_parts u v z ts = append_assoc u (v ++ z ∷ []) ts ∙ ap (λ w. u ++ w) (append_assoc v (z ∷ []) ts)
+
+pub step_variable : (n : ℕ) (l : Linkage) (ty : Ty) (v : Variable) (at : ℕ) (e : Token) (ts : List Token) → IsVariable v → MayBe l v → sort e ≡ s.Semicolon
+    → length (spelled_variable v ++ e ∷ ts) < n
+    → rd.variable n l ty (spot (suc at) (spelled_variable v ++ e ∷ ts))
+    ≡ Ok ((at + extent v, d.Var ty (count_in v) (elements_of (suc at) v)), spot (suc (suc at + length (spelled_variable v))) ts)
+unfolding rd.variable rd.last_taken
+step_variable n l ty dc.scalar at e ts is may is_e short =
+    then_ _ (no_size (spot (suc at) (e ∷ ts)) (no_other is_e (λ p. cc)))
+    (then_ _ (no_initials n l None (spot (suc at) (e ∷ ts)) (no_other is_e (λ p. cc)))
+    (then_ _ (step_expect s.Semicolon (suc at) e ts is_e)
+    (variable_is _ _ _ _ ts (ap (λ m. (m, d.Var ty None None)) (omega arith)) (omega arith))))
+step_variable n l ty (dc.scalar_set q x) at e ts is may is_e short = not_extern (rd.is_extern l) may (λ own.
+    then_ _ (no_size (spot (suc at) (q ∷ (spelled_element x ++ e ∷ ts))) (no_other is.0 (λ p. cc)))
+    (then_ _ (its_initials n l None (spot (suc at) (q ∷ (spelled_element x ++ e ∷ ts))) is.0 own ∙ step_one n (suc at) q x (e ∷ ts) is.1)
+    (then_ _ (step_expect s.Semicolon (suc (suc at) + length (spelled_element x)) e ts is_e)
+    (variable_is _ _ _ _ ts (scalar_is ty x _ _ _ _ (omega arith) (omega arith)) (omega arith)))))
+step_variable n l ty (dc.array o m c) at e ts is may is_e short =
+    then_ _ (step_size (suc at) o m c (e ∷ ts) is)
+    (then_ _ (no_initials n l (Some (value_in m.kind)) (spot (suc (suc (suc (suc at)))) (e ∷ ts)) (no_other is_e (λ p. cc)))
+    (then_ _ (step_expect s.Semicolon (suc (suc (suc (suc at)))) e ts is_e)
+    (variable_is _ _ _ _ ts (ap (λ j. (j, d.Var ty (Some (value_in m.kind)) None)) (omega arith)) (omega arith))))
+step_variable n l ty (dc.array_set o m c q b x xs z) at e ts is may is_e short = not_extern (rd.is_extern l) may (λ own.
+    let parts : (spelled_element x ++ (spelled_more_elements xs ++ z ∷ [])) ++ e ∷ ts ≡ spelled_element x ++ (spelled_more_elements xs ++ z ∷ e ∷ ts) =
+        listed_parts (spelled_element x) (spelled_more_elements xs) z (e ∷ ts) in
+    let inner : length (o ∷ m ∷ c ∷ q ∷ b ∷ (spelled_element x ++ (spelled_more_elements xs ++ z ∷ e ∷ ts))) < n =
+        fits _ _ n (ap (λ u. o ∷ m ∷ c ∷ q ∷ b ∷ u) parts) short in
+    parted (rd.variable n l ty) (suc at) (ap (λ u. o ∷ m ∷ c ∷ q ∷ b ∷ u) parts)
+    (then_ _ (step_size (suc at) o m c (q ∷ b ∷ (spelled_element x ++ (spelled_more_elements xs ++ z ∷ e ∷ ts))) is.0)
+    (then_ _ (its_initials n l (Some (value_in m.kind)) (spot (suc (suc (suc (suc at)))) (q ∷ b ∷ (spelled_element x ++ (spelled_more_elements xs ++ z ∷ e ∷ ts)))) is.1 own
+        ∙ step_listed n (value_in m.kind) (suc (suc (suc (suc at)))) q b x xs z (e ∷ ts) is.2 is.3 is.4 is.5 (omega arith))
+    (then_ _ (step_expect s.Semicolon (suc (suc (suc (suc (suc (suc (suc at))))) + length (spelled_element x) + length (spelled_more_elements xs))) e ts is_e)
+    (variable_is _ _ _ _ ts (array_is ty (value_in m.kind) x xs _ _ _ _ (omega arith) (omega arith))
+        (omega (arith, length-append (spelled_element x) (spelled_more_elements xs ++ z ∷ []), length-append (spelled_more_elements xs) (z ∷ []))))))))

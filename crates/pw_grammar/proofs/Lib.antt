@@ -12,3 +12,4 @@ pub mod CompleteLoops
 pub mod CompleteBlocks
 pub mod CompleteParameters
 pub mod CompleteInitials
+pub mod CompleteDeclarations
