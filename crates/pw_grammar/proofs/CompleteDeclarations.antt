@@ -172,6 +172,13 @@ variable_parts u v x w e ts =
 front_fits : (u v : List Token) (x : Token) (w : List Token) (n : ℕ) → length (u ++ (v ++ x ∷ w)) < n → length w < n
 front_fits u v x w n short = omega (arith, length-append u (v ++ x ∷ w), length-append v (x ∷ w))
 
+-- what comes behind a variable's name is no bracket
+variable_no : (v : Variable) (e : Token) (ts : List Token) → IsVariable v → sort e ≡ s.Semicolon → first_sort (spelled_variable v ++ e ∷ ts) ≢ s.LeftParen
+variable_no dc.scalar e ts is is_e = no_other is_e (λ p. cc)
+variable_no (dc.scalar_set q x) e ts is is_e = no_other is.0 (λ p. cc)
+variable_no (dc.array o n c) e ts is is_e = no_other is.0 (λ p. cc)
+variable_no (dc.array_set o n c q b x xs z) e ts is is_e = no_other is.0.0 (λ p. cc)
+
 pub reads_declaration : ((m : ℕ) → ReadsExpressions m (expression m)) → (n : ℕ) (c : Declaration) (at : ℕ) (ts : List Token) → IsDeclaration c → length (spelled_declaration c ++ ts) < n
     → rd.declaration (expression n) (r.statement n) n (spot at (spelled_declaration c ++ ts)) ≡ Ok (tree_of_declaration at c, spot (at + length (spelled_declaration c)) ts)
 reads_declaration reads n (prototype g y x o ps c e) at ts (is_g, is_y, is_x, is_o, are, is_c, is_e) short =
@@ -187,5 +194,96 @@ reads_declaration reads n (prototype g y x o ps c e) at ts (is_g, is_y, is_x, is
         refl)
     (omega (arith, length-append (spelled_storage g) (spelled_result y ++ x ∷ o ∷ (spelled_parameters ps ++ c ∷ e ∷ [])),
         length-append (spelled_result y) (x ∷ o ∷ (spelled_parameters ps ++ c ∷ e ∷ [])), length-append (spelled_parameters ps) (c ∷ e ∷ []))))
-reads_declaration reads n (function g y x o ps c b body e) at ts (is_g, is_y, is_x, is_o, are, names, is_c, is_b, is, is_e) short = ?
-reads_declaration reads n (variable g y x v e) at ts (is_y, is_x, is_v, may, is_e) short = ?
+reads_declaration reads n (function g y x o ps c b body e) at ts (is_g, is_y, is_x, is_o, are, names, is_c, is_b, is, is_e) short =
+    let parts : spelled_declaration (function g y x o ps c b body e) ++ ts
+            ≡ spelled_storage g ++ (spelled_result y ++ x ∷ o ∷ (spelled_parameters ps ++ c ∷ b ∷ (spelled_statements body ++ e ∷ ts))) =
+        body_parts (spelled_storage g) (spelled_result y) x o (spelled_parameters ps) c b (spelled_statements body) e ts in
+    let inner : length (o ∷ (spelled_parameters ps ++ c ∷ b ∷ (spelled_statements body ++ e ∷ ts))) < n =
+        front_fits (spelled_storage g) (spelled_result y) x _ n (fits _ _ n parts short) in
+    let deeper : length (spelled_statements body ++ e ∷ ts) < n = omega (arith, length-append (spelled_parameters ps) (c ∷ b ∷ (spelled_statements body ++ e ∷ ts))) in
+    parted (rd.declaration (expression n) (r.statement n) n) at parts
+    (counted _ (reads_front (expression n) (r.statement n) n at g y x (o ∷ (spelled_parameters ps ++ c ∷ b ∷ (spelled_statements body ++ e ∷ ts))) _
+        (suc (suc (behind_parameters at g y ps)) + length (spelled_statements body)) _ ts (defines g is_g) is_y is_x
+        (a_function (expression n) (r.statement n) n (linkage_of g) (result_in y)
+            (spot (suc (name_at at g (spelled_result y))) (o ∷ (spelled_parameters ps ++ c ∷ b ∷ (spelled_statements body ++ e ∷ ts)))) is_o
+        ∙ reads_function (expression n) (r.statement n) n (linkage_of g) (result_in y) (suc (name_at at g (spelled_result y))) o ps c (b ∷ (spelled_statements body ++ e ∷ ts)) _ _ are is_c (omega arith)
+            (has_body (expression n) (r.statement n) n (linkage_of g) (result_in y) (parameters_of (suc (suc (name_at at g (spelled_result y)))) ps)
+                (spot (suc (behind_parameters at g y ps)) (b ∷ (spelled_statements body ++ e ∷ ts))) (no_other is_b (λ p. cc))
+                (may_it (linkage_of g) _ (own_definition g is_g) (all_named ps (suc (suc (name_at at g (spelled_result y)))) names))
+            ∙ a_body (expression n) (r.statement n) n (result_in y) (parameters_of (suc (suc (name_at at g (spelled_result y)))) ps) (suc (behind_parameters at g y ps)) b body e ts is_b is_e
+                (reads_statements reads n n n body (suc (suc (behind_parameters at g y ps))) (e ∷ ts) is is_e deeper deeper deeper)))
+        refl)
+    (omega (arith, length-append (spelled_storage g) (spelled_result y ++ x ∷ o ∷ (spelled_parameters ps ++ c ∷ b ∷ (spelled_statements body ++ e ∷ []))),
+        length-append (spelled_result y) (x ∷ o ∷ (spelled_parameters ps ++ c ∷ b ∷ (spelled_statements body ++ e ∷ []))),
+        length-append (spelled_parameters ps) (c ∷ b ∷ (spelled_statements body ++ e ∷ [])), length-append (spelled_statements body) (e ∷ []))))
+reads_declaration reads n (variable g y x v e) at ts (is_y, is_x, is_v, may, is_e) short =
+    let parts : spelled_declaration (variable g y x v e) ++ ts ≡ spelled_storage g ++ (spelled_type y ++ x ∷ (spelled_variable v ++ e ∷ ts)) =
+        variable_parts (spelled_storage g) (spelled_type y) x (spelled_variable v) e ts in
+    parted (rd.declaration (expression n) (r.statement n) n) at parts
+    (counted _ (reads_front (expression n) (r.statement n) n at g (dc.value y) x (spelled_variable v ++ e ∷ ts) _
+        (suc (name_at at g (spelled_type y)) + length (spelled_variable v)) _ ts (stored g v may) is_y is_x
+        (a_variable (expression n) (r.statement n) n (linkage_of g) (type_in y) (spot (suc (name_at at g (spelled_type y))) (spelled_variable v ++ e ∷ ts))
+            (variable_no v e ts is_v is_e) (type_not_void y is_y)
+        ∙ step_variable n (linkage_of g) (type_in y) v (name_at at g (spelled_type y)) e ts is_v (may_be g v may) is_e
+            (front_fits (spelled_storage g) (spelled_type y) x _ n (fits _ _ n parts short)))
+        refl)
+    (omega (arith, length-append (spelled_storage g) (spelled_type y ++ x ∷ (spelled_variable v ++ e ∷ [])),
+        length-append (spelled_type y) (x ∷ (spelled_variable v ++ e ∷ [])), length-append (spelled_variable v) (e ∷ []))))
+
+-- ---- units
+
+front_no_end : (g : Option Token) (c : ResultPhrase) (ts : List Token) → IsStorage g → IsResult c → first_sort (spelled_storage g ++ (spelled_result c ++ ts)) ≢ s.End
+front_no_end None c ts is_g is = result_no c ts s.End is no_type_end (λ p. cc)
+front_no_end (Some t) c ts (inl is_g) is = no_other is_g (λ p. cc)
+front_no_end (Some t) c ts (inr is_g) is = no_other is_g (λ p. cc)
+
+declaration_no_end : (c : Declaration) (ts : List Token) → IsDeclaration c → first_sort (spelled_declaration c ++ ts) ≢ s.End
+declaration_no_end (prototype g y x o ps c e) ts is = subst (λ v. first_sort v ≢ s.End)
+    (sym (function_parts (spelled_storage g) (spelled_result y) x o (spelled_parameters ps) (c ∷ e ∷ []) ts)) (front_no_end g y _ is.0 is.1)
+declaration_no_end (function g y x o ps c b body e) ts is = subst (λ v. first_sort v ≢ s.End)
+    (sym (body_parts (spelled_storage g) (spelled_result y) x o (spelled_parameters ps) c b (spelled_statements body) e ts)) (front_no_end g y _ (defines g is.0) is.1)
+declaration_no_end (variable g y x v e) ts is = subst (λ u. first_sort u ≢ s.End)
+    (sym (variable_parts (spelled_storage g) (spelled_type y) x (spelled_variable v) e ts)) (front_no_end g (dc.value y) _ (stored g v is.3) is.0)
+
+one_between : (u v : List Token) (x : Token) (w : List Token) → 0 < length (u ++ (v ++ x ∷ w))
+one_between u v x w = omega (arith, length-append u (v ++ x ∷ w), length-append v (x ∷ w))
+
+declaration_length : (c : Declaration) → 0 < length (spelled_declaration c)
+declaration_length (prototype g y x o ps c e) = one_between (spelled_storage g) (spelled_result y) x (o ∷ (spelled_parameters ps ++ c ∷ e ∷ []))
+declaration_length (function g y x o ps c b body e) =
+    one_between (spelled_storage g) (spelled_result y) x (o ∷ (spelled_parameters ps ++ c ∷ b ∷ (spelled_statements body ++ e ∷ [])))
+declaration_length (variable g y x v e) = one_between (spelled_storage g) (spelled_type y) x (spelled_variable v ++ e ∷ [])
+
+next_declaration : ℕ → ℕ → List Decl → Parser (List Decl)
+next_declaration n turns found = do
+  c ← rd.declaration (expression n) (r.statement n) n
+  rd.declarations (rd.declaration (expression n) (r.statement n) n) turns (found ++ c ∷ [])
+
+unit_fits : (u v : List Token) (n : ℕ) → 0 < length u → length (u ++ v) < suc n → length v < n
+unit_fits u v n some short = omega (arith, length-append u v)
+
+reads_declarations : ((m : ℕ) → ReadsExpressions m (expression m)) → (n turns : ℕ) (cs : UnitPhrase) (found : List Decl) (at : ℕ) → IsUnit cs
+    → length (spelled_unit cs) < n → length (spelled_unit cs) < turns
+    → rd.declarations (rd.declaration (expression n) (r.statement n) n) turns found (spot at (spelled_unit cs))
+    ≡ Ok (found ++ trees_of_declarations at cs, spot (at + length (spelled_unit cs)) [])
+unfolding rd.declarations spelled_unit IsUnit trees_of_declarations next_declaration
+reads_declarations reads n zero cs found at is short1 short2 = absurd (omega arith)
+reads_declarations reads n (suc turns) [] found at is short1 short2 =
+    either_this s.End (pure found) (next_declaration n turns found) (spot at []) refl
+    ∙ valued (found ++ []) (done found (at + 0) [] (omega arith)) (sym (append-nil found))
+reads_declarations reads n (suc turns) (c ∷ cs) found at is short1 short2 =
+    either_other s.End (pure found) (next_declaration n turns found) (spot at (spelled_declaration c ++ spelled_unit cs)) (declaration_no_end c (spelled_unit cs) is.0)
+    ∙ then_ _ (reads_declaration reads n c at (spelled_unit cs) is.0 short1)
+    (valued _ (counted _ (reads_declarations reads n turns cs (found ++ tree_of_declaration at c ∷ []) (at + length (spelled_declaration c)) is.1
+        (behind (spelled_declaration c) (spelled_unit cs) n short1) (unit_fits (spelled_declaration c) (spelled_unit cs) turns (declaration_length c) short2))
+        (omega (arith, length-append (spelled_declaration c) (spelled_unit cs))))
+        (append_assoc found (tree_of_declaration at c ∷ []) (trees_of_declarations (at + length (spelled_declaration c)) cs)))
+
+-- a whole unit is read, to the end of its tokens
+pub reads_unit : ((m : ℕ) → ReadsExpressions m (expression m)) → (n : ℕ) (c : UnitPhrase) → IsUnit c → length (spelled_unit c) < n
+    → rd.unit n (spot 0 (spelled_unit c)) ≡ Ok (trees_of_declarations 0 c, spot (length (spelled_unit c)) [])
+unfolding rd.unit rd.all_declarations
+reads_unit reads n c is short =
+    then_ _ (reads_declarations reads n n c [] 0 is short short)
+    (either_this s.End (pure (trees_of_declarations 0 c)) refuse (spot (0 + length (spelled_unit c)) []) refl
+    ∙ done (trees_of_declarations 0 c) (length (spelled_unit c)) [] (omega arith))
