@@ -19,3 +19,12 @@ pub mod LateFunctions
 pub mod LateUnits
 pub mod Nested
 pub mod Ends
+pub mod CompleteTypes
+pub mod CompleteStarts
+pub mod CompleteSimple
+pub mod CompleteStatements
+pub mod CompleteLoops
+pub mod CompleteBlocks
+pub mod CompleteParameters
+pub mod CompleteInitials
+pub mod CompleteDeclarations
