@@ -37,7 +37,7 @@ no_end_in (x ∷ xs) (suc n) all = no_end_in xs n (both_true (is_symbol x) (list
 
 -- no token has the symbol of the end
 pub never_end : (kind : TokenKind) → sort_of kind ≢ s.End
-unfolding sort_of is_same
+unfolding sort_of is_same is_symbol
 never_end (t.Word name) e = cc
 never_end (t.Number value unsigned) e = cc
 never_end (t.Char value) e = cc
@@ -53,7 +53,7 @@ place_in (Ok p) j = p.1
 place_in (Err e) j = j
 
 ends_by : (p : List Decl × Place) (ds : List Decl) (j : Place) (b : Bool) → sees s.End p.1 ≡ b → (if b then pure p.0 p.1 else refuse p.1) ≡ Ok (ds, j) → j.rest ≡ []
-unfolding sees
+unfolding sees place_in
 ends_by p ds j true e is = subst (λ k. k.rest ≡ []) (ap (λ o. place_in o p.1) is) (at_the_end p.1.rest (same_sorts (next_sort p.1) s.End e))
 ends_by p ds j false e is = absurd cc
 
