@@ -1,18 +1,18 @@
 -- Every statement is read, and so is what stands in a block.
-use Rattle.std.proofs.Common.{◌≡◌, ◌≢◌, refl, sym, ◌∙◌, ap, subst, ℕ, zero, suc, ◌+◌, ◌-◌, ◌<◌, ◌≤◌, ◌==◌, List, [], ◌∷◌, ◌++◌, length, Result, Ok, Err, Bool, true, false, if◌then◌else◌, Option, Some, None, ◌⊎◌, inl, inr, arith}
+use Rattle.std.proofs.Common.{◌≡◌, ◌≢◌, refl, sym, ◌∙◌, ap, subst, ℕ, zero, suc, ◌+◌, ◌<◌, List, [], ◌∷◌, ◌++◌, length, Ok, Bool, true, false, if◌then◌else◌, inl, inr, arith}
 use Rattle.std.proofs.lemmas.List.{append_assoc, append-nil, length-append}
 use Rattle.pw_grammar.specs.declared.sort.Sort.{Sort}
 use Rattle.pw_grammar.specs.declared.sort.Sort.TheVariants as s
 use Rattle.pw_grammar.specs.Terminals.{sort, first_sort, is_same}
-use Rattle.pw_grammar.specs.Expressions.{Phrase, spelled, IsAt}
+use Rattle.pw_grammar.specs.Expressions.{spelled}
 use Rattle.pw_grammar.specs.Statements as st
 use Rattle.pw_grammar.specs.Statements.{Statement, Statements, empty, block, declare, simple, if_only, if_else, while_do, do_while, for_do, leave, jump, nil, cons, spelled_statement, spelled_statements, IsStatement, AreStatements, open_ended, kind_of, tree_of_statement, trees_of_statements, spelled_simple, spelled_local, kind_of_local, first_line, statement_node, jump_of}
-use Rattle.pw_grammar.specs.Steps.{Place, Outcome, Parser, and_then, ◌>>=◌, pure, refuse, next_sort, sees, here, take, skip, expect, name, either, finish_statement}
+use Rattle.pw_grammar.specs.Steps.{Place, Parser, ◌>>=◌, pure, next_sort}
 use Rattle.pw_grammar.specs.ReadingExpressions.{expression}
 use Rattle.pw_grammar.specs.ReadingStatements as r
-use Rattle.pw_grammar.proofs.CompleteSteps.{spot, then_, counted, done, valued, step_skip, step_expect, step_name, sees_it, sees_other, either_this, either_other, behind, parted, told_apart, line_of_front, same_line, fits, node_is, ends_part, ReadsExpressions}
-use Rattle.pw_grammar.proofs.CompleteTypes.{reads_local, local_begins, no_type_is}
-use Rattle.pw_grammar.proofs.CompleteStarts.{starts_expression, phrase_starts, simple_starts, simple_length, some_tokens, starts_statement, statement_too, begins_no_type, form_of_expression}
+use Rattle.pw_grammar.proofs.CompleteTokens.{spot, then_, counted, done, valued, step_skip, step_expect, either_this, either_other, parted, told_apart, line_of_front, fits, node_is, ReadsExpressions}
+use Rattle.pw_grammar.proofs.CompleteTypes.{reads_local, local_begins}
+use Rattle.pw_grammar.proofs.CompleteStarts.{starts_expression, simple_starts, some_tokens, starts_statement, statement_too, begins_no_type, form_of_expression}
 use Rattle.pw_grammar.proofs.CompleteStatements.{no_other, ReadsPart, reads_while, reads_if_only, reads_if_else, reads_do}
 use Rattle.pw_grammar.proofs.CompleteLoops.{reads_for, reads_return, reads_jump, reads_empty, reads_evaluated}
 use Rattle.pw_tree.specs.declared.expr.Expr.{Expr}

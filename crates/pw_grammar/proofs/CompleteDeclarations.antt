@@ -1,32 +1,28 @@
 -- Every declaration is read, and every unit.
-use Rattle.std.proofs.Common.{◌≡◌, ◌≢◌, refl, sym, ◌∙◌, ap, subst, ℕ, zero, suc, ◌+◌, ◌-◌, ◌<◌, ◌≤◌, List, [], ◌∷◌, ◌++◌, length, Result, Ok, Err, Bool, true, false, not, ◌&&◌, ◌||◌, if◌then◌else◌, Option, Some, None, ◌⊎◌, inl, inr, arith}
+use Rattle.std.proofs.Common.{◌≡◌, ◌≢◌, refl, sym, ◌∙◌, ap, subst, ℕ, zero, suc, ◌+◌, ◌-◌, ◌<◌, List, [], ◌∷◌, ◌++◌, length, Ok, true, false, not, ◌&&◌, ◌||◌, if◌then◌else◌, Option, Some, None, inl, inr, arith}
 use Rattle.std.proofs.lemmas.List.{append_assoc, append-nil, length-append}
 use Rattle.std.specs.List.{list_all}
-use Rattle.std.specs.Bool.{⊤}
 use Rattle.pw_grammar.specs.declared.sort.Sort.{Sort}
 use Rattle.pw_grammar.specs.declared.sort.Sort.TheVariants as s
 use Rattle.pw_grammar.specs.Terminals.{sort, first_sort, is_same}
 use Rattle.pw_grammar.specs.Expressions.{name_in}
-use Rattle.pw_grammar.specs.Statements.{TypePhrase, word, unsigned, spelled_type, IsType, type_of, type_in, type_or, first_line, Statements, spelled_statements, AreStatements, trees_of_statements}
+use Rattle.pw_grammar.specs.Statements.{TypePhrase, word, unsigned, spelled_type, IsType, type_of, type_in, type_or, Statements, spelled_statements, trees_of_statements}
 use Rattle.pw_grammar.specs.Declarations as dc
 use Rattle.pw_grammar.specs.Declarations.{spelled_storage, IsStorage, IsDefining, linkage_of, linkage_by, ResultPhrase, spelled_result, IsResult, result_in, Parameters, spelled_parameters, AreParameters, HaveNames, parameters_of, Variable, spelled_variable, IsVariable, MayHave, count_in, extent, elements_of, Declaration, prototype, function, variable, spelled_declaration, IsDeclaration, name_at, behind_parameters, tree_of_declaration, UnitPhrase, spelled_unit, IsUnit, trees_of_declarations}
-use Rattle.pw_grammar.specs.Steps.{Place, Outcome, Parser, and_then, ◌>>=◌, pure, refuse, next_sort, sees, here, take, skip, expect, name, either}
+use Rattle.pw_grammar.specs.Steps.{Place, Parser, ◌>>=◌, pure, refuse, next_sort}
 use Rattle.pw_grammar.specs.ReadingExpressions.{expression}
 use Rattle.pw_grammar.specs.ReadingStatements as r
 use Rattle.pw_grammar.specs.ReadingDeclarations as rd
-use Rattle.pw_grammar.proofs.CompleteSteps.{spot, then_, counted, done, valued, step_skip, step_expect, step_name, sees_it, sees_other, either_this, either_other, behind, parted, told_apart, fits, ReadsExpressions}
-use Rattle.pw_grammar.proofs.CompleteTypes.{type_begins, type_length}
+use Rattle.pw_grammar.proofs.CompleteTokens.{spot, then_, counted, done, valued, step_skip, step_expect, step_name, sees_it, sees_other, either_this, either_other, behind, parted, fits, ReadsExpressions}
 use Rattle.pw_grammar.proofs.CompleteStatements.{no_other}
 use Rattle.pw_grammar.proofs.CompleteBlocks.{ReadsElements, reads_statements}
 use Rattle.pw_grammar.proofs.CompleteParameters.{result_no, step_storage, step_result, step_parameters, all_named}
 use Rattle.pw_grammar.proofs.CompleteInitials.{may_be, step_variable}
 use Rattle.pw_tree.specs.declared.ty.Ty.{Ty}
-use Rattle.pw_tree.specs.declared.ty.Ty.TheVariants as ty
 use Rattle.pw_tree.specs.declared.expr.Expr.{Expr}
 use Rattle.pw_tree.specs.declared.stmt.Stmt.{Stmt}
 use Rattle.pw_tree.specs.declared.decl.Param.{Param}
 use Rattle.pw_tree.specs.declared.decl.Linkage.{Linkage}
-use Rattle.pw_tree.specs.declared.decl.Linkage.TheVariants as linkage
 use Rattle.pw_tree.specs.declared.decl.DeclKind.{DeclKind}
 use Rattle.pw_tree.specs.declared.decl.DeclKind.TheVariants as d
 use Rattle.pw_tree.specs.declared.decl.Decl.{Decl}

@@ -1,24 +1,21 @@
 -- Storage classes, results and parameters are read.
-use Rattle.std.proofs.Common.{◌≡◌, ◌≢◌, refl, sym, ◌∙◌, ap, subst, ℕ, zero, suc, ◌+◌, ◌-◌, ◌<◌, ◌≤◌, List, [], ◌∷◌, ◌++◌, length, Result, Ok, Err, Bool, true, false, ◌&&◌, ◌||◌, if◌then◌else◌, Option, Some, None, ◌⊎◌, inl, inr, arith}
+use Rattle.std.proofs.Common.{◌≡◌, ◌≢◌, refl, sym, ◌∙◌, ap, subst, ℕ, zero, suc, ◌+◌, ◌<◌, List, [], ◌∷◌, ◌++◌, length, Ok, Bool, true, false, ◌&&◌, Option, Some, None, inl, inr, arith}
 use Rattle.std.proofs.lemmas.List.{append_assoc, append-nil, length-append}
 use Rattle.std.specs.List.{list_all}
 use Rattle.pw_grammar.specs.declared.sort.Sort.{Sort}
 use Rattle.pw_grammar.specs.declared.sort.Sort.TheVariants as s
 use Rattle.pw_grammar.specs.Terminals.{sort, first_sort, is_same}
-use Rattle.pw_grammar.specs.Expressions.{name_in}
-use Rattle.pw_grammar.specs.Statements.{TypePhrase, word, unsigned, spelled_type, IsType, type_of, type_in, first_line}
+use Rattle.pw_grammar.specs.Statements.{spelled_type, type_in}
 use Rattle.pw_grammar.specs.Declarations as dc
 use Rattle.pw_grammar.specs.Declarations.{spelled_storage, IsStorage, linkage_of, linkage_by, ResultPhrase, spelled_result, IsResult, result_in, Parameter, spelled_parameter, spelled_name, IsParameter, IsNamed, has_name, named, MoreParameters, Parameters, spelled_more_parameters, spelled_parameters, AreMoreParameters, AreParameters, AllNamed, HaveNames, parameter_of, more_parameters_of, parameters_of}
-use Rattle.pw_grammar.specs.Steps.{Place, Outcome, Parser, and_then, ◌>>=◌, pure, refuse, next_sort, sees, here, take, skip, expect, name, either}
+use Rattle.pw_grammar.specs.Steps.{Parser, ◌>>=◌, pure, skip, name, either}
 use Rattle.pw_grammar.specs.ReadingStatements as r
 use Rattle.pw_grammar.specs.ReadingDeclarations as rd
-use Rattle.pw_grammar.proofs.CompleteSteps.{spot, then_, counted, done, valued, step_skip, step_expect, step_name, sees_it, sees_other, either_this, either_other, behind, parted, told_apart, line_of_front, same_line, fits}
-use Rattle.pw_grammar.proofs.CompleteTypes.{step_type, type_begins, type_length}
+use Rattle.pw_grammar.proofs.CompleteTokens.{spot, then_, counted, done, valued, step_skip, step_name, either_this, either_other, parted, told_apart}
+use Rattle.pw_grammar.proofs.CompleteTypes.{step_type, type_begins}
 use Rattle.pw_grammar.proofs.CompleteStatements.{no_other}
-use Rattle.pw_tree.specs.declared.ty.Ty.{Ty}
 use Rattle.pw_tree.specs.declared.ty.Ty.TheVariants as ty
 use Rattle.pw_tree.specs.declared.decl.Param.{Param}
-use Rattle.pw_tree.specs.declared.decl.Linkage.{Linkage}
 use Rattle.pw_tree.specs.declared.decl.Linkage.TheVariants as linkage
 use Rattle.pw_lex.specs.declared.token.Token.{Token}
 

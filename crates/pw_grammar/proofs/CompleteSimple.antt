@@ -1,23 +1,21 @@
 -- An assignment or an expression is read, as it stands in a statement.
-use Rattle.std.proofs.Common.{◌≡◌, ◌≢◌, refl, sym, ◌∙◌, ap, subst, ℕ, zero, suc, ◌+◌, ◌-◌, ◌<◌, ◌≤◌, ◌==◌, List, [], ◌∷◌, ◌++◌, length, Result, Ok, Err, Bool, true, false, if◌then◌else◌, Option, Some, None, arith}
+use Rattle.std.proofs.Common.{◌≡◌, ◌≢◌, refl, sym, ◌∙◌, ap, subst, ℕ, suc, ◌+◌, ◌-◌, ◌<◌, ◌==◌, List, [], ◌∷◌, ◌++◌, length, Ok, true, if◌then◌else◌, Option, Some, None, arith}
 use Rattle.std.proofs.lemmas.List.{append_assoc, length-append}
-use Rattle.pw_grammar.specs.declared.sort.Sort.{Sort}
 use Rattle.pw_grammar.specs.declared.sort.Sort.TheVariants as s
-use Rattle.pw_grammar.specs.Terminals.{sort, first_sort, is_same}
-use Rattle.pw_grammar.specs.Expressions.{Phrase, identifier, index, spelled, IsAt, tree_of, name_in, node}
-use Rattle.pw_grammar.specs.Statements.{Simple, assign, assign_element, evaluate, spelled_simple, IsSimple, kind_of_simple, first_line, statement_node}
-use Rattle.pw_grammar.specs.Steps.{Place, Outcome, Parser, and_then, ◌>>=◌, pure, refuse, next_sort, sees, here, take, skip, expect, name, either, finish_statement}
+use Rattle.pw_grammar.specs.Terminals.{sort, first_sort}
+use Rattle.pw_grammar.specs.Expressions.{Phrase, identifier, index, spelled, IsAt, tree_of, name_in}
+use Rattle.pw_grammar.specs.Statements.{Simple, assign, assign_element, evaluate, spelled_simple, IsSimple, kind_of_simple, statement_node}
+use Rattle.pw_grammar.specs.Steps.{Parser, pure, either}
 use Rattle.pw_grammar.specs.ReadingStatements as r
-use Rattle.pw_grammar.proofs.CompleteSteps.{spot, then_, counted, valued, step_skip, step_expect, step_name, sees_it, sees_other, either_this, either_other, behind, parted, told_apart, line_of_front, same_line, fits, node_is, ends_part, ReadsExpressions}
+use Rattle.pw_grammar.proofs.CompleteTokens.{spot, then_, counted, step_skip, either_this, either_other, parted, line_of_front, fits, node_is, ends_part, ReadsExpressions}
 use Rattle.pw_grammar.proofs.CompleteStarts.{simple_length}
-use Rattle.pw_tree.specs.declared.expr.Expr.{Expr, roll-Expr, out-Expr}
+use Rattle.pw_tree.specs.declared.expr.Expr.{Expr, roll-Expr}
 use Rattle.pw_tree.specs.declared.expr.Expr.{out-roll-Expr}
 use Rattle.pw_tree.specs.declared.expr.ExprKind.{out-roll-ExprKind}
 use Rattle.pw_tree.specs.declared.expr.ExprKind.TheOpen.{ExprKind-F}
 use Rattle.std.proofs.lemmas.Bool.Decides.{nat_tests}
-use Rattle.pw_tree.specs.declared.expr.ExprKind.{ExprKind, out-ExprKind}
+use Rattle.pw_tree.specs.declared.expr.ExprKind.{out-ExprKind}
 use Rattle.pw_tree.specs.declared.expr.ExprKind.TheVariants as e
-use Rattle.pw_tree.specs.declared.stmt.Stmt.{Stmt}
 use Rattle.pw_tree.specs.declared.stmt.StmtKind.{StmtKind}
 use Rattle.pw_tree.specs.declared.stmt.StmtKind.TheVariants as k
 use Rattle.pw_lex.specs.declared.token.Token.{Token}

@@ -3,7 +3,7 @@ pub mod Branches
 pub mod Tokens
 pub mod Parts
 pub mod LawfulExpressions
-pub mod CompleteSteps
+pub mod CompleteTokens
 pub mod CompleteTypes
 pub mod CompleteStarts
 pub mod CompleteSimple
