@@ -36,7 +36,8 @@ constant_no : (x y : Sort) → IsConstant x → (s.Number ≡ y → ⊥) → (s.
 constant_no x y (inl e) f g = no_other e f
 constant_no x y (inr e) f g = no_other e g
 
-step_kind : (x : Element) (at : ℕ) (ts : List Token) → IsElement x → rd.element_kind (spot at (spelled_element x ++ ts)) ≡ Ok (kind_of_element x, spot (at + length (spelled_element x)) ts)
+step_kind : (x : Element) (at : ℕ) (ts : List Token) → IsElement x
+    → rd.element_kind (spot at (spelled_element x ++ ts)) ≡ Ok (kind_of_element x, spot (at + length (spelled_element x)) ts)
 unfolding rd.element_kind rd.element_word rd.element_positive rd.element_negative
 step_kind (dc.word t) at ts is =
     either_this s.Name rd.element_word (either s.Minus rd.element_negative rd.element_positive) (spot at (t ∷ ts)) is
@@ -60,7 +61,8 @@ element_line (dc.word t) ts = refl
 element_line (dc.positive t) ts = refl
 element_line (dc.negative m t) ts = refl
 
-step_element : (x : Element) (at : ℕ) (ts : List Token) → IsElement x → rd.initial (spot at (spelled_element x ++ ts)) ≡ Ok (element_of at x, spot (at + length (spelled_element x)) ts)
+step_element : (x : Element) (at : ℕ) (ts : List Token) → IsElement x
+    → rd.initial (spot at (spelled_element x ++ ts)) ≡ Ok (element_of at x, spot (at + length (spelled_element x)) ts)
 unfolding rd.initial
 step_element x at ts is = then_ _ (step_kind x at ts is) (element_is at _ _ x ts refl (element_line x ts))
 
@@ -109,12 +111,14 @@ step_more_elements (suc turns) (dc.more t x xs) found at ts is end short =
 -- ---- variables
 
 step_number : (at : ℕ) (t : Token) (ts : List Token) → sort t ≡ s.Number
-    → (if sees s.Number (spot at (t ∷ ts)) then and_then (take (spot at (t ∷ ts))) (λ t. pure (value_in t.kind)) else refuse (spot at (t ∷ ts))) ≡ Ok (value_in t.kind, spot (suc at) ts)
+    → (if sees s.Number (spot at (t ∷ ts)) then and_then (take (spot at (t ∷ ts))) (λ t. pure (value_in t.kind)) else refuse (spot at (t ∷ ts)))
+    ≡ Ok (value_in t.kind, spot (suc at) ts)
 step_number at t ts is =
     ap (λ b. if b then and_then (take (spot at (t ∷ ts))) (λ t. pure (value_in t.kind)) else refuse (spot at (t ∷ ts))) (sees_it s.Number (spot at (t ∷ ts)) is)
     ∙ then_ _ (step_take at t ts) refl
 
-step_size : (at : ℕ) (o n c : Token) (ts : List Token) → IsExtent o n c → rd.maybe_size (spot at (o ∷ n ∷ c ∷ ts)) ≡ Ok (Some (value_in n.kind), spot (suc (suc (suc at))) ts)
+step_size : (at : ℕ) (o n c : Token) (ts : List Token) → IsExtent o n c
+    → rd.maybe_size (spot at (o ∷ n ∷ c ∷ ts)) ≡ Ok (Some (value_in n.kind), spot (suc (suc (suc at))) ts)
 unfolding rd.maybe_size rd.size
 step_size at o n c ts is =
     either_this s.LeftBracket rd.size (pure None) (spot at (o ∷ n ∷ c ∷ ts)) is.0
@@ -128,7 +132,8 @@ no_initials : (n : ℕ) (l : Linkage) (count : Option ℕ) (j : Place) → next_
 unfolding rd.maybe_initials
 no_initials n l count j other = ap (λ b. if (b && not (rd.is_extern l)) then rd.initials_by n count j else pure None j) (sees_other s.Assign j other)
 
-its_initials : (n : ℕ) (l : Linkage) (count : Option ℕ) (j : Place) → next_sort j ≡ s.Assign → rd.is_extern l ≡ false → rd.maybe_initials n l count j ≡ rd.initials_by n count j
+its_initials : (n : ℕ) (l : Linkage) (count : Option ℕ) (j : Place) → next_sort j ≡ s.Assign → rd.is_extern l ≡ false
+    → rd.maybe_initials n l count j ≡ rd.initials_by n count j
 unfolding rd.maybe_initials
 its_initials n l count j is own =
     ap (λ b. if (b && not (rd.is_extern l)) then rd.initials_by n count j else pure None j) (sees_it s.Assign j is)
@@ -139,7 +144,8 @@ step_one : (n at : ℕ) (q : Token) (x : Element) (ts : List Token) → IsElemen
 unfolding rd.one_initial
 step_one n at q x ts is = then_ _ (step_skip at q _) (then_ _ (step_element x (suc at) ts is) refl)
 
-step_listed : (n count at : ℕ) (q b : Token) (x : Element) (xs : MoreElements) (e : Token) (ts : List Token) → sort b ≡ s.LeftBrace → IsElement x → AreMoreElements xs → sort e ≡ s.RightBrace
+step_listed : (n count at : ℕ) (q b : Token) (x : Element) (xs : MoreElements) (e : Token) (ts : List Token) → sort b ≡ s.LeftBrace → IsElement x → AreMoreElements xs
+    → sort e ≡ s.RightBrace
     → length (spelled_element x ++ (spelled_more_elements xs ++ e ∷ ts)) < n
     → rd.initials_by n (Some count) (spot at (q ∷ b ∷ (spelled_element x ++ (spelled_more_elements xs ++ e ∷ ts))))
     ≡ Ok (Some (element_of (suc (suc at)) x ∷ more_elements_of (suc (suc at) + length (spelled_element x)) xs),
@@ -208,7 +214,8 @@ step_variable n l ty (dc.array_set o m c q b x xs z) at e ts is may is_e short =
         fits _ _ n (ap (λ u. o ∷ m ∷ c ∷ q ∷ b ∷ u) parts) short in
     parted (rd.variable n l ty) (suc at) (ap (λ u. o ∷ m ∷ c ∷ q ∷ b ∷ u) parts)
     (then_ _ (step_size (suc at) o m c (q ∷ b ∷ (spelled_element x ++ (spelled_more_elements xs ++ z ∷ e ∷ ts))) is.0)
-    (then_ _ (its_initials n l (Some (value_in m.kind)) (spot (suc (suc (suc (suc at)))) (q ∷ b ∷ (spelled_element x ++ (spelled_more_elements xs ++ z ∷ e ∷ ts)))) is.1 own
+    (then_ _ (its_initials n l (Some (value_in m.kind))
+        (spot (suc (suc (suc (suc at)))) (q ∷ b ∷ (spelled_element x ++ (spelled_more_elements xs ++ z ∷ e ∷ ts)))) is.1 own
         ∙ step_listed n (value_in m.kind) (suc (suc (suc (suc at)))) q b x xs z (e ∷ ts) is.2 is.3 is.4 is.5 (omega arith))
     (then_ _ (step_expect s.Semicolon (suc (suc (suc (suc (suc (suc (suc at))))) + length (spelled_element x) + length (spelled_more_elements xs))) e ts is_e)
     (variable_is _ _ _ _ ts (array_is ty (value_in m.kind) x xs _ _ _ _ (omega arith) (omega arith))

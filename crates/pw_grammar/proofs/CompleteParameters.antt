@@ -56,15 +56,18 @@ step_storage (Some t) at ts (inr is) extern static =
     ∙ either_this s.Static (rd.given linkage.Static) (pure linkage.Plain) (spot at (t ∷ ts)) is
     ∙ valued (linkage_by (sort t)) (counted _ (step_given linkage.Static at t ts) (omega arith)) (sym (ap linkage_by is))
 
-pub step_result : (c : ResultPhrase) (at : ℕ) (ts : List Token) → IsResult c → rd.result (spot at (spelled_result c ++ ts)) ≡ Ok (result_in c, spot (at + length (spelled_result c)) ts)
+pub step_result : (c : ResultPhrase) (at : ℕ) (ts : List Token) → IsResult c
+    → rd.result (spot at (spelled_result c ++ ts)) ≡ Ok (result_in c, spot (at + length (spelled_result c)) ts)
 unfolding rd.result
 step_result (dc.nothing t) at ts is = either_this s.Void (rd.given ty.Void) r.type_name (spot at (t ∷ ts)) is ∙ counted _ (step_given ty.Void at t ts) (omega arith)
 step_result (dc.value c) at ts is =
-    either_other s.Void (rd.given ty.Void) r.type_name (spot at (spelled_type c ++ ts)) (told_apart r.begins_type (type_begins c ts is) no_type_void) ∙ step_type c at ts is
+    either_other s.Void (rd.given ty.Void) r.type_name (spot at (spelled_type c ++ ts)) (told_apart r.begins_type (type_begins c ts is) no_type_void)
+        ∙ step_type c at ts is
 
 -- ---- parameters
 
-step_maybe_name : (x : Option Token) (at : ℕ) (ts : List Token) → IsNamed x → first_sort ts ≢ s.Name → rd.maybe_name (spot at (spelled_name x ++ ts)) ≡ Ok (named x, spot (at + length (spelled_name x)) ts)
+step_maybe_name : (x : Option Token) (at : ℕ) (ts : List Token) → IsNamed x → first_sort ts ≢ s.Name
+    → rd.maybe_name (spot at (spelled_name x ++ ts)) ≡ Ok (named x, spot (at + length (spelled_name x)) ts)
 unfolding rd.maybe_name r.some
 step_maybe_name None at ts is other = either_other s.Name (r.some name) (pure None) (spot at ts) other ∙ done None _ ts (omega arith)
 step_maybe_name (Some t) at ts is other = either_this s.Name (r.some name) (pure None) (spot at (t ∷ ts)) is ∙ then_ _ (step_name at t ts is) (done _ _ ts (omega arith))
@@ -103,7 +106,8 @@ next_parameter turns found = do
 
 step_more_parameters : (turns : ℕ) (ps : MoreParameters) (found : List Param) (at : ℕ) (ts : List Token) → AreMoreParameters ps → first_sort ts ≡ s.RightParen
     → length (spelled_more_parameters ps ++ ts) < turns
-    → rd.more_parameters turns found (spot at (spelled_more_parameters ps ++ ts)) ≡ Ok (found ++ more_parameters_of at ps, spot (at + length (spelled_more_parameters ps)) ts)
+    → rd.more_parameters turns found (spot at (spelled_more_parameters ps ++ ts))
+    ≡ Ok (found ++ more_parameters_of at ps, spot (at + length (spelled_more_parameters ps)) ts)
 unfolding rd.more_parameters spelled_more_parameters AreMoreParameters more_parameters_of next_parameter
 step_more_parameters zero ps found at ts is end short = absurd (omega arith)
 step_more_parameters (suc turns) dc.end found at ts is end short =

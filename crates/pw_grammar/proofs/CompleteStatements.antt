@@ -38,7 +38,8 @@ ReadsPart stmt y at ts = stmt (spot at (st.spelled_statement y ++ ts)) ≡ Ok (s
 tested_parts : (t o : Token) (v : List Token) (c : Token) (w ts : List Token) → (t ∷ o ∷ (v ++ c ∷ w)) ++ ts ≡ t ∷ o ∷ (v ++ c ∷ (w ++ ts))
 tested_parts t o v c w ts = ap (λ u. t ∷ o ∷ u) (append_assoc v (c ∷ w) ts)
 
-pub reads_while : (n : ℕ) (expr : Parser Expr) (stmt : Parser Stmt) → ReadsExpressions n expr → (at : ℕ) (t o : Token) (a : Phrase) (c : Token) (y : st.Statement) (ts : List Token)
+pub reads_while : (n : ℕ) (expr : Parser Expr) (stmt : Parser Stmt) → ReadsExpressions n expr
+    → (at : ℕ) (t o : Token) (a : Phrase) (c : Token) (y : st.Statement) (ts : List Token)
     → sort o ≡ s.LeftParen → IsAt 13 a → sort c ≡ s.RightParen → length (st.spelled_statement (st.while_do t o a c y) ++ ts) < n
     → ReadsPart stmt y (st.behind_test at a) ts
     → r.while_loop expr stmt (spot at (st.spelled_statement (st.while_do t o a c y) ++ ts))
@@ -53,7 +54,8 @@ reads_while n expr stmt reads at t o a c y ts is_o is_a is_c short part =
     (then_ _ (reads_test n expr reads (suc at) o a c (st.spelled_statement y ++ ts) is_o is_a is_c (omega arith))
     (then_ _ part (done _ _ ts (omega (arith, length-append (spelled a) (c ∷ st.spelled_statement y)))))))
 
-pub reads_if_only : (n : ℕ) (expr : Parser Expr) (stmt : Parser Stmt) → ReadsExpressions n expr → (at : ℕ) (t o : Token) (a : Phrase) (c : Token) (y : st.Statement) (ts : List Token)
+pub reads_if_only : (n : ℕ) (expr : Parser Expr) (stmt : Parser Stmt) → ReadsExpressions n expr
+    → (at : ℕ) (t o : Token) (a : Phrase) (c : Token) (y : st.Statement) (ts : List Token)
     → sort o ≡ s.LeftParen → IsAt 13 a → sort c ≡ s.RightParen → first_sort ts ≢ s.Else → length (st.spelled_statement (st.if_only t o a c y) ++ ts) < n
     → ReadsPart stmt y (st.behind_test at a) ts
     → r.conditional expr stmt (spot at (st.spelled_statement (st.if_only t o a c y) ++ ts))

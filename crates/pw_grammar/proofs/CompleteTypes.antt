@@ -36,7 +36,8 @@ pub step_type : (c : TypePhrase) (at : ℕ) (ts : List Token) → IsType c
     → r.type_name (spot at (spelled_type c ++ ts)) ≡ Ok (type_in c, spot (at + length (spelled_type c)) ts)
 unfolding r.type_name r.unsigned_long
 step_type (word t) at ts (y, e) =
-    ap (λ b. if b then r.unsigned_long (spot at (t ∷ ts)) else r.type_by (type_of (sort t)) (spot at (t ∷ ts))) (sees_other s.Unsigned (spot at (t ∷ ts)) (one_word (sort t) y e))
+    ap (λ b. if b then r.unsigned_long (spot at (t ∷ ts)) else r.type_by (type_of (sort t)) (spot at (t ∷ ts)))
+        (sees_other s.Unsigned (spot at (t ∷ ts)) (one_word (sort t) y e))
     ∙ counted _ (by_word (type_of (sort t)) y at t ts e) (omega arith)
 step_type (unsigned u l) at ts (e, f) =
     ap (λ b. if b then r.unsigned_long (spot at (u ∷ l ∷ ts)) else r.type_by (type_of (sort u)) (spot at (u ∷ l ∷ ts))) (sees_it s.Unsigned (spot at (u ∷ l ∷ ts)) e)
@@ -57,7 +58,8 @@ type_length (word t) = omega arith
 type_length (unsigned u l) = omega arith
 
 pub local_begins : (l : Local) (ts : List Token) → IsLocal l → r.begins_type (first_sort (spelled_local l ++ ts)) ≡ true
-local_begins (plain c x e) ts is = subst (λ v. r.begins_type (first_sort v) ≡ true) (sym (append_assoc (spelled_type c) (x ∷ e ∷ []) ts)) (type_begins c (x ∷ e ∷ ts) is.0)
+local_begins (plain c x e) ts is = subst (λ v. r.begins_type (first_sort v) ≡ true) (sym (append_assoc (spelled_type c) (x ∷ e ∷ []) ts))
+    (type_begins c (x ∷ e ∷ ts) is.0)
 local_begins (set c x q a e) ts is =
     subst (λ v. r.begins_type (first_sort v) ≡ true) (sym (append_assoc (spelled_type c) (x ∷ q ∷ (spelled a ++ e ∷ [])) ts)) (type_begins c _ is.0)
 
