@@ -1,18 +1,18 @@
 -- Every statement is read, and so is what stands in a block.
-use Rattle.std.proofs.Common.{◌≡◌, ◌≢◌, refl, sym, ◌∙◌, ap, subst, ℕ, zero, suc, ◌+◌, ◌-◌, ◌<◌, ◌≤◌, ◌==◌, List, [], ◌∷◌, ◌++◌, length, Result, Ok, Err, Bool, true, false, if◌then◌else◌, Option, Some, None, ◌⊎◌, inl, inr, arith}
+use Rattle.std.proofs.Common.{◌≡◌, ◌≢◌, refl, sym, ◌∙◌, ap, subst, ℕ, zero, suc, ◌+◌, ◌<◌, List, [], ◌∷◌, ◌++◌, length, Ok, Bool, true, false, if◌then◌else◌, inl, inr, arith}
 use Rattle.std.proofs.lemmas.List.{append_assoc, append-nil, length-append}
 use Rattle.pw_grammar.specs.declared.sort.Sort.{Sort}
 use Rattle.pw_grammar.specs.declared.sort.Sort.TheVariants as s
 use Rattle.pw_grammar.specs.Terminals.{sort, first_sort, is_same}
-use Rattle.pw_grammar.specs.Expressions.{Phrase, spelled, IsAt}
+use Rattle.pw_grammar.specs.Expressions.{spelled}
 use Rattle.pw_grammar.specs.Statements as st
 use Rattle.pw_grammar.specs.Statements.{Statement, Statements, empty, block, declare, simple, if_only, if_else, while_do, do_while, for_do, leave, jump, nil, cons, spelled_statement, spelled_statements, IsStatement, AreStatements, open_ended, kind_of, tree_of_statement, trees_of_statements, spelled_simple, spelled_local, kind_of_local, first_line, statement_node, jump_of}
-use Rattle.pw_grammar.specs.Steps.{Place, Outcome, Parser, and_then, ◌>>=◌, pure, refuse, next_sort, sees, here, take, skip, expect, name, either, finish_statement}
+use Rattle.pw_grammar.specs.Steps.{Place, Parser, ◌>>=◌, pure, next_sort}
 use Rattle.pw_grammar.specs.ReadingExpressions.{expression}
 use Rattle.pw_grammar.specs.ReadingStatements as r
-use Rattle.pw_grammar.proofs.CompleteSteps.{spot, then_, counted, done, valued, step_skip, step_expect, step_name, sees_it, sees_other, either_this, either_other, behind, parted, told_apart, line_of_front, same_line, fits, node_is, ends_part, ReadsExpressions}
-use Rattle.pw_grammar.proofs.CompleteTypes.{reads_local, local_begins, no_type_is}
-use Rattle.pw_grammar.proofs.CompleteStarts.{starts_expression, phrase_starts, simple_starts, simple_length, some_tokens, starts_statement, statement_too, begins_no_type, form_of_expression}
+use Rattle.pw_grammar.proofs.CompleteTokens.{spot, then_, counted, done, valued, step_skip, step_expect, either_this, either_other, parted, told_apart, line_of_front, fits, node_is, ReadsExpressions}
+use Rattle.pw_grammar.proofs.CompleteTypes.{reads_local, local_begins}
+use Rattle.pw_grammar.proofs.CompleteStarts.{starts_expression, simple_starts, some_tokens, starts_statement, statement_too, begins_no_type, form_of_expression}
 use Rattle.pw_grammar.proofs.CompleteStatements.{no_other, ReadsPart, reads_while, reads_if_only, reads_if_else, reads_do}
 use Rattle.pw_grammar.proofs.CompleteLoops.{reads_for, reads_return, reads_jump, reads_empty, reads_evaluated}
 use Rattle.pw_tree.specs.declared.expr.Expr.{Expr}
@@ -74,7 +74,8 @@ no_type_brace = refl
 element_length : (y : Statement) → Kind y → 0 < length (spelled_statement y)
 unfolding spelled_statement
 element_length y (a_statement is) =
-    some_tokens starts_statement (spelled_statement y) refl (subst (λ ts. starts_statement (first_sort ts) ≡ true) (append-nil (spelled_statement y)) (statement_starts y [] is))
+    some_tokens starts_statement (spelled_statement y) refl
+        (subst (λ ts. starts_statement (first_sort ts) ≡ true) (append-nil (spelled_statement y)) (statement_starts y [] is))
 element_length y (a_local l same is) = subst (λ y. 0 < length (spelled_statement y)) (sym same)
     (some_tokens r.begins_type (spelled_local l) no_type_ends (subst (λ ts. r.begins_type (first_sort ts) ≡ true) (append-nil (spelled_local l)) (local_begins l [] is)))
 
@@ -85,19 +86,22 @@ reads_one : (n : ℕ) (expr : Parser Expr) (stmt : Parser Stmt) → ReadsExpress
     → r.element expr stmt (spot at (spelled_statement y ++ ts)) ≡ Ok (tree_of_statement at y, spot (at + length (spelled_statement y)) ts)
 unfolding r.element spelled_statement kind_of
 reads_one n expr stmt reads y at ts (a_statement is) short part =
-    ap (λ b. if b then r.local expr (spot at (spelled_statement y ++ ts)) else stmt (spot at (spelled_statement y ++ ts))) (begins_no_type _ (statement_starts y ts is)) ∙ part is
+    ap (λ b. if b then r.local expr (spot at (spelled_statement y ++ ts)) else stmt (spot at (spelled_statement y ++ ts))) (begins_no_type _ (statement_starts y ts is))
+        ∙ part is
 reads_one n expr stmt reads y at ts (a_local l same is) short part =
     subst (λ y. r.element expr stmt (spot at (spelled_statement y ++ ts)) ≡ Ok (tree_of_statement at y, spot (at + length (spelled_statement y)) ts)) (sym same)
     (ap (λ b. if b then r.local expr (spot at (spelled_local l ++ ts)) else stmt (spot at (spelled_local l ++ ts))) (local_begins l ts is)
     ∙ reads_local n expr reads l at ts is (subst (λ y. length (spelled_statement y ++ ts) < n) same short))
 
-no_elements : (expr : Parser Expr) (stmt : Parser Stmt) (turns : ℕ) (found : List Stmt) (i : Place) → next_sort i ≡ s.RightBrace → r.elements expr stmt turns found i ≡ Ok (found, i)
+no_elements : (expr : Parser Expr) (stmt : Parser Stmt) (turns : ℕ) (found : List Stmt) (i : Place) → next_sort i ≡ s.RightBrace
+    → r.elements expr stmt turns found i ≡ Ok (found, i)
 unfolding r.elements
 no_elements expr stmt zero found i is = refl
 no_elements expr stmt (suc turns) found i is =
     either_this s.RightBrace (pure found) (r.element expr stmt >>= (λ y. r.elements expr stmt turns (found ++ y ∷ []))) i is
 
-one_element : (expr : Parser Expr) (stmt : Parser Stmt) (turns : ℕ) (found : List Stmt) (i j : Place) (y : Stmt) → next_sort i ≢ s.RightBrace → r.element expr stmt i ≡ Ok (y, j)
+one_element : (expr : Parser Expr) (stmt : Parser Stmt) (turns : ℕ) (found : List Stmt) (i j : Place) (y : Stmt) → next_sort i ≢ s.RightBrace
+    → r.element expr stmt i ≡ Ok (y, j)
     → r.elements expr stmt (suc turns) found i ≡ r.elements expr stmt turns (found ++ y ∷ []) j
 unfolding r.elements
 one_element expr stmt turns found i j y other reads =
@@ -114,7 +118,8 @@ unfolding spelled_statements trees_of_statements
 elements_nil expr stmt turns at ts is = λ found.
     valued (found ++ []) (counted (at + 0) (no_elements expr stmt turns found (spot at ts) is) (omega arith)) (sym (append-nil found))
 
-elements_cons : (n : ℕ) (expr : Parser Expr) (stmt : Parser Stmt) → ReadsExpressions n expr → (turns : ℕ) (y : Statement) (ys : Statements) (at : ℕ) (ts : List Token) → Kind y
+elements_cons : (n : ℕ) (expr : Parser Expr) (stmt : Parser Stmt) → ReadsExpressions n expr → (turns : ℕ) (y : Statement) (ys : Statements) (at : ℕ) (ts : List Token)
+    → Kind y
     → length (spelled_statements (cons y ys) ++ ts) < n → (IsStatement false y → ReadsPart stmt y at (spelled_statements ys ++ ts))
     → ReadsElements expr stmt turns ys (at + length (spelled_statement y)) ts → ReadsElements expr stmt (suc turns) (cons y ys) at ts
 unfolding spelled_statements trees_of_statements
@@ -122,7 +127,8 @@ elements_cons n expr stmt reads turns y ys at ts kind short part rest = λ found
     let parts : (spelled_statement y ++ spelled_statements ys) ++ ts ≡ spelled_statement y ++ (spelled_statements ys ++ ts) =
         append_assoc (spelled_statement y) (spelled_statements ys) ts in
     parted (r.elements expr stmt (suc turns) found) at parts
-    (one_element expr stmt turns found (spot at (spelled_statement y ++ (spelled_statements ys ++ ts))) (spot (at + length (spelled_statement y)) (spelled_statements ys ++ ts))
+    (one_element expr stmt turns found (spot at (spelled_statement y ++ (spelled_statements ys ++ ts)))
+        (spot (at + length (spelled_statement y)) (spelled_statements ys ++ ts))
         (tree_of_statement at y) (element_no y s.RightBrace (spelled_statements ys ++ ts) refl no_type_brace kind)
         (reads_one n expr stmt reads y at (spelled_statements ys ++ ts) kind (fits _ _ n parts short) part)
     ∙ valued _ (counted _ (rest (found ++ tree_of_statement at y ∷ [])) (omega (arith, length-append (spelled_statement y) (spelled_statements ys))))
@@ -143,7 +149,8 @@ reads_block expr stmt n at o ys c ts is_c elements =
     parted (r.block expr stmt n) at (ap (λ u. o ∷ u) (append_assoc (spelled_statements ys) (c ∷ []) ts))
     (then_ _ (step_skip at o _)
     (then_ _ (elements [])
-    (then_ _ (step_expect s.RightBrace (suc at + length (spelled_statements ys)) c ts is_c) (done _ _ ts (omega (arith, length-append (spelled_statements ys) (c ∷ [])))))))
+    (then_ _ (step_expect s.RightBrace (suc at + length (spelled_statements ys)) c ts is_c)
+        (done _ _ ts (omega (arith, length-append (spelled_statements ys) (c ∷ [])))))))
 
 -- ---- any statement
 

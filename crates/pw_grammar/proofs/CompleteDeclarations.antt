@@ -1,32 +1,28 @@
 -- Every declaration is read, and every unit.
-use Rattle.std.proofs.Common.{◌≡◌, ◌≢◌, refl, sym, ◌∙◌, ap, subst, ℕ, zero, suc, ◌+◌, ◌-◌, ◌<◌, ◌≤◌, List, [], ◌∷◌, ◌++◌, length, Result, Ok, Err, Bool, true, false, not, ◌&&◌, ◌||◌, if◌then◌else◌, Option, Some, None, ◌⊎◌, inl, inr, arith}
+use Rattle.std.proofs.Common.{◌≡◌, ◌≢◌, refl, sym, ◌∙◌, ap, subst, ℕ, zero, suc, ◌+◌, ◌-◌, ◌<◌, List, [], ◌∷◌, ◌++◌, length, Ok, true, false, not, ◌&&◌, ◌||◌, if◌then◌else◌, Option, Some, None, inl, inr, arith}
 use Rattle.std.proofs.lemmas.List.{append_assoc, append-nil, length-append}
 use Rattle.std.specs.List.{list_all}
-use Rattle.std.specs.Bool.{⊤}
 use Rattle.pw_grammar.specs.declared.sort.Sort.{Sort}
 use Rattle.pw_grammar.specs.declared.sort.Sort.TheVariants as s
 use Rattle.pw_grammar.specs.Terminals.{sort, first_sort, is_same}
 use Rattle.pw_grammar.specs.Expressions.{name_in}
-use Rattle.pw_grammar.specs.Statements.{TypePhrase, word, unsigned, spelled_type, IsType, type_of, type_in, type_or, first_line, Statements, spelled_statements, AreStatements, trees_of_statements}
+use Rattle.pw_grammar.specs.Statements.{TypePhrase, word, unsigned, spelled_type, IsType, type_of, type_in, type_or, Statements, spelled_statements, trees_of_statements}
 use Rattle.pw_grammar.specs.Declarations as dc
 use Rattle.pw_grammar.specs.Declarations.{spelled_storage, IsStorage, IsDefining, linkage_of, linkage_by, ResultPhrase, spelled_result, IsResult, result_in, Parameters, spelled_parameters, AreParameters, HaveNames, parameters_of, Variable, spelled_variable, IsVariable, MayHave, count_in, extent, elements_of, Declaration, prototype, function, variable, spelled_declaration, IsDeclaration, name_at, behind_parameters, tree_of_declaration, UnitPhrase, spelled_unit, IsUnit, trees_of_declarations}
-use Rattle.pw_grammar.specs.Steps.{Place, Outcome, Parser, and_then, ◌>>=◌, pure, refuse, next_sort, sees, here, take, skip, expect, name, either}
+use Rattle.pw_grammar.specs.Steps.{Place, Parser, ◌>>=◌, pure, refuse, next_sort}
 use Rattle.pw_grammar.specs.ReadingExpressions.{expression}
 use Rattle.pw_grammar.specs.ReadingStatements as r
 use Rattle.pw_grammar.specs.ReadingDeclarations as rd
-use Rattle.pw_grammar.proofs.CompleteSteps.{spot, then_, counted, done, valued, step_skip, step_expect, step_name, sees_it, sees_other, either_this, either_other, behind, parted, told_apart, fits, ReadsExpressions}
-use Rattle.pw_grammar.proofs.CompleteTypes.{type_begins, type_length}
+use Rattle.pw_grammar.proofs.CompleteTokens.{spot, then_, counted, done, valued, step_skip, step_expect, step_name, sees_it, sees_other, either_this, either_other, behind, parted, fits, ReadsExpressions}
 use Rattle.pw_grammar.proofs.CompleteStatements.{no_other}
 use Rattle.pw_grammar.proofs.CompleteBlocks.{ReadsElements, reads_statements}
 use Rattle.pw_grammar.proofs.CompleteParameters.{result_no, step_storage, step_result, step_parameters, all_named}
 use Rattle.pw_grammar.proofs.CompleteInitials.{may_be, step_variable}
 use Rattle.pw_tree.specs.declared.ty.Ty.{Ty}
-use Rattle.pw_tree.specs.declared.ty.Ty.TheVariants as ty
 use Rattle.pw_tree.specs.declared.expr.Expr.{Expr}
 use Rattle.pw_tree.specs.declared.stmt.Stmt.{Stmt}
 use Rattle.pw_tree.specs.declared.decl.Param.{Param}
 use Rattle.pw_tree.specs.declared.decl.Linkage.{Linkage}
-use Rattle.pw_tree.specs.declared.decl.Linkage.TheVariants as linkage
 use Rattle.pw_tree.specs.declared.decl.DeclKind.{DeclKind}
 use Rattle.pw_tree.specs.declared.decl.DeclKind.TheVariants as d
 use Rattle.pw_tree.specs.declared.decl.Decl.{Decl}
@@ -65,16 +61,19 @@ reads_front : (expr : Parser Expr) (stmt : Parser Stmt) (n at : ℕ) (g : Option
     → rd.declaration expr stmt n (spot at (spelled_storage g ++ (spelled_result c ++ x ∷ ts))) ≡ Ok (declared at g c x p last, spot m us)
 unfolding rd.declaration
 reads_front expr stmt n at g c x ts p last m us is_g is_c is_x reads ends =
-    then_ _ (step_storage g at (spelled_result c ++ x ∷ ts) is_g (result_no c (x ∷ ts) s.Extern is_c no_type_extern (λ p. cc)) (result_no c (x ∷ ts) s.Static is_c no_type_static (λ p. cc)))
+    then_ _ (step_storage g at (spelled_result c ++ x ∷ ts) is_g (result_no c (x ∷ ts) s.Extern is_c no_type_extern (λ p. cc))
+        (result_no c (x ∷ ts) s.Static is_c no_type_static (λ p. cc)))
     (then_ _ (step_result c (at + length (spelled_storage g)) (x ∷ ts) is_c)
     (then_ _ (step_name (name_at at g (spelled_result c)) x ts is_x)
     (then_ _ reads (ap (λ k. pure (declared at g c x p k) (spot m us)) (let same : m - 1 ≡ last = omega arith in same)))))
 
 -- ---- functions
 
-a_function : (expr : Parser Expr) (stmt : Parser Stmt) (n : ℕ) (l : Linkage) (y : Ty) (j : Place) → next_sort j ≡ s.LeftParen → rd.declarator expr stmt n l y j ≡ rd.function expr stmt n l y j
+a_function : (expr : Parser Expr) (stmt : Parser Stmt) (n : ℕ) (l : Linkage) (y : Ty) (j : Place) → next_sort j ≡ s.LeftParen
+    → rd.declarator expr stmt n l y j ≡ rd.function expr stmt n l y j
 unfolding rd.declarator
-a_function expr stmt n l y j is = ap (λ b. if b then rd.function expr stmt n l y j else (if rd.is_void y then refuse j else rd.variable n l y j)) (sees_it s.LeftParen j is)
+a_function expr stmt n l y j is = ap (λ b. if b then rd.function expr stmt n l y j else (if rd.is_void y then refuse j else rd.variable n l y j))
+    (sees_it s.LeftParen j is)
 
 a_variable : (expr : Parser Expr) (stmt : Parser Stmt) (n : ℕ) (l : Linkage) (y : Ty) (j : Place) → next_sort j ≢ s.LeftParen → rd.is_void y ≡ false
     → rd.declarator expr stmt n l y j ≡ rd.variable n l y j
@@ -129,13 +128,16 @@ reads_function expr stmt n l y at o ps c ts kind j are is_c short reads =
     (then_ _ (step_expect s.RightParen (suc at + length (spelled_parameters ps)) c ts is_c)
     (then_ _ reads refl)))
 
-a_prototype : (y : Ty) (ps : List Param) (at : ℕ) (e : Token) (ts : List Token) → sort e ≡ s.Semicolon → rd.prototype y ps (spot at (e ∷ ts)) ≡ Ok (d.Proto y ps, spot (suc at) ts)
+a_prototype : (y : Ty) (ps : List Param) (at : ℕ) (e : Token) (ts : List Token) → sort e ≡ s.Semicolon
+    → rd.prototype y ps (spot at (e ∷ ts)) ≡ Ok (d.Proto y ps, spot (suc at) ts)
 unfolding rd.prototype
 a_prototype y ps at e ts is = then_ _ (step_expect s.Semicolon at e ts is) refl
 
-a_body : (expr : Parser Expr) (stmt : Parser Stmt) (n : ℕ) (y : Ty) (ps : List Param) (at : ℕ) (b : Token) (ys : Statements) (e : Token) (ts : List Token) → sort b ≡ s.LeftBrace → sort e ≡ s.RightBrace
+a_body : (expr : Parser Expr) (stmt : Parser Stmt) (n : ℕ) (y : Ty) (ps : List Param) (at : ℕ) (b : Token) (ys : Statements) (e : Token) (ts : List Token)
+    → sort b ≡ s.LeftBrace → sort e ≡ s.RightBrace
     → ReadsElements expr stmt n ys (suc at) (e ∷ ts)
-    → rd.body expr stmt n y ps (spot at (b ∷ (spelled_statements ys ++ e ∷ ts))) ≡ Ok (d.Fun y ps (trees_of_statements (suc at) ys), spot (suc (suc at + length (spelled_statements ys))) ts)
+    → rd.body expr stmt n y ps (spot at (b ∷ (spelled_statements ys ++ e ∷ ts)))
+    ≡ Ok (d.Fun y ps (trees_of_statements (suc at) ys), spot (suc (suc at + length (spelled_statements ys))) ts)
 unfolding rd.body
 a_body expr stmt n y ps at b ys e ts is_b is_e elements =
     then_ _ (step_expect s.LeftBrace at b _ is_b) (then_ _ (elements []) (then_ _ (step_expect s.RightBrace (suc at + length (spelled_statements ys)) e ts is_e) refl))
@@ -179,17 +181,22 @@ variable_no (dc.scalar_set q x) e ts is is_e = no_other is.0 (λ p. cc)
 variable_no (dc.array o n c) e ts is is_e = no_other is.0 (λ p. cc)
 variable_no (dc.array_set o n c q b x xs z) e ts is is_e = no_other is.0.0 (λ p. cc)
 
-pub reads_declaration : ((m : ℕ) → ReadsExpressions m (expression m)) → (n : ℕ) (c : Declaration) (at : ℕ) (ts : List Token) → IsDeclaration c → length (spelled_declaration c ++ ts) < n
-    → rd.declaration (expression n) (r.statement n) n (spot at (spelled_declaration c ++ ts)) ≡ Ok (tree_of_declaration at c, spot (at + length (spelled_declaration c)) ts)
+pub reads_declaration : ((m : ℕ) → ReadsExpressions m (expression m)) → (n : ℕ) (c : Declaration) (at : ℕ) (ts : List Token) → IsDeclaration c
+    → length (spelled_declaration c ++ ts) < n
+    → rd.declaration (expression n) (r.statement n) n (spot at (spelled_declaration c ++ ts))
+    ≡ Ok (tree_of_declaration at c, spot (at + length (spelled_declaration c)) ts)
 reads_declaration reads n (prototype g y x o ps c e) at ts (is_g, is_y, is_x, is_o, are, is_c, is_e) short =
     let parts : spelled_declaration (prototype g y x o ps c e) ++ ts ≡ spelled_storage g ++ (spelled_result y ++ x ∷ o ∷ (spelled_parameters ps ++ c ∷ e ∷ ts)) =
         function_parts (spelled_storage g) (spelled_result y) x o (spelled_parameters ps) (c ∷ e ∷ []) ts in
     let inner : length (o ∷ (spelled_parameters ps ++ c ∷ e ∷ ts)) < n = front_fits (spelled_storage g) (spelled_result y) x _ n (fits _ _ n parts short) in
     parted (rd.declaration (expression n) (r.statement n) n) at parts
-    (counted _ (reads_front (expression n) (r.statement n) n at g y x (o ∷ (spelled_parameters ps ++ c ∷ e ∷ ts)) _ (suc (behind_parameters at g y ps)) _ ts is_g is_y is_x
-        (a_function (expression n) (r.statement n) n (linkage_of g) (result_in y) (spot (suc (name_at at g (spelled_result y))) (o ∷ (spelled_parameters ps ++ c ∷ e ∷ ts))) is_o
+    (counted _ (reads_front (expression n) (r.statement n) n at g y x (o ∷ (spelled_parameters ps ++ c ∷ e ∷ ts)) _
+        (suc (behind_parameters at g y ps)) _ ts is_g is_y is_x
+        (a_function (expression n) (r.statement n) n (linkage_of g) (result_in y)
+            (spot (suc (name_at at g (spelled_result y))) (o ∷ (spelled_parameters ps ++ c ∷ e ∷ ts))) is_o
         ∙ reads_function (expression n) (r.statement n) n (linkage_of g) (result_in y) (suc (name_at at g (spelled_result y))) o ps c (e ∷ ts) _ _ are is_c (omega arith)
-            (ends_here (expression n) (r.statement n) n (linkage_of g) (result_in y) (parameters_of (suc (suc (name_at at g (spelled_result y)))) ps) (spot (suc (behind_parameters at g y ps)) (e ∷ ts)) is_e
+            (ends_here (expression n) (r.statement n) n (linkage_of g) (result_in y) (parameters_of (suc (suc (name_at at g (spelled_result y)))) ps)
+                (spot (suc (behind_parameters at g y ps)) (e ∷ ts)) is_e
             ∙ a_prototype (result_in y) (parameters_of (suc (suc (name_at at g (spelled_result y)))) ps) (suc (behind_parameters at g y ps)) e ts is_e))
         refl)
     (omega (arith, length-append (spelled_storage g) (spelled_result y ++ x ∷ o ∷ (spelled_parameters ps ++ c ∷ e ∷ [])),
@@ -206,11 +213,13 @@ reads_declaration reads n (function g y x o ps c b body e) at ts (is_g, is_y, is
         (suc (suc (behind_parameters at g y ps)) + length (spelled_statements body)) _ ts (defines g is_g) is_y is_x
         (a_function (expression n) (r.statement n) n (linkage_of g) (result_in y)
             (spot (suc (name_at at g (spelled_result y))) (o ∷ (spelled_parameters ps ++ c ∷ b ∷ (spelled_statements body ++ e ∷ ts)))) is_o
-        ∙ reads_function (expression n) (r.statement n) n (linkage_of g) (result_in y) (suc (name_at at g (spelled_result y))) o ps c (b ∷ (spelled_statements body ++ e ∷ ts)) _ _ are is_c (omega arith)
+        ∙ reads_function (expression n) (r.statement n) n (linkage_of g) (result_in y) (suc (name_at at g (spelled_result y))) o ps c
+            (b ∷ (spelled_statements body ++ e ∷ ts)) _ _ are is_c (omega arith)
             (has_body (expression n) (r.statement n) n (linkage_of g) (result_in y) (parameters_of (suc (suc (name_at at g (spelled_result y)))) ps)
                 (spot (suc (behind_parameters at g y ps)) (b ∷ (spelled_statements body ++ e ∷ ts))) (no_other is_b (λ p. cc))
                 (may_it (linkage_of g) _ (own_definition g is_g) (all_named ps (suc (suc (name_at at g (spelled_result y)))) names))
-            ∙ a_body (expression n) (r.statement n) n (result_in y) (parameters_of (suc (suc (name_at at g (spelled_result y)))) ps) (suc (behind_parameters at g y ps)) b body e ts is_b is_e
+            ∙ a_body (expression n) (r.statement n) n (result_in y) (parameters_of (suc (suc (name_at at g (spelled_result y)))) ps)
+                (suc (behind_parameters at g y ps)) b body e ts is_b is_e
                 (reads_statements reads n n n body (suc (suc (behind_parameters at g y ps))) (e ∷ ts) is is_e deeper deeper deeper)))
         refl)
     (omega (arith, length-append (spelled_storage g) (spelled_result y ++ x ∷ o ∷ (spelled_parameters ps ++ c ∷ b ∷ (spelled_statements body ++ e ∷ []))),

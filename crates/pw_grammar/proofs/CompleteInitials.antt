@@ -1,24 +1,20 @@
 -- Initialisers and variables are read.
-use Rattle.std.proofs.Common.{◌≡◌, ◌≢◌, refl, sym, ◌∙◌, ap, subst, ℕ, zero, suc, ◌+◌, ◌-◌, ◌<◌, ◌≤◌, List, [], ◌∷◌, ◌++◌, length, Result, Ok, Err, Bool, true, false, not, ◌&&◌, ◌||◌, if◌then◌else◌, Option, Some, None, ◌⊎◌, inl, inr, arith}
+use Rattle.std.proofs.Common.{◌≡◌, ◌≢◌, refl, sym, ◌∙◌, ap, ℕ, zero, suc, ◌+◌, ◌<◌, List, [], ◌∷◌, ◌++◌, length, Ok, Bool, true, false, not, ◌&&◌, ◌||◌, if◌then◌else◌, Option, Some, None, ◌⊎◌, inl, inr, arith}
 use Rattle.std.proofs.lemmas.List.{append_assoc, append-nil, length-append}
 use Rattle.pw_grammar.specs.declared.sort.Sort.{Sort}
 use Rattle.pw_grammar.specs.declared.sort.Sort.TheVariants as s
-use Rattle.pw_grammar.specs.Terminals.{sort, first_sort, is_same}
-use Rattle.pw_grammar.specs.Expressions.{name_in, value_in, IsConstant}
+use Rattle.pw_grammar.specs.Terminals.{sort, first_sort}
+use Rattle.pw_grammar.specs.Expressions.{value_in, IsConstant}
 use Rattle.pw_grammar.specs.Statements.{first_line}
 use Rattle.pw_grammar.specs.Declarations as dc
 use Rattle.pw_grammar.specs.Declarations.{Element, spelled_element, IsElement, negated, kind_of_element, element_of, MoreElements, spelled_more_elements, AreMoreElements, more_elements_of, Variable, spelled_variable, IsExtent, IsVariable, HasNoValue, MayHave, count_in, extent, elements_of, linkage_of, linkage_by}
-use Rattle.pw_grammar.specs.Steps.{Place, Outcome, Parser, and_then, ◌>>=◌, pure, refuse, next_sort, sees, here, take, skip, expect, name, either}
-use Rattle.pw_grammar.specs.ReadingStatements as r
+use Rattle.pw_grammar.specs.Steps.{Place, Parser, and_then, ◌>>=◌, pure, refuse, next_sort, sees, take, skip, either}
 use Rattle.pw_grammar.specs.ReadingDeclarations as rd
-use Rattle.pw_grammar.proofs.CompleteSteps.{spot, then_, counted, done, valued, step_skip, step_take, step_expect, step_name, sees_it, sees_other, either_this, either_other, behind, parted, told_apart, line_of_front, same_line, fits}
+use Rattle.pw_grammar.proofs.CompleteTokens.{spot, then_, counted, done, valued, step_skip, step_take, step_expect, step_name, sees_it, sees_other, either_this, either_other, behind, parted, fits}
 use Rattle.pw_grammar.proofs.CompleteStatements.{no_other}
 use Rattle.pw_tree.specs.declared.ty.Ty.{Ty}
 use Rattle.pw_tree.specs.declared.decl.InitItem.{InitItem}
-use Rattle.pw_tree.specs.declared.decl.InitKind.{InitKind}
-use Rattle.pw_tree.specs.declared.decl.InitKind.TheVariants as i
 use Rattle.pw_tree.specs.declared.decl.Linkage.{Linkage}
-use Rattle.pw_tree.specs.declared.decl.Linkage.TheVariants as linkage
 use Rattle.pw_tree.specs.declared.decl.DeclKind.{DeclKind}
 use Rattle.pw_tree.specs.declared.decl.DeclKind.TheVariants as d
 use Rattle.pw_lex.specs.declared.token.Token.{Token}
@@ -40,7 +36,8 @@ constant_no : (x y : Sort) → IsConstant x → (s.Number ≡ y → ⊥) → (s.
 constant_no x y (inl e) f g = no_other e f
 constant_no x y (inr e) f g = no_other e g
 
-step_kind : (x : Element) (at : ℕ) (ts : List Token) → IsElement x → rd.element_kind (spot at (spelled_element x ++ ts)) ≡ Ok (kind_of_element x, spot (at + length (spelled_element x)) ts)
+step_kind : (x : Element) (at : ℕ) (ts : List Token) → IsElement x
+    → rd.element_kind (spot at (spelled_element x ++ ts)) ≡ Ok (kind_of_element x, spot (at + length (spelled_element x)) ts)
 unfolding rd.element_kind rd.element_word rd.element_positive rd.element_negative
 step_kind (dc.word t) at ts is =
     either_this s.Name rd.element_word (either s.Minus rd.element_negative rd.element_positive) (spot at (t ∷ ts)) is
@@ -64,7 +61,8 @@ element_line (dc.word t) ts = refl
 element_line (dc.positive t) ts = refl
 element_line (dc.negative m t) ts = refl
 
-step_element : (x : Element) (at : ℕ) (ts : List Token) → IsElement x → rd.initial (spot at (spelled_element x ++ ts)) ≡ Ok (element_of at x, spot (at + length (spelled_element x)) ts)
+step_element : (x : Element) (at : ℕ) (ts : List Token) → IsElement x
+    → rd.initial (spot at (spelled_element x ++ ts)) ≡ Ok (element_of at x, spot (at + length (spelled_element x)) ts)
 unfolding rd.initial
 step_element x at ts is = then_ _ (step_kind x at ts is) (element_is at _ _ x ts refl (element_line x ts))
 
@@ -113,12 +111,14 @@ step_more_elements (suc turns) (dc.more t x xs) found at ts is end short =
 -- ---- variables
 
 step_number : (at : ℕ) (t : Token) (ts : List Token) → sort t ≡ s.Number
-    → (if sees s.Number (spot at (t ∷ ts)) then and_then (take (spot at (t ∷ ts))) (λ t. pure (value_in t.kind)) else refuse (spot at (t ∷ ts))) ≡ Ok (value_in t.kind, spot (suc at) ts)
+    → (if sees s.Number (spot at (t ∷ ts)) then and_then (take (spot at (t ∷ ts))) (λ t. pure (value_in t.kind)) else refuse (spot at (t ∷ ts)))
+    ≡ Ok (value_in t.kind, spot (suc at) ts)
 step_number at t ts is =
     ap (λ b. if b then and_then (take (spot at (t ∷ ts))) (λ t. pure (value_in t.kind)) else refuse (spot at (t ∷ ts))) (sees_it s.Number (spot at (t ∷ ts)) is)
     ∙ then_ _ (step_take at t ts) refl
 
-step_size : (at : ℕ) (o n c : Token) (ts : List Token) → IsExtent o n c → rd.maybe_size (spot at (o ∷ n ∷ c ∷ ts)) ≡ Ok (Some (value_in n.kind), spot (suc (suc (suc at))) ts)
+step_size : (at : ℕ) (o n c : Token) (ts : List Token) → IsExtent o n c
+    → rd.maybe_size (spot at (o ∷ n ∷ c ∷ ts)) ≡ Ok (Some (value_in n.kind), spot (suc (suc (suc at))) ts)
 unfolding rd.maybe_size rd.size
 step_size at o n c ts is =
     either_this s.LeftBracket rd.size (pure None) (spot at (o ∷ n ∷ c ∷ ts)) is.0
@@ -132,7 +132,8 @@ no_initials : (n : ℕ) (l : Linkage) (count : Option ℕ) (j : Place) → next_
 unfolding rd.maybe_initials
 no_initials n l count j other = ap (λ b. if (b && not (rd.is_extern l)) then rd.initials_by n count j else pure None j) (sees_other s.Assign j other)
 
-its_initials : (n : ℕ) (l : Linkage) (count : Option ℕ) (j : Place) → next_sort j ≡ s.Assign → rd.is_extern l ≡ false → rd.maybe_initials n l count j ≡ rd.initials_by n count j
+its_initials : (n : ℕ) (l : Linkage) (count : Option ℕ) (j : Place) → next_sort j ≡ s.Assign → rd.is_extern l ≡ false
+    → rd.maybe_initials n l count j ≡ rd.initials_by n count j
 unfolding rd.maybe_initials
 its_initials n l count j is own =
     ap (λ b. if (b && not (rd.is_extern l)) then rd.initials_by n count j else pure None j) (sees_it s.Assign j is)
@@ -143,7 +144,8 @@ step_one : (n at : ℕ) (q : Token) (x : Element) (ts : List Token) → IsElemen
 unfolding rd.one_initial
 step_one n at q x ts is = then_ _ (step_skip at q _) (then_ _ (step_element x (suc at) ts is) refl)
 
-step_listed : (n count at : ℕ) (q b : Token) (x : Element) (xs : MoreElements) (e : Token) (ts : List Token) → sort b ≡ s.LeftBrace → IsElement x → AreMoreElements xs → sort e ≡ s.RightBrace
+step_listed : (n count at : ℕ) (q b : Token) (x : Element) (xs : MoreElements) (e : Token) (ts : List Token) → sort b ≡ s.LeftBrace → IsElement x → AreMoreElements xs
+    → sort e ≡ s.RightBrace
     → length (spelled_element x ++ (spelled_more_elements xs ++ e ∷ ts)) < n
     → rd.initials_by n (Some count) (spot at (q ∷ b ∷ (spelled_element x ++ (spelled_more_elements xs ++ e ∷ ts))))
     ≡ Ok (Some (element_of (suc (suc at)) x ∷ more_elements_of (suc (suc at) + length (spelled_element x)) xs),
@@ -212,7 +214,8 @@ step_variable n l ty (dc.array_set o m c q b x xs z) at e ts is may is_e short =
         fits _ _ n (ap (λ u. o ∷ m ∷ c ∷ q ∷ b ∷ u) parts) short in
     parted (rd.variable n l ty) (suc at) (ap (λ u. o ∷ m ∷ c ∷ q ∷ b ∷ u) parts)
     (then_ _ (step_size (suc at) o m c (q ∷ b ∷ (spelled_element x ++ (spelled_more_elements xs ++ z ∷ e ∷ ts))) is.0)
-    (then_ _ (its_initials n l (Some (value_in m.kind)) (spot (suc (suc (suc (suc at)))) (q ∷ b ∷ (spelled_element x ++ (spelled_more_elements xs ++ z ∷ e ∷ ts)))) is.1 own
+    (then_ _ (its_initials n l (Some (value_in m.kind))
+        (spot (suc (suc (suc (suc at)))) (q ∷ b ∷ (spelled_element x ++ (spelled_more_elements xs ++ z ∷ e ∷ ts)))) is.1 own
         ∙ step_listed n (value_in m.kind) (suc (suc (suc (suc at)))) q b x xs z (e ∷ ts) is.2 is.3 is.4 is.5 (omega arith))
     (then_ _ (step_expect s.Semicolon (suc (suc (suc (suc (suc (suc (suc at))))) + length (spelled_element x) + length (spelled_more_elements xs))) e ts is_e)
     (variable_is _ _ _ _ ts (array_is ty (value_in m.kind) x xs _ _ _ _ (omega arith) (omega arith))

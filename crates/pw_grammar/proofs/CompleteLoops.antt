@@ -1,17 +1,17 @@
 -- A `for`, a jump and an expression statement are read, each where its parts are.
-use Rattle.std.proofs.Common.{◌≡◌, ◌≢◌, refl, sym, ◌∙◌, ap, subst, ℕ, zero, suc, ◌+◌, ◌-◌, ◌<◌, ◌≤◌, ◌==◌, List, [], ◌∷◌, ◌++◌, length, Result, Ok, Err, Bool, true, false, if◌then◌else◌, Option, Some, None, ◌⊎◌, inl, inr, arith}
-use Rattle.std.proofs.lemmas.List.{append_assoc, append-nil, length-append}
+use Rattle.std.proofs.Common.{◌≡◌, ◌≢◌, refl, ◌∙◌, ap, ℕ, suc, ◌+◌, ◌<◌, List, [], ◌∷◌, ◌++◌, length, Ok, Bool, true, false, if◌then◌else◌, Option, Some, None, arith}
+use Rattle.std.proofs.lemmas.List.{append_assoc, length-append}
 use Rattle.pw_grammar.specs.declared.sort.Sort.{Sort}
 use Rattle.pw_grammar.specs.declared.sort.Sort.TheVariants as s
-use Rattle.pw_grammar.specs.Terminals.{sort, first_sort, is_same}
-use Rattle.pw_grammar.specs.Expressions.{Phrase, spelled, IsAt, tree_of, name_in}
+use Rattle.pw_grammar.specs.Terminals.{sort, first_sort}
+use Rattle.pw_grammar.specs.Expressions.{Phrase, spelled}
 use Rattle.pw_grammar.specs.Statements as st
 use Rattle.pw_grammar.specs.Statements.{Simple, spelled_simple, IsSimple, kind_of_simple, Start, no_start, local_start, simple_start, spelled_start, IsStart, tree_of_start, spelled_maybe, IsMaybe, tree_of_maybe, spelled_step, IsStep, tree_of_step, first_line, statement_node, jump_of, spelled_local, kind_of_local}
-use Rattle.pw_grammar.specs.Steps.{Place, Outcome, Parser, and_then, ◌>>=◌, pure, refuse, next_sort, sees, here, take, skip, expect, name, either, finish_statement}
+use Rattle.pw_grammar.specs.Steps.{Place, Parser, pure, next_sort}
 use Rattle.pw_grammar.specs.ReadingStatements as r
-use Rattle.pw_grammar.proofs.CompleteSteps.{spot, then_, counted, done, valued, step_skip, step_expect, step_name, sees_it, sees_other, either_this, either_other, behind, parted, told_apart, line_of_front, same_line, fits, node_is, ends_part, ReadsExpressions}
+use Rattle.pw_grammar.proofs.CompleteTokens.{spot, then_, done, step_skip, step_expect, sees_it, sees_other, either_this, either_other, parted, told_apart, fits, ends_part, ReadsExpressions}
 use Rattle.pw_grammar.proofs.CompleteTypes.{reads_local, local_begins, no_type_is}
-use Rattle.pw_grammar.proofs.CompleteStarts.{starts_expression, phrase_starts, simple_starts, simple_length, starts_statement, statement_too, begins_no_type, form_of_expression}
+use Rattle.pw_grammar.proofs.CompleteStarts.{starts_expression, phrase_starts, simple_starts, statement_too, begins_no_type}
 use Rattle.pw_grammar.proofs.CompleteSimple.{reads_simple, reads_simple_statement}
 use Rattle.pw_grammar.proofs.CompleteStatements.{no_other, ReadsPart}
 use Rattle.pw_tree.specs.declared.expr.Expr.{Expr}
@@ -23,7 +23,8 @@ use Rattle.pw_lex.specs.declared.token.Token.{Token}
 -- ---- what may be left out
 
 pub reads_maybe : (n : ℕ) (expr : Parser Expr) → ReadsExpressions n expr → (a : Option Phrase) (at : ℕ) (ts : List Token) → IsMaybe a → first_sort ts ≡ s.Semicolon
-    → length (spelled_maybe a ++ ts) < n → r.maybe_before s.Semicolon expr (spot at (spelled_maybe a ++ ts)) ≡ Ok (tree_of_maybe at a, spot (at + length (spelled_maybe a)) ts)
+    → length (spelled_maybe a ++ ts) < n → r.maybe_before s.Semicolon expr (spot at (spelled_maybe a ++ ts))
+    ≡ Ok (tree_of_maybe at a, spot (at + length (spelled_maybe a)) ts)
 unfolding r.maybe_before r.some
 reads_maybe n expr reads None at ts is ends short = either_this s.Semicolon (pure None) (r.some expr) (spot at ts) ends ∙ done None _ ts (omega arith)
 reads_maybe n expr reads (Some a) at ts is ends short =
@@ -40,14 +41,16 @@ unfolding r.maybe_before r.some
 reads_step n expr reads None at ts is ends short =
     either_this s.RightParen (pure None) (r.some (r.simple_statement expr)) (spot at ts) ends ∙ done None _ ts (omega arith)
 reads_step n expr reads (Some a) at ts is ends short =
-    either_other s.RightParen (pure None) (r.some (r.simple_statement expr)) (spot at (spelled_simple a ++ ts)) (told_apart starts_expression (simple_starts a ts is) refl)
+    either_other s.RightParen (pure None) (r.some (r.simple_statement expr)) (spot at (spelled_simple a ++ ts))
+        (told_apart starts_expression (simple_starts a ts is) refl)
     ∙ then_ _ (reads_simple_statement n expr reads a at ts is (ap ends_part ends) (not_assign (first_sort ts) ends) short) refl
 
 -- ---- the first part of a `for`
 
 starts_so : (expr : Parser Expr) (i : Place) → next_sort i ≡ s.Semicolon → r.start expr i ≡ r.no_start i
 unfolding r.start
-starts_so expr i e = ap (λ b. if b then r.no_start i else (if r.begins_type (next_sort i) then r.some (r.local expr) i else r.simple_start expr i)) (sees_it s.Semicolon i e)
+starts_so expr i e = ap (λ b. if b then r.no_start i else (if r.begins_type (next_sort i) then r.some (r.local expr) i else r.simple_start expr i))
+    (sees_it s.Semicolon i e)
 
 starts_with : (expr : Parser Expr) (i : Place) (b : Bool) → next_sort i ≢ s.Semicolon → r.begins_type (next_sort i) ≡ b
     → r.start expr i ≡ (if b then r.some (r.local expr) i else r.simple_start expr i)
@@ -105,16 +108,20 @@ reads_for n expr stmt reads at t o start a e step c y ts is_o is_start is_a is_e
     (then_ _ (step_expect s.LeftParen (suc at) o _ is_o)
     (then_ _ (reads_start n expr reads start (suc (suc at)) (spelled_maybe a ++ e ∷ (spelled_step step ++ c ∷ (st.spelled_statement y ++ ts))) is_start short3.0)
     (then_ _ (reads_maybe n expr reads a (suc (suc at) + length (spelled_start start)) (e ∷ (spelled_step step ++ c ∷ (st.spelled_statement y ++ ts))) is_a is_e short3.1)
-    (then_ _ (step_expect s.Semicolon (suc (suc at) + length (spelled_start start) + length (spelled_maybe a)) e (spelled_step step ++ c ∷ (st.spelled_statement y ++ ts)) is_e)
-    (then_ _ (reads_step n expr reads step (suc (suc (suc at) + length (spelled_start start) + length (spelled_maybe a))) (c ∷ (st.spelled_statement y ++ ts)) is_step is_c short3.2)
-    (then_ _ (step_expect s.RightParen (suc (suc (suc at) + length (spelled_start start) + length (spelled_maybe a)) + length (spelled_step step)) c (st.spelled_statement y ++ ts) is_c)
+    (then_ _ (step_expect s.Semicolon (suc (suc at) + length (spelled_start start) + length (spelled_maybe a)) e
+        (spelled_step step ++ c ∷ (st.spelled_statement y ++ ts)) is_e)
+    (then_ _ (reads_step n expr reads step (suc (suc (suc at) + length (spelled_start start) + length (spelled_maybe a)))
+        (c ∷ (st.spelled_statement y ++ ts)) is_step is_c short3.2)
+    (then_ _ (step_expect s.RightParen (suc (suc (suc at) + length (spelled_start start) + length (spelled_maybe a)) + length (spelled_step step)) c
+        (st.spelled_statement y ++ ts) is_c)
     (then_ _ part (done _ _ ts (for_count at (spelled_start start) (spelled_maybe a) e (spelled_step step) c (st.spelled_statement y)))))))))))
 
 -- ---- statements without statements in them
 
 pub reads_return : (n : ℕ) (expr : Parser Expr) → ReadsExpressions n expr → (at : ℕ) (t : Token) (a : Option Phrase) (e : Token) (ts : List Token)
     → IsMaybe a → sort e ≡ s.Semicolon → length (st.spelled_statement (st.leave t a e) ++ ts) < n
-    → r.leave expr (spot at (st.spelled_statement (st.leave t a e) ++ ts)) ≡ Ok (st.kind_of at (st.leave t a e), spot (at + length (st.spelled_statement (st.leave t a e))) ts)
+    → r.leave expr (spot at (st.spelled_statement (st.leave t a e) ++ ts))
+    ≡ Ok (st.kind_of at (st.leave t a e), spot (at + length (st.spelled_statement (st.leave t a e))) ts)
 unfolding r.leave st.spelled_statement st.kind_of
 reads_return n expr reads at t a e ts is_a is_e short =
     let parts : (t ∷ (spelled_maybe a ++ e ∷ [])) ++ ts ≡ t ∷ (spelled_maybe a ++ e ∷ ts) = ap (λ u. t ∷ u) (append_assoc (spelled_maybe a) (e ∷ []) ts) in
@@ -136,7 +143,8 @@ reads_empty at e ts = then_ _ (step_skip at e ts) (done _ _ ts (omega arith))
 
 pub reads_evaluated : (n : ℕ) (expr : Parser Expr) → ReadsExpressions n expr → (at : ℕ) (a : Simple) (e : Token) (ts : List Token)
     → IsSimple a → sort e ≡ s.Semicolon → length (st.spelled_statement (st.simple a e) ++ ts) < n
-    → r.evaluated expr (spot at (st.spelled_statement (st.simple a e) ++ ts)) ≡ Ok (st.kind_of at (st.simple a e), spot (at + length (st.spelled_statement (st.simple a e))) ts)
+    → r.evaluated expr (spot at (st.spelled_statement (st.simple a e) ++ ts))
+    ≡ Ok (st.kind_of at (st.simple a e), spot (at + length (st.spelled_statement (st.simple a e))) ts)
 unfolding r.evaluated st.spelled_statement st.kind_of
 reads_evaluated n expr reads at a e ts is_a is_e short =
     let parts : (spelled_simple a ++ e ∷ []) ++ ts ≡ spelled_simple a ++ e ∷ ts = append_assoc (spelled_simple a) (e ∷ []) ts in

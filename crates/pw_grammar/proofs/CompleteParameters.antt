@@ -1,24 +1,21 @@
 -- Storage classes, results and parameters are read.
-use Rattle.std.proofs.Common.{◌≡◌, ◌≢◌, refl, sym, ◌∙◌, ap, subst, ℕ, zero, suc, ◌+◌, ◌-◌, ◌<◌, ◌≤◌, List, [], ◌∷◌, ◌++◌, length, Result, Ok, Err, Bool, true, false, ◌&&◌, ◌||◌, if◌then◌else◌, Option, Some, None, ◌⊎◌, inl, inr, arith}
+use Rattle.std.proofs.Common.{◌≡◌, ◌≢◌, refl, sym, ◌∙◌, ap, subst, ℕ, zero, suc, ◌+◌, ◌<◌, List, [], ◌∷◌, ◌++◌, length, Ok, Bool, true, false, ◌&&◌, Option, Some, None, inl, inr, arith}
 use Rattle.std.proofs.lemmas.List.{append_assoc, append-nil, length-append}
 use Rattle.std.specs.List.{list_all}
 use Rattle.pw_grammar.specs.declared.sort.Sort.{Sort}
 use Rattle.pw_grammar.specs.declared.sort.Sort.TheVariants as s
 use Rattle.pw_grammar.specs.Terminals.{sort, first_sort, is_same}
-use Rattle.pw_grammar.specs.Expressions.{name_in}
-use Rattle.pw_grammar.specs.Statements.{TypePhrase, word, unsigned, spelled_type, IsType, type_of, type_in, first_line}
+use Rattle.pw_grammar.specs.Statements.{spelled_type, type_in}
 use Rattle.pw_grammar.specs.Declarations as dc
 use Rattle.pw_grammar.specs.Declarations.{spelled_storage, IsStorage, linkage_of, linkage_by, ResultPhrase, spelled_result, IsResult, result_in, Parameter, spelled_parameter, spelled_name, IsParameter, IsNamed, has_name, named, MoreParameters, Parameters, spelled_more_parameters, spelled_parameters, AreMoreParameters, AreParameters, AllNamed, HaveNames, parameter_of, more_parameters_of, parameters_of}
-use Rattle.pw_grammar.specs.Steps.{Place, Outcome, Parser, and_then, ◌>>=◌, pure, refuse, next_sort, sees, here, take, skip, expect, name, either}
+use Rattle.pw_grammar.specs.Steps.{Parser, ◌>>=◌, pure, skip, name, either}
 use Rattle.pw_grammar.specs.ReadingStatements as r
 use Rattle.pw_grammar.specs.ReadingDeclarations as rd
-use Rattle.pw_grammar.proofs.CompleteSteps.{spot, then_, counted, done, valued, step_skip, step_expect, step_name, sees_it, sees_other, either_this, either_other, behind, parted, told_apart, line_of_front, same_line, fits}
-use Rattle.pw_grammar.proofs.CompleteTypes.{step_type, type_begins, type_length}
+use Rattle.pw_grammar.proofs.CompleteTokens.{spot, then_, counted, done, valued, step_skip, step_name, either_this, either_other, parted, told_apart}
+use Rattle.pw_grammar.proofs.CompleteTypes.{step_type, type_begins}
 use Rattle.pw_grammar.proofs.CompleteStatements.{no_other}
-use Rattle.pw_tree.specs.declared.ty.Ty.{Ty}
 use Rattle.pw_tree.specs.declared.ty.Ty.TheVariants as ty
 use Rattle.pw_tree.specs.declared.decl.Param.{Param}
-use Rattle.pw_tree.specs.declared.decl.Linkage.{Linkage}
 use Rattle.pw_tree.specs.declared.decl.Linkage.TheVariants as linkage
 use Rattle.pw_lex.specs.declared.token.Token.{Token}
 
@@ -59,15 +56,18 @@ step_storage (Some t) at ts (inr is) extern static =
     ∙ either_this s.Static (rd.given linkage.Static) (pure linkage.Plain) (spot at (t ∷ ts)) is
     ∙ valued (linkage_by (sort t)) (counted _ (step_given linkage.Static at t ts) (omega arith)) (sym (ap linkage_by is))
 
-pub step_result : (c : ResultPhrase) (at : ℕ) (ts : List Token) → IsResult c → rd.result (spot at (spelled_result c ++ ts)) ≡ Ok (result_in c, spot (at + length (spelled_result c)) ts)
+pub step_result : (c : ResultPhrase) (at : ℕ) (ts : List Token) → IsResult c
+    → rd.result (spot at (spelled_result c ++ ts)) ≡ Ok (result_in c, spot (at + length (spelled_result c)) ts)
 unfolding rd.result
 step_result (dc.nothing t) at ts is = either_this s.Void (rd.given ty.Void) r.type_name (spot at (t ∷ ts)) is ∙ counted _ (step_given ty.Void at t ts) (omega arith)
 step_result (dc.value c) at ts is =
-    either_other s.Void (rd.given ty.Void) r.type_name (spot at (spelled_type c ++ ts)) (told_apart r.begins_type (type_begins c ts is) no_type_void) ∙ step_type c at ts is
+    either_other s.Void (rd.given ty.Void) r.type_name (spot at (spelled_type c ++ ts)) (told_apart r.begins_type (type_begins c ts is) no_type_void)
+        ∙ step_type c at ts is
 
 -- ---- parameters
 
-step_maybe_name : (x : Option Token) (at : ℕ) (ts : List Token) → IsNamed x → first_sort ts ≢ s.Name → rd.maybe_name (spot at (spelled_name x ++ ts)) ≡ Ok (named x, spot (at + length (spelled_name x)) ts)
+step_maybe_name : (x : Option Token) (at : ℕ) (ts : List Token) → IsNamed x → first_sort ts ≢ s.Name
+    → rd.maybe_name (spot at (spelled_name x ++ ts)) ≡ Ok (named x, spot (at + length (spelled_name x)) ts)
 unfolding rd.maybe_name r.some
 step_maybe_name None at ts is other = either_other s.Name (r.some name) (pure None) (spot at ts) other ∙ done None _ ts (omega arith)
 step_maybe_name (Some t) at ts is other = either_this s.Name (r.some name) (pure None) (spot at (t ∷ ts)) is ∙ then_ _ (step_name at t ts is) (done _ _ ts (omega arith))
@@ -106,7 +106,8 @@ next_parameter turns found = do
 
 step_more_parameters : (turns : ℕ) (ps : MoreParameters) (found : List Param) (at : ℕ) (ts : List Token) → AreMoreParameters ps → first_sort ts ≡ s.RightParen
     → length (spelled_more_parameters ps ++ ts) < turns
-    → rd.more_parameters turns found (spot at (spelled_more_parameters ps ++ ts)) ≡ Ok (found ++ more_parameters_of at ps, spot (at + length (spelled_more_parameters ps)) ts)
+    → rd.more_parameters turns found (spot at (spelled_more_parameters ps ++ ts))
+    ≡ Ok (found ++ more_parameters_of at ps, spot (at + length (spelled_more_parameters ps)) ts)
 unfolding rd.more_parameters spelled_more_parameters AreMoreParameters more_parameters_of next_parameter
 step_more_parameters zero ps found at ts is end short = absurd (omega arith)
 step_more_parameters (suc turns) dc.end found at ts is end short =

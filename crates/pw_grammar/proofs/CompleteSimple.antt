@@ -1,23 +1,21 @@
 -- An assignment or an expression is read, as it stands in a statement.
-use Rattle.std.proofs.Common.{◌≡◌, ◌≢◌, refl, sym, ◌∙◌, ap, subst, ℕ, zero, suc, ◌+◌, ◌-◌, ◌<◌, ◌≤◌, ◌==◌, List, [], ◌∷◌, ◌++◌, length, Result, Ok, Err, Bool, true, false, if◌then◌else◌, Option, Some, None, arith}
+use Rattle.std.proofs.Common.{◌≡◌, ◌≢◌, refl, sym, ◌∙◌, ap, subst, ℕ, suc, ◌+◌, ◌-◌, ◌<◌, ◌==◌, List, [], ◌∷◌, ◌++◌, length, Ok, true, if◌then◌else◌, Option, Some, None, arith}
 use Rattle.std.proofs.lemmas.List.{append_assoc, length-append}
-use Rattle.pw_grammar.specs.declared.sort.Sort.{Sort}
 use Rattle.pw_grammar.specs.declared.sort.Sort.TheVariants as s
-use Rattle.pw_grammar.specs.Terminals.{sort, first_sort, is_same}
-use Rattle.pw_grammar.specs.Expressions.{Phrase, identifier, index, spelled, IsAt, tree_of, name_in, node}
-use Rattle.pw_grammar.specs.Statements.{Simple, assign, assign_element, evaluate, spelled_simple, IsSimple, kind_of_simple, first_line, statement_node}
-use Rattle.pw_grammar.specs.Steps.{Place, Outcome, Parser, and_then, ◌>>=◌, pure, refuse, next_sort, sees, here, take, skip, expect, name, either, finish_statement}
+use Rattle.pw_grammar.specs.Terminals.{sort, first_sort}
+use Rattle.pw_grammar.specs.Expressions.{Phrase, identifier, index, spelled, IsAt, tree_of, name_in}
+use Rattle.pw_grammar.specs.Statements.{Simple, assign, assign_element, evaluate, spelled_simple, IsSimple, kind_of_simple, statement_node}
+use Rattle.pw_grammar.specs.Steps.{Parser, pure, either}
 use Rattle.pw_grammar.specs.ReadingStatements as r
-use Rattle.pw_grammar.proofs.CompleteSteps.{spot, then_, counted, valued, step_skip, step_expect, step_name, sees_it, sees_other, either_this, either_other, behind, parted, told_apart, line_of_front, same_line, fits, node_is, ends_part, ReadsExpressions}
+use Rattle.pw_grammar.proofs.CompleteTokens.{spot, then_, counted, step_skip, either_this, either_other, parted, line_of_front, fits, node_is, ends_part, ReadsExpressions}
 use Rattle.pw_grammar.proofs.CompleteStarts.{simple_length}
-use Rattle.pw_tree.specs.declared.expr.Expr.{Expr, roll-Expr, out-Expr}
+use Rattle.pw_tree.specs.declared.expr.Expr.{Expr, roll-Expr}
 use Rattle.pw_tree.specs.declared.expr.Expr.{out-roll-Expr}
 use Rattle.pw_tree.specs.declared.expr.ExprKind.{out-roll-ExprKind}
 use Rattle.pw_tree.specs.declared.expr.ExprKind.TheOpen.{ExprKind-F}
 use Rattle.std.proofs.lemmas.Bool.Decides.{nat_tests}
-use Rattle.pw_tree.specs.declared.expr.ExprKind.{ExprKind, out-ExprKind}
+use Rattle.pw_tree.specs.declared.expr.ExprKind.{out-ExprKind}
 use Rattle.pw_tree.specs.declared.expr.ExprKind.TheVariants as e
-use Rattle.pw_tree.specs.declared.stmt.Stmt.{Stmt}
 use Rattle.pw_tree.specs.declared.stmt.StmtKind.{StmtKind}
 use Rattle.pw_tree.specs.declared.stmt.StmtKind.TheVariants as k
 use Rattle.pw_lex.specs.declared.token.Token.{Token}
@@ -42,16 +40,19 @@ word_is at x =
 target_word : (at : ℕ) (x : Token) → r.target at (tree_of at (identifier x)) ≡ Some (name_in x.kind, None)
 unfolding r.target tree_of
 target_word at x =
-    ap (λ v. r.target_of at (tree_of at (identifier x)) (out-ExprKind v.kind)) (out-roll-Expr (record { first = at; last = at + 1 - 1; line = x.line; kind = e.Word (name_in x.kind) }))
+    ap (λ v. r.target_of at (tree_of at (identifier x)) (out-ExprKind v.kind))
+        (out-roll-Expr (record { first = at; last = at + 1 - 1; line = x.line; kind = e.Word (name_in x.kind) }))
     ∙ (ap (λ v. r.target_of at (tree_of at (identifier x)) v) (out-Word (name_in x.kind)) ∙ ap (λ v. r.with_index None v) (word_is at x))
 
 element_is : (at last line : ℕ) (a b : Expr) (x : List ℕ) → r.word_of at a ≡ Some x
     → r.target at (roll-Expr (record { first = at; last = last; line = line; kind = e.Index a b })) ≡ Some (x, Some b)
 unfolding r.target
 element_is at last line a b x is =
-    ap (λ v. r.target_of at (roll-Expr (record { first = at; last = last; line = line; kind = e.Index a b })) (out-ExprKind v.kind)) (out-roll-Expr (record { first = at; last = last; line = line; kind = e.Index a b }))
+    ap (λ v. r.target_of at (roll-Expr (record { first = at; last = last; line = line; kind = e.Index a b })) (out-ExprKind v.kind))
+        (out-roll-Expr (record { first = at; last = last; line = line; kind = e.Index a b }))
     ∙ (ap (λ v. r.target_of at (roll-Expr (record { first = at; last = last; line = line; kind = e.Index a b })) v) (out-Index a b)
-    ∙ (ap (λ v. if v.first == at then r.with_index (Some b) (r.word_of at a) else None) (out-roll-Expr (record { first = at; last = last; line = line; kind = e.Index a b }))
+    ∙ (ap (λ v. if v.first == at then r.with_index (Some b) (r.word_of at a) else None)
+        (out-roll-Expr (record { first = at; last = last; line = line; kind = e.Index a b }))
     ∙ (ap (λ t. if t then r.with_index (Some b) (r.word_of at a) else None) (same_number at) ∙ ap (λ v. r.with_index (Some b) v) is)))
 
 target_element : (at : ℕ) (x o : Token) (i : Phrase) (c : Token)
@@ -86,7 +87,8 @@ assigned_parts : (x o : Token) (v : List Token) (c q : Token) (w ts : List Token
 assigned_parts x o v c q w ts = ap (λ u. x ∷ o ∷ u) (append_assoc v (c ∷ q ∷ w) ts)
 
 -- behind what is assigned to, `= e`
-reads_assigned : (n : ℕ) (expr : Parser Expr) → ReadsExpressions n expr → (to : Option (List ℕ × Option Expr)) (x : List ℕ) (i : Option Expr) (at : ℕ) (q : Token) (a : Phrase)
+reads_assigned : (n : ℕ) (expr : Parser Expr) → ReadsExpressions n expr
+    → (to : Option (List ℕ × Option Expr)) (x : List ℕ) (i : Option Expr) (at : ℕ) (q : Token) (a : Phrase)
     (other : Parser StmtKind) (ts : List Token) → to ≡ Some (x, i) → sort q ≡ s.Assign → IsAt 13 a → ends_part (first_sort ts) ≡ true → length (spelled a ++ ts) < n
     → either s.Assign (r.assigned expr to) other (spot at (q ∷ (spelled a ++ ts))) ≡ Ok (k.Set x i (tree_of (suc at) a), spot (suc at + length (spelled a)) ts)
 reads_assigned n expr reads to x i at q a other ts is is_q is_a ends short =
@@ -100,20 +102,24 @@ pub reads_simple : (n : ℕ) (expr : Parser Expr) → ReadsExpressions n expr �
 unfolding r.simple
 reads_simple n expr reads (assign x q a) at ts (is_x, is_q, is_a) ends other short =
     then_ _ (reads_word n expr reads at x (q ∷ (spelled a ++ ts)) is_x (ap ends_part is_q) short)
-    (counted _ (reads_assigned n expr reads _ (name_in x.kind) None (suc at) q a (pure (k.Eval (tree_of at (identifier x)))) ts (target_word at x) is_q is_a ends (omega arith)) (omega arith))
+    (counted _ (reads_assigned n expr reads _ (name_in x.kind) None (suc at) q a (pure (k.Eval (tree_of at (identifier x)))) ts (target_word at x) is_q is_a ends
+        (omega arith)) (omega arith))
 reads_simple n expr reads (assign_element x o i c q a) at ts (is_x, is_o, is_i, is_c, is_q, is_a) ends other short =
     let inner : length (x ∷ o ∷ (spelled i ++ c ∷ q ∷ (spelled a ++ ts))) < n = fits _ _ n (assigned_parts x o (spelled i) c q (spelled a) ts) short in
     parted (r.simple expr) at (assigned_parts x o (spelled i) c q (spelled a) ts)
     (then_ _ (reads_element n expr reads at x o i c (q ∷ (spelled a ++ ts)) is_x is_o is_i is_c (ap ends_part is_q) inner)
-    (counted _ (reads_assigned n expr reads _ (name_in x.kind) (Some (tree_of (suc (suc at)) i)) (suc (suc (suc at) + length (spelled i))) q a (pure (k.Eval (tree_of at (index (identifier x) o i c)))) ts
+    (counted _ (reads_assigned n expr reads _ (name_in x.kind) (Some (tree_of (suc (suc at)) i)) (suc (suc (suc at) + length (spelled i))) q a
+        (pure (k.Eval (tree_of at (index (identifier x) o i c)))) ts
         (target_element at x o i c) is_q is_a ends (omega (arith, length-append (spelled i) (c ∷ q ∷ (spelled a ++ ts)))))
     (omega (arith, length-append (spelled i) (c ∷ q ∷ spelled a)))))
 reads_simple n expr reads (evaluate a) at ts is ends other short =
-    then_ _ (reads.reads a at ts is ends short) (either_other s.Assign (r.assigned expr (r.target at (tree_of at a))) (pure (k.Eval (tree_of at a))) (spot (at + length (spelled a)) ts) other)
+    then_ _ (reads.reads a at ts is ends short)
+        (either_other s.Assign (r.assigned expr (r.target at (tree_of at a))) (pure (k.Eval (tree_of at a))) (spot (at + length (spelled a)) ts) other)
 
 pub reads_simple_statement : (n : ℕ) (expr : Parser Expr) → ReadsExpressions n expr → (c : Simple) (at : ℕ) (ts : List Token) → IsSimple c
     → ends_part (first_sort ts) ≡ true → first_sort ts ≢ s.Assign → length (spelled_simple c ++ ts) < n
-    → r.simple_statement expr (spot at (spelled_simple c ++ ts)) ≡ Ok (statement_node at (spelled_simple c) (kind_of_simple at c), spot (at + length (spelled_simple c)) ts)
+    → r.simple_statement expr (spot at (spelled_simple c ++ ts))
+    ≡ Ok (statement_node at (spelled_simple c) (kind_of_simple at c), spot (at + length (spelled_simple c)) ts)
 unfolding r.simple_statement
 reads_simple_statement n expr reads c at ts is ends other short =
     then_ _ (reads_simple n expr reads c at ts is ends other short)

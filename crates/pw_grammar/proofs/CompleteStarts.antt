@@ -1,5 +1,5 @@
 -- With which sorts expressions and statements begin.
-use Rattle.std.proofs.Common.{◌≡◌, ◌≢◌, refl, sym, ◌∙◌, ap, subst, ℕ, zero, suc, ◌+◌, ◌<◌, ◌≤◌, List, [], ◌∷◌, ◌++◌, length, inl, inr, Ok, Bool, true, false, ◌||◌, Option, Some, None, arith}
+use Rattle.std.proofs.Common.{◌≡◌, refl, sym, ◌∙◌, ap, subst, ℕ, suc, ◌<◌, List, [], ◌∷◌, ◌++◌, length, inl, inr, Bool, true, false, ◌||◌, Option, Some, None, arith}
 use Rattle.std.proofs.lemmas.List.{append_assoc, append-nil}
 use Rattle.pw_grammar.specs.declared.sort.Sort.{Sort}
 use Rattle.pw_grammar.specs.declared.sort.Sort.TheVariants as s
@@ -9,7 +9,7 @@ use Rattle.pw_grammar.specs.Statements.{type_of, Simple, assign, assign_element,
 use Rattle.pw_grammar.specs.Steps.{Parser}
 use Rattle.pw_grammar.specs.ReadingStatements as r
 use Rattle.pw_grammar.proofs.Branches.{sorts_other}
-use Rattle.pw_grammar.proofs.CompleteSteps.{told_apart}
+use Rattle.pw_grammar.proofs.CompleteTokens.{told_apart}
 use Rattle.pw_tree.specs.declared.ty.Ty.{Ty}
 use Rattle.pw_tree.specs.declared.operator.Un.{Un}
 use Rattle.pw_tree.specs.declared.expr.Expr.{Expr}

@@ -1,22 +1,17 @@
 -- The forms of statements are read, each where its parts are.
-use Rattle.std.proofs.Common.{◌≡◌, ◌≢◌, refl, sym, ◌∙◌, ap, subst, ℕ, zero, suc, ◌+◌, ◌-◌, ◌<◌, ◌≤◌, ◌==◌, List, [], ◌∷◌, ◌++◌, length, Result, Ok, Err, Bool, true, false, if◌then◌else◌, Option, Some, None, ◌⊎◌, inl, inr, arith}
-use Rattle.std.proofs.lemmas.List.{append_assoc, append-nil, length-append}
+use Rattle.std.proofs.Common.{◌≡◌, ◌≢◌, refl, sym, ◌∙◌, ap, ℕ, suc, ◌+◌, ◌<◌, List, [], ◌∷◌, ◌++◌, length, Ok, None, arith}
+use Rattle.std.proofs.lemmas.List.{append_assoc, length-append}
 use Rattle.pw_grammar.specs.declared.sort.Sort.{Sort}
 use Rattle.pw_grammar.specs.declared.sort.Sort.TheVariants as s
-use Rattle.pw_grammar.specs.Terminals.{sort, first_sort, is_same}
-use Rattle.pw_grammar.specs.Expressions.{Phrase, spelled, IsAt, tree_of, name_in}
+use Rattle.pw_grammar.specs.Terminals.{sort, first_sort}
+use Rattle.pw_grammar.specs.Expressions.{Phrase, spelled, IsAt, tree_of}
 use Rattle.pw_grammar.specs.Statements as st
 use Rattle.pw_grammar.specs.Statements.{Simple, spelled_simple, IsSimple, kind_of_simple, Start, spelled_start, IsStart, tree_of_start, spelled_maybe, IsMaybe, tree_of_maybe, spelled_step, IsStep, tree_of_step, first_line, statement_node, jump_of, spelled_local, kind_of_local}
-use Rattle.pw_grammar.specs.Steps.{Place, Outcome, Parser, and_then, ◌>>=◌, pure, refuse, next_sort, sees, here, take, skip, expect, name, either, finish_statement}
+use Rattle.pw_grammar.specs.Steps.{Parser, pure}
 use Rattle.pw_grammar.specs.ReadingStatements as r
-use Rattle.pw_grammar.proofs.CompleteSteps.{spot, then_, counted, done, valued, step_skip, step_expect, step_name, sees_it, sees_other, either_this, either_other, behind, parted, told_apart, line_of_front, same_line, fits, node_is, ends_part, ReadsExpressions}
-use Rattle.pw_grammar.proofs.CompleteTypes.{reads_local, type_begins}
-use Rattle.pw_grammar.proofs.CompleteStarts.{starts_expression, phrase_starts, simple_starts, simple_length, starts_statement, statement_too, begins_no_type, form_of_expression}
-use Rattle.pw_grammar.proofs.CompleteSimple.{reads_simple, reads_simple_statement}
+use Rattle.pw_grammar.proofs.CompleteTokens.{spot, then_, done, step_skip, step_expect, either_this, either_other, parted, fits, ends_part, ReadsExpressions}
 use Rattle.pw_tree.specs.declared.expr.Expr.{Expr}
 use Rattle.pw_tree.specs.declared.stmt.Stmt.{Stmt}
-use Rattle.pw_tree.specs.declared.stmt.StmtKind.{StmtKind}
-use Rattle.pw_tree.specs.declared.stmt.StmtKind.TheVariants as k
 use Rattle.pw_lex.specs.declared.token.Token.{Token}
 
 -- a sort that is one is not another
@@ -43,7 +38,8 @@ ReadsPart stmt y at ts = stmt (spot at (st.spelled_statement y ++ ts)) ≡ Ok (s
 tested_parts : (t o : Token) (v : List Token) (c : Token) (w ts : List Token) → (t ∷ o ∷ (v ++ c ∷ w)) ++ ts ≡ t ∷ o ∷ (v ++ c ∷ (w ++ ts))
 tested_parts t o v c w ts = ap (λ u. t ∷ o ∷ u) (append_assoc v (c ∷ w) ts)
 
-pub reads_while : (n : ℕ) (expr : Parser Expr) (stmt : Parser Stmt) → ReadsExpressions n expr → (at : ℕ) (t o : Token) (a : Phrase) (c : Token) (y : st.Statement) (ts : List Token)
+pub reads_while : (n : ℕ) (expr : Parser Expr) (stmt : Parser Stmt) → ReadsExpressions n expr
+    → (at : ℕ) (t o : Token) (a : Phrase) (c : Token) (y : st.Statement) (ts : List Token)
     → sort o ≡ s.LeftParen → IsAt 13 a → sort c ≡ s.RightParen → length (st.spelled_statement (st.while_do t o a c y) ++ ts) < n
     → ReadsPart stmt y (st.behind_test at a) ts
     → r.while_loop expr stmt (spot at (st.spelled_statement (st.while_do t o a c y) ++ ts))
@@ -58,7 +54,8 @@ reads_while n expr stmt reads at t o a c y ts is_o is_a is_c short part =
     (then_ _ (reads_test n expr reads (suc at) o a c (st.spelled_statement y ++ ts) is_o is_a is_c (omega arith))
     (then_ _ part (done _ _ ts (omega (arith, length-append (spelled a) (c ∷ st.spelled_statement y)))))))
 
-pub reads_if_only : (n : ℕ) (expr : Parser Expr) (stmt : Parser Stmt) → ReadsExpressions n expr → (at : ℕ) (t o : Token) (a : Phrase) (c : Token) (y : st.Statement) (ts : List Token)
+pub reads_if_only : (n : ℕ) (expr : Parser Expr) (stmt : Parser Stmt) → ReadsExpressions n expr
+    → (at : ℕ) (t o : Token) (a : Phrase) (c : Token) (y : st.Statement) (ts : List Token)
     → sort o ≡ s.LeftParen → IsAt 13 a → sort c ≡ s.RightParen → first_sort ts ≢ s.Else → length (st.spelled_statement (st.if_only t o a c y) ++ ts) < n
     → ReadsPart stmt y (st.behind_test at a) ts
     → r.conditional expr stmt (spot at (st.spelled_statement (st.if_only t o a c y) ++ ts))

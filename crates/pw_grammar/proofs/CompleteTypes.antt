@@ -1,22 +1,19 @@
 -- A type is read, and a local's declaration.
-use Rattle.std.proofs.Common.{◌≡◌, ◌≢◌, refl, sym, ◌∙◌, ap, subst, ℕ, zero, suc, ◌+◌, ◌-◌, ◌<◌, ◌≤◌, List, [], ◌∷◌, ◌++◌, length, Result, Ok, Err, Bool, true, false, ◌||◌, if◌then◌else◌, Option, Some, None, arith}
+use Rattle.std.proofs.Common.{◌≡◌, ◌≢◌, refl, sym, ◌∙◌, ap, subst, ℕ, suc, ◌+◌, ◌<◌, List, [], ◌∷◌, ◌++◌, length, Ok, Bool, true, false, ◌||◌, if◌then◌else◌, Option, Some, None, arith}
 use Rattle.std.proofs.lemmas.List.{append_assoc, length-append}
 use Rattle.pw_grammar.specs.declared.sort.Sort.{Sort}
 use Rattle.pw_grammar.specs.declared.sort.Sort.TheVariants as s
 use Rattle.pw_grammar.specs.Terminals.{sort, first_sort, is_same}
-use Rattle.pw_grammar.specs.Expressions.{Phrase, spelled, IsAt, tree_of, name_in}
-use Rattle.pw_grammar.specs.Statements.{TypePhrase, word, unsigned, type_of, spelled_type, IsType, type_or, type_in, Local, plain, set, spelled_local, IsLocal, kind_of_local, first_line, statement_node}
-use Rattle.pw_grammar.specs.Steps.{Place, Outcome, Parser, and_then, ◌>>=◌, pure, refuse, next_sort, sees, here, take, skip, expect, name, either, finish_statement}
+use Rattle.pw_grammar.specs.Expressions.{Phrase, spelled, IsAt, tree_of}
+use Rattle.pw_grammar.specs.Statements.{TypePhrase, word, unsigned, type_of, spelled_type, IsType, type_or, type_in, Local, plain, set, spelled_local, IsLocal, kind_of_local, statement_node}
+use Rattle.pw_grammar.specs.Steps.{Place, Parser, pure, next_sort}
 use Rattle.pw_grammar.specs.ReadingStatements as r
-use Rattle.pw_grammar.proofs.Branches.{same_sorts, sorts_same, sorts_other}
-use Rattle.pw_grammar.proofs.CompleteSteps.{spot, then_, counted, valued, step_skip, step_expect, step_name, sees_it, sees_other, either_this, either_other, behind, parted, told_apart, same_line, fits, node_is, ends_part, ReadsExpressions}
+use Rattle.pw_grammar.proofs.Branches.{sorts_same}
+use Rattle.pw_grammar.proofs.CompleteTokens.{spot, then_, counted, step_skip, step_expect, step_name, sees_it, sees_other, either_this, either_other, parted, same_line, fits, node_is, ends_part, ReadsExpressions}
 use Rattle.pw_grammar.proofs.CompleteStarts.{starts_statement, begins_no_type}
 use Rattle.pw_tree.specs.declared.ty.Ty.{Ty}
 use Rattle.pw_tree.specs.declared.ty.Ty.TheVariants as ty
 use Rattle.pw_tree.specs.declared.expr.Expr.{Expr}
-use Rattle.pw_tree.specs.declared.stmt.Stmt.{Stmt}
-use Rattle.pw_tree.specs.declared.stmt.StmtKind.{StmtKind}
-use Rattle.pw_tree.specs.declared.stmt.StmtKind.TheVariants as k
 use Rattle.pw_lex.specs.declared.token.Token.{Token}
 
 -- ---- types
@@ -39,7 +36,8 @@ pub step_type : (c : TypePhrase) (at : ℕ) (ts : List Token) → IsType c
     → r.type_name (spot at (spelled_type c ++ ts)) ≡ Ok (type_in c, spot (at + length (spelled_type c)) ts)
 unfolding r.type_name r.unsigned_long
 step_type (word t) at ts (y, e) =
-    ap (λ b. if b then r.unsigned_long (spot at (t ∷ ts)) else r.type_by (type_of (sort t)) (spot at (t ∷ ts))) (sees_other s.Unsigned (spot at (t ∷ ts)) (one_word (sort t) y e))
+    ap (λ b. if b then r.unsigned_long (spot at (t ∷ ts)) else r.type_by (type_of (sort t)) (spot at (t ∷ ts)))
+        (sees_other s.Unsigned (spot at (t ∷ ts)) (one_word (sort t) y e))
     ∙ counted _ (by_word (type_of (sort t)) y at t ts e) (omega arith)
 step_type (unsigned u l) at ts (e, f) =
     ap (λ b. if b then r.unsigned_long (spot at (u ∷ l ∷ ts)) else r.type_by (type_of (sort u)) (spot at (u ∷ l ∷ ts))) (sees_it s.Unsigned (spot at (u ∷ l ∷ ts)) e)
@@ -60,7 +58,8 @@ type_length (word t) = omega arith
 type_length (unsigned u l) = omega arith
 
 pub local_begins : (l : Local) (ts : List Token) → IsLocal l → r.begins_type (first_sort (spelled_local l ++ ts)) ≡ true
-local_begins (plain c x e) ts is = subst (λ v. r.begins_type (first_sort v) ≡ true) (sym (append_assoc (spelled_type c) (x ∷ e ∷ []) ts)) (type_begins c (x ∷ e ∷ ts) is.0)
+local_begins (plain c x e) ts is = subst (λ v. r.begins_type (first_sort v) ≡ true) (sym (append_assoc (spelled_type c) (x ∷ e ∷ []) ts))
+    (type_begins c (x ∷ e ∷ ts) is.0)
 local_begins (set c x q a e) ts is =
     subst (λ v. r.begins_type (first_sort v) ≡ true) (sym (append_assoc (spelled_type c) (x ∷ q ∷ (spelled a ++ e ∷ [])) ts)) (type_begins c _ is.0)
 

@@ -19,6 +19,7 @@ pub mod LateFunctions
 pub mod LateUnits
 pub mod Nested
 pub mod Ends
+pub mod CompleteTokens
 pub mod CompleteTypes
 pub mod CompleteStarts
 pub mod CompleteSimple

@@ -1,3 +1,4 @@
+<<<<<<< HEAD:crates/pw_grammar/proofs/CompleteSteps.antt
 -- Steps that succeed, and which symbols end a phrase of a level.
 use Rattle.std.proofs.Common.{◌≡◌, ◌≢◌, refl, sym, ◌∙◌, ap, ap₂, subst, ℕ, suc, ◌-◌, ◌<◌, ◌≤◌, List, ◌∷◌, Ok, Bool, true, false, Option, Some, None, arith}
 use Rattle.pw_grammar.specs.declared.sort.Sort.{Sort}
@@ -6,6 +7,20 @@ use Rattle.pw_grammar.specs.Terminals.{sort, binary_of, level_of}
 use Rattle.pw_grammar.specs.Expressions.{IsOperator, binary_or}
 use Rattle.pw_grammar.specs.Steps.{Place, Outcome, Parser, and_then, ◌>>=◌, next_sort, sees, take, take_from, skip, expect, finish}
 use Rattle.pw_grammar.proofs.Branches.{sorts_same, sorts_other}
+=======
+-- What the steps of a reader do at tokens that they take: the tokens are there, so each step succeeds.
+use Rattle.std.proofs.Common.{◌≡◌, ◌≢◌, refl, sym, ◌∙◌, ap, subst, ℕ, suc, ◌+◌, ◌<◌, List, [], ◌∷◌, ◌++◌, length, Ok, Bool, true, false, if◌then◌else◌, arith}
+use Rattle.std.proofs.lemmas.List.{length-append}
+use Rattle.pw_grammar.specs.declared.sort.Sort.{Sort}
+use Rattle.pw_grammar.specs.declared.sort.Sort.TheVariants as s
+use Rattle.pw_grammar.specs.Terminals.{sort, first_sort}
+use Rattle.pw_grammar.specs.Expressions.{Phrase, spelled, IsAt, tree_of, name_in}
+use Rattle.pw_grammar.specs.Statements.{first_line, statement_node}
+use Rattle.pw_grammar.specs.Steps.{Place, Outcome, Parser, and_then, pure, refuse, next_sort, sees, take, take_from, skip, expect, name, either, finish_statement}
+use Rattle.pw_grammar.proofs.Branches.{sorts_same, sorts_other}
+use Rattle.pw_tree.specs.declared.expr.Expr.{Expr}
+use Rattle.pw_tree.specs.declared.stmt.StmtKind.{StmtKind}
+>>>>>>> b7b21e33fbf331038faec58ceca4e8076ef0e493:crates/pw_grammar/proofs/CompleteTokens.antt
 use Rattle.pw_lex.specs.declared.token.Token.{Token}
 use Rattle.pw_tree.specs.declared.expr.Expr.{roll-Expr}
 use Rattle.pw_tree.specs.declared.expr.ExprKind.{ExprKind}
