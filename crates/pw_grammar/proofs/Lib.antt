@@ -3,3 +3,4 @@ pub mod Branches
 pub mod Tokens
 pub mod Parts
 pub mod LawfulExpressions
+pub mod Pieces
