@@ -4,3 +4,6 @@ pub mod Tokens
 pub mod Parts
 pub mod LawfulExpressions
 pub mod Pieces
+pub mod LawfulTypes
+pub mod LawfulTargets
+pub mod LawfulSimple
