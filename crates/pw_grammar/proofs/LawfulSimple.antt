@@ -58,11 +58,98 @@ lawful_after n first a p q l = lawful_test (λ x. is_same x s.Assign) n (AfterEx
     (keeps_pure (λ x. is_same x s.Assign ≡ false) n (AfterExpression first a) (k.Eval a) (λ at x h. inl (record { is = refl; empty = refl })))
     (after_goes_on first a)
 
-word_set : (at : ℕ) (kind : StmtKind) (u v w : List Token) (c : Phrase) (to : List ℕ × Option Expr) (q : Token) (b : Phrase) → IsWord c to → IsAt 13 c
-    → sort q ≡ s.Assign → IsAt 13 b → u ≡ spelled c ++ v → v ≡ q ∷ (spelled b ++ w) → w ≡ []
-    → kind ≡ k.Set to.0 to.1 (tree_of (suc (at + length (spelled c))) b) → ASimple at kind u s.End
+-- behind the target's tokens v, which are `= b`
+record Sets (to : List ℕ × Option Expr) (at : ℕ) (kind : StmtKind) (v : List Token) : Type 0 where
+  token : Token
+  right : Phrase
+  sort_is : sort token ≡ s.Assign
+  is : IsAt 13 right
+  splits : v ≡ token ∷ spelled right
+  kind_is : kind ≡ k.Set to.0 to.1 (tree_of (suc at) right)
+
+sets : (first : ℕ) (a : Expr) (at : ℕ) (kind : StmtKind) (v : List Token) (x : Sort) (y : SetTo first a at kind v x) → Sets y.0 at kind v
+sets first a at kind v x y =
+    let o = y.2 in
+    let b = o.second in
+    record
+      { token = o.token; right = b.phrase
+      ; sort_is = same_sorts (sort o.token) s.Assign o.sort_is
+      ; is = b.is
+      ; splits = o.splits ∙ ap (λ w. o.token ∷ w) (b.splits ∙ (ap (λ w. spelled b.phrase ++ w) b.second.empty ∙ append-nil (spelled b.phrase)))
+      ; kind_is = b.second.is }
+
+word_set : (at : ℕ) (kind : StmtKind) (u v : List Token) (c : Phrase) (to : List ℕ × Option Expr) → IsWord c to → IsAt 13 c
+    → u ≡ spelled c ++ v → Sets to (at + length (spelled c)) kind v → Phrased IsSimple spelled_simple kind_of_simple at kind u
 unfolding spelled IsAt
-word_set at kind u v w c to q b i is assigns right e f g y = ?
+word_set at kind u v c to i is e y = record
+  { phrase = assign i.token y.token y.right
+  ; is = (subst (λ c. IsAt 13 c) i.is is, y.sort_is, y.is)
+  ; spells = subst (λ c. u ≡ spelled c ++ v) i.is e ∙ ap (λ v. i.token ∷ v) y.splits
+  ; value_is = y.kind_is ∙ (ap (λ to. k.Set to.0 to.1 (tree_of (suc (at + length (spelled c))) y.right)) i.to_is
+      ∙ ap (λ m. k.Set (name_in i.token.kind) None (tree_of m y.right)) (ap (λ c. suc (at + length (spelled c))) i.is ∙ after_word at)) }
+  where
+    after_word : (at : ℕ) → suc (at + 1) ≡ suc (suc at)
+    after_word at = omega arith
+
+after_element : (at n m : ℕ) → m ≡ n + 1 → suc (at + suc (suc m)) ≡ suc (suc (suc (suc at) + n))
+after_element at n m e = omega arith
+
+element_set : (at : ℕ) (kind : StmtKind) (u v : List Token) (c : Phrase) (to : List ℕ × Option Expr) → IsElement at c to → IsAt 13 c
+    → u ≡ spelled c ++ v → Sets to (at + length (spelled c)) kind v → Phrased IsSimple spelled_simple kind_of_simple at kind u
+unfolding spelled IsAt
+element_set at kind u v c to i is e y =
+    let there = subst (λ c. IsAt 13 c) i.is is in
+    record
+      { phrase = assign_element i.token i.left i.number i.right y.token y.right
+      ; is = (there.1, there.2, there.3, there.4, y.sort_is, y.is)
+      ; spells = subst (λ c. u ≡ spelled c ++ v) i.is e
+          ∙ ap (λ w. i.token ∷ i.left ∷ w) (append_assoc (spelled i.number) (i.right ∷ []) v ∙ ap (λ v. spelled i.number ++ i.right ∷ v) y.splits)
+      ; value_is = y.kind_is ∙ (ap (λ to. k.Set to.0 to.1 (tree_of (suc (at + length (spelled c))) y.right)) i.to_is
+          ∙ ap (λ m. k.Set (name_in i.token.kind) (Some (tree_of (suc (suc at)) i.number)) (tree_of m y.right)) (ap (λ c. suc (at + length (spelled c))) i.is
+          ∙ after_element at (length (spelled i.number)) _ (length-append (spelled i.number) (i.right ∷ [])))) }
+
+simple_by : (at : ℕ) (kind : StmtKind) (u v : List Token) (x : Sort) (c : Phrase) → IsAt 13 c → u ≡ spelled c ++ v
+    → AfterExpression at (tree_of at c) (at + length (spelled c)) kind v x → Phrased IsSimple spelled_simple kind_of_simple at kind u
+simple_by at kind u v x c is e (inl y) = record
+  { phrase = evaluate c; is = is; spells = e ∙ (ap (λ v. spelled c ++ v) y.empty ∙ append-nil (spelled c)); value_is = y.is }
+simple_by at kind u v x c is e (inr y) = by_target (target_phrase at c y.0 y.1)
+  where
+    by_target : IsTarget at c y.0 → Phrased IsSimple spelled_simple kind_of_simple at kind u
+    by_target (inl i) = word_set at kind u v c y.0 i is e (sets at (tree_of at c) (at + length (spelled c)) kind v x y)
+    by_target (inr i) = element_set at kind u v c y.0 i is e (sets at (tree_of at c) (at + length (spelled c)) kind v x y)
 
 simple_is : Within (Here (λ first. WithExpression 13 (λ a. AfterExpression first a))) ASimple
-simple_is at kind u x y = ?
+simple_is at kind u x y = simple_by at kind u y.behind x y.phrase y.is y.splits y.second
+
+pub lawful_simple : (n : ℕ) (p q : Parser Expr) → Lawful n (AnExpression 13) p q → Lawful n ASimple (r.simple p) (r.simple q)
+unfolding r.simple
+lawful_simple n p q l = within simple_is (lawful_from n _ _ _ (λ first. lawful_with n 13 _ p q _ _ l (λ a. lawful_after n first a p q l)))
+
+-- ---- the statement of an assignment or an expression, without its semicolon
+
+-- the node of these own tokens, whatever its last token is
+pub record IsStatementNode (first line : ℕ) (kind : StmtKind) (at : ℕ) (a : Stmt) (u : List Token) : Type 0 where
+  pub is : a ≡ roll-Stmt (record { first = first; last = at - 1; line = line; kind = kind })
+  pub empty : u ≡ []
+
+abbrev pub AStatementNode : ℕ → ℕ → StmtKind → Language Stmt
+AStatementNode first line kind = λ at a u x. IsStatementNode first line kind at a u
+
+pub lawful_finish_statement : (n first line : ℕ) (kind : StmtKind)
+    → Lawful n (AStatementNode first line kind) (finish_statement first line kind) (finish_statement first line kind)
+lawful_finish_statement n first line kind = record
+  { settled = λ i short. refl
+  ; says = λ i. record { tokens = []; leads = leads_nowhere i; reads = record { is = refl; empty = refl } }
+  ; steady = λ k i j same near. record
+      { place = j; is = ap (λ at. Ok (roll-Stmt (record { first = first; last = at - 1; line = line; kind = kind }), j)) (sym same.at); agree = same }
+  ; can = λ at. record { rest = []; value = _; reads = λ x o. record { is = refl; empty = refl }; starts = λ e x o. o } }
+
+abbrev pub ASimpleStatement : Language Stmt
+ASimpleStatement = APhrase IsSimple spelled_simple (λ at c. statement_node at (spelled_simple c) (kind_of_simple at c))
+
+-- a node that was finished behind its own tokens
+pub node_is : (at : ℕ) (kind kind' : StmtKind) (a : Stmt) (u v w : List Token) → u ≡ v ++ w → w ≡ [] → kind ≡ kind'
+    → a ≡ roll-Stmt (record { first = at; last = at + length v - 1; line = first_line u; kind = kind }) → a ≡ statement_node at v kind'
+node_is at kind kind' a u v w e f g y =
+    y ∙ (ap (λ u. roll-Stmt (record { first = at; last = at + length v - 1; line = first_line u; kind = kind })) (e ∙ (ap (λ w. v ++ w) f ∙ append-nil v))
+    ∙ ap (λ kind. statement_node at v kind) g)
