@@ -7,3 +7,4 @@ pub mod Pieces
 pub mod LawfulTypes
 pub mod LawfulTargets
 pub mod LawfulSimple
+pub mod LawfulStarts
