@@ -156,11 +156,11 @@ node_is at behind kind kind' a u v e f g y =
     ∙ (ap (λ u. roll-Stmt (record { first = at; last = at + length v - 1; line = first_line u; kind = kind })) e
     ∙ ap (λ kind. statement_node at v kind) g))
 
-no_tokens : (u v : List Token) (t : Token) → [] ≡ u ++ t ∷ v → ⊥
+pub no_tokens : (u v : List Token) (t : Token) → [] ≡ u ++ t ∷ v → ⊥
 no_tokens [] v t e = cc
 no_tokens (a ∷ u) v t e = cc
 
-no_front : (u v : List Token) → [] ≡ u ++ v → [] ≡ u
+pub no_front : (u v : List Token) → [] ≡ u ++ v → [] ≡ u
 no_front [] v e = refl
 no_front (t ∷ u) v e = absurd cc
 
@@ -311,7 +311,7 @@ local_is at a u x y =
     (e.splits ∙ ap (λ w. e.token ∷ w) e.second.empty))))
     e.second.is
 
-full_type : (c : TypePhrase) → [] ≡ spelled_type c → ⊥
+pub full_type : (c : TypePhrase) → [] ≡ spelled_type c → ⊥
 full_type (word t) e = cc
 full_type (unsigned u l) e = cc
 

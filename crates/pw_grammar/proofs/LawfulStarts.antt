@@ -126,6 +126,38 @@ lawful_start n p q l = lawful_test (λ x. is_same x s.Semicolon) n AStart _ _ _ 
 
 -- ---- `( e )`
 
+-- a bracket, an expression, a bracket
+abbrev Test : Type 0
+Test = Token × Phrase × Token
+
+abbrev IsTest : Test → Type 0
+IsTest t = (sort t.0 ≡ s.LeftParen) × IsAt 13 t.1 × (sort t.2 ≡ s.RightParen)
+
+abbrev spelled_test : Test → List Token
+spelled_test t = t.0 ∷ (spelled t.1 ++ t.2 ∷ [])
+
+abbrev tree_of_test : ℕ → Test → Expr
+tree_of_test at t = tree_of (suc at) t.1
+
+abbrev ATest : Language Expr
+ATest = APhrase IsTest spelled_test tree_of_test
+
+test_is : Within (Then (λ x. x ≡ s.LeftParen) (λ o. WithExpression 13 (λ a. Then (λ x. x ≡ s.RightParen) (λ c. Pure a)))) ATest
+test_is at a u x o =
+    let b = o.second in
+    let c = b.second in
+    record
+      { phrase = (o.token, b.phrase, c.token)
+      ; is = (o.sort_is, b.is, c.sort_is)
+      ; spells = o.splits ∙ ap (λ v. o.token ∷ v) (b.splits ∙ ap (λ v. spelled b.phrase ++ v) (c.splits ∙ ap (λ v. c.token ∷ v) c.second.empty))
+      ; value_is = c.second.is }
+
+lawful_test_part : (n : ℕ) (p q : Parser Expr) → Lawful n (AnExpression 13) p q → Lawful n ATest (r.test p) (r.test q)
+unfolding r.test
+lawful_test_part n p q l = within test_is (lawful_then n s.LeftParen _ _ _ left_paren (λ o. lawful_with n 13 _ p q _ _ l
+    (λ a. lawful_then n s.RightParen _ _ _ right_paren (λ c. lawful_pure n a))))
+
+-- `( e )`, and what comes behind it
 pub record Tested {B : Type 0} (M : Expr → Language B) (at : ℕ) (b : B) (u : List Token) (x : Sort) : Type 0 where
   pub left : Token
   pub phrase : Phrase
@@ -136,3 +168,23 @@ pub record Tested {B : Type 0} (M : Expr → Language B) (at : ℕ) (b : B) (u :
   pub right_is : sort right ≡ s.RightParen
   pub splits : u ≡ left ∷ (spelled phrase ++ right ∷ behind)
   pub second : M (tree_of (suc at) phrase) (suc (suc at + length (spelled phrase))) b behind x
+
+test_then : {B : Type 0} (M : Expr → Language B) → Within (WithPhrase IsTest spelled_test tree_of_test M) (Tested M)
+test_then M at b u x y = record
+  { left = y.phrase.0
+  ; phrase = y.phrase.1
+  ; right = y.phrase.2
+  ; behind = y.behind
+  ; left_is = y.is.0
+  ; is = y.is.1
+  ; right_is = y.is.2
+  ; splits = y.splits ∙ ap (λ v. y.phrase.0 ∷ v) (append_assoc (spelled y.phrase.1) (y.phrase.2 ∷ []) y.behind)
+  ; second = subst (λ n. M (tree_of (suc at) y.phrase.1) n b y.behind x)
+      (count at (length (spelled y.phrase.1)) _ (length-append (spelled y.phrase.1) (y.phrase.2 ∷ []))) y.second }
+  where
+    count : (at n m : ℕ) → m ≡ n + 1 → at + suc m ≡ suc (suc at + n)
+    count at n m e = omega arith
+
+pub lawful_tested : {B : Type 0} (n : ℕ) (M : Expr → Language B) (p q : Parser Expr) (f g : Expr → Parser B)
+    → Lawful n (AnExpression 13) p q → ((a : Expr) → Lawful n (M a) (f a) (g a)) → Lawful n (Tested M) (r.test p >>= f) (r.test q >>= g)
+lawful_tested n M p q f g l k = within (test_then M) (lawful_with_phrase n IsTest spelled_test tree_of_test M _ _ f g (lawful_test_part n p q l) k)

@@ -8,3 +8,5 @@ pub mod LawfulTypes
 pub mod LawfulTargets
 pub mod LawfulSimple
 pub mod LawfulStarts
+pub mod LawfulLoops
+pub mod LawfulStatements
