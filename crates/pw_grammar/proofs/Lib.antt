@@ -9,4 +9,5 @@ pub mod LawfulTargets
 pub mod LawfulSimple
 pub mod LawfulStarts
 pub mod LawfulLoops
+pub mod LawfulForms
 pub mod LawfulStatements

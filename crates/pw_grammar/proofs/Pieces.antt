@@ -167,3 +167,13 @@ full_shrinks {A} n L p full says = λ i short. leaves i (p i) (says i) short
         (λ e. full i.at p.0 (next_sort p.1) (subst (λ u. L i.at p.0 u (next_sort p.1)) e r.reads))
         (ap length r.leads.rest ∙ length-append r.tokens p.1.rest) short
     leaves i (Err e) r short = tt
+
+-- no turns at all, for fewer than no tokens
+pub lawful_no_turns : {A : Type 0} (L : Language A) (q : Parser A) → ((at : ℕ) → GoesOn L at []) → Lawful 0 L refuse q
+lawful_no_turns L q can =
+    let k = keeps_refuse (λ x. ⊤) 0 L can in
+    record
+      { settled = λ i short. absurd (omega arith)
+      ; says = λ i. k.says i tt
+      ; steady = λ m i j same. k.steady m i j tt same
+      ; can = can }
