@@ -11,3 +11,4 @@ pub mod LawfulStarts
 pub mod LawfulLoops
 pub mod LawfulForms
 pub mod LawfulStatements
+pub mod LawfulParameters

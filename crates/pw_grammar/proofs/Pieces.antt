@@ -10,7 +10,8 @@ use Rattle.pw_grammar.specs.Statements.{first_line}
 use Rattle.pw_grammar.specs.Steps.{Place, Outcome, Parser, and_then, ◌>>=◌, pure, refuse, next_sort, sees, here, line_here, take, skip, expect, name}
 use Rattle.pw_grammar.proofs.Lawful.{Language, sort_before, Leads, Agree, GoesOn, HasRead, HasStopped, Says, Reaches, Same, Lawful, Within, Lax, within, Seq, bind, bind_from, Leaves, Shrinks, Pure, Nothing, lawful_pure, same_passed, near_or_far, leads_nowhere}
 use Rattle.pw_grammar.proofs.Branches.{Keeps, keeps, keeps_equal, keeps_refuse, keeps_pure, lawful_test, keeps_within, keeps_bind_from, next_agrees, same_sorts}
-use Rattle.pw_grammar.proofs.Tokens.{Named, AName, a_name_is_lax, lawful_name}
+use Rattle.pw_grammar.proofs.Tokens.{Named, AName, a_name_is_lax, lawful_name, AToken, Given, a_token_is_lax, keeps_take, Taken, ALine, keeps_skip, take_leaves}
+use Rattle.pw_grammar.proofs.Parts.{Then, keeps_then}
 use Rattle.pw_lex.specs.declared.token.Token.{Token}
 
 -- ---- a language of phrases
@@ -177,3 +178,37 @@ lawful_no_turns L q can =
       ; says = λ i. k.says i tt
       ; steady = λ m i j same. k.steady m i j tt same
       ; can = can }
+
+-- a token that was seen to be of a kind, at any number of turns
+pub keeps_then_fewer : {B : Type 0} (c : Sort → Type 0) (n : ℕ) (M : ℕ → Language B) (f g : ℕ → Parser B) → (c s.End → ⊥)
+    → ((line : ℕ) → Lawful (n - 1) (M line) (f line) (g line)) → Keeps c n (Then c M) (skip >>= f) (skip >>= g)
+keeps_then_fewer c zero M f g ends l = keeps_fewer c zero _ _ _ (keeps_then c zero M f g ends (λ line. fewer_than zero (zero - 1) (omega arith) (l line)))
+keeps_then_fewer c (suc n) M f g ends l = keeps_then c n M f g ends (λ line. fewer_than n (suc n - 1) (omega arith) (l line))
+
+-- ---- a token of a kind, of which a value is kept
+
+abbrev pub OneOf : {A : Type 0} → (Sort → Type 0) → (Token → A) → Language A
+OneOf C f = APhrase (λ (t : Token). C (sort t)) (λ t. t ∷ []) (λ at t. f t)
+
+one_of_is : {A : Type 0} (c C : Sort → Type 0) (f : Token → A) → ((x : Sort) → c x → C x) → Within (Seq (AToken c) (λ t. Pure (f t))) (OneOf C f)
+one_of_is c C f implies at a u x r = record
+  { phrase = r.value
+  ; is = implies (sort r.value) r.first.sort_is
+  ; spells = r.splits ∙ (ap (λ v. r.front ++ v) r.second.empty ∙ (append-nil r.front ∙ r.first.is))
+  ; value_is = r.second.is }
+
+shrunk : (n : ℕ) (i : Place) → length i.rest < n → Leaves n (take i)
+unfolding take
+shrunk n i short = take_leaves n i.at i.rest short
+
+pub lawful_one_of : {A : Type 0} (n : ℕ) (t : Sort → Bool) (C : Sort → Type 0) (f : Token → A) → ((x : Sort) → t x ≡ true → C x) → (t s.End ≡ true → ⊥)
+    → ((at : ℕ) → GoesOn (OneOf C f) at [])
+    → Lawful n (OneOf C f) (λ i. if t (next_sort i) then (take >>= (λ t. pure (f t))) i else refuse i) (λ i. if t (next_sort i) then (take >>= (λ t. pure (f t))) i else refuse i)
+lawful_one_of n t C f implies ends can = lawful_test t n (OneOf C f) _ _ _ _
+    (keeps_within (λ x. t x ≡ true) n _ (OneOf C f) _ _ (one_of_is (λ x. t x ≡ true) C f implies)
+    (keeps_bind_from (λ x. t x ≡ true) n n (AToken (λ x. t x ≡ true)) (λ t. Pure (f t)) take take (λ t. pure (f t)) (λ t. pure (f t)) (a_token_is_lax (λ x. t x ≡ true))
+    (keeps_take (λ x. t x ≡ true) ends n) (λ t. lawful_pure n (f t)) (λ i short. leaves i short)))
+    (keeps_refuse (λ x. t x ≡ false) n (OneOf C f) can) can
+  where
+    leaves : (i : Place) → length i.rest < n → Leaves n (take i)
+    leaves i short = shrunk n i short
