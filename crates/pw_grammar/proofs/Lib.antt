@@ -12,3 +12,4 @@ pub mod LawfulLoops
 pub mod LawfulForms
 pub mod LawfulStatements
 pub mod LawfulParameters
+pub mod LawfulInitials
