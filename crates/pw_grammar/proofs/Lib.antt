@@ -13,3 +13,4 @@ pub mod LawfulForms
 pub mod LawfulStatements
 pub mod LawfulParameters
 pub mod LawfulInitials
+pub mod LawfulVariables
