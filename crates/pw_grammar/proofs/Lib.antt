@@ -14,3 +14,5 @@ pub mod LawfulStatements
 pub mod LawfulParameters
 pub mod LawfulInitials
 pub mod LawfulVariables
+pub mod LawfulFunctions
+pub mod LawfulDeclarations
