@@ -16,3 +16,4 @@ pub mod LawfulInitials
 pub mod LawfulVariables
 pub mod LawfulFunctions
 pub mod LawfulDeclarations
+pub mod LawfulUnits

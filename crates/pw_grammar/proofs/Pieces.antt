@@ -36,7 +36,7 @@ pub record WithPhrase {P A B : Type 0} (Is : P → Type 0) (spell : P → List T
   pub splits : u ≡ spell phrase ++ behind
   pub second : M (tree at phrase) (at + length (spell phrase)) b behind x
 
-phrase_then : {P A B : Type 0} (Is : P → Type 0) (spell : P → List Token) (tree : ℕ → P → A) (M : A → Language B)
+pub phrase_then : {P A B : Type 0} (Is : P → Type 0) (spell : P → List Token) (tree : ℕ → P → A) (M : A → Language B)
     → Within (Seq (APhrase Is spell tree) M) (WithPhrase Is spell tree M)
 phrase_then Is spell tree M at b u x y = record
   { phrase = y.first.phrase
