@@ -29,3 +29,17 @@ pub mod CompleteBlocks
 pub mod CompleteParameters
 pub mod CompleteInitials
 pub mod CompleteDeclarations
+pub mod Pieces
+pub mod LawfulTypes
+pub mod LawfulTargets
+pub mod LawfulSimple
+pub mod LawfulStarts
+pub mod LawfulLoops
+pub mod LawfulForms
+pub mod LawfulStatements
+pub mod LawfulParameters
+pub mod LawfulInitials
+pub mod LawfulVariables
+pub mod LawfulFunctions
+pub mod LawfulDeclarations
+pub mod LawfulUnits

@@ -95,7 +95,7 @@ line_of_a_token c at a u x r = record
   ; sort_is = r.first.sort_is
   ; line = r.second.is }
 
-take_leaves : (n at : ℕ) (ts : List Token) → length ts < n → Leaves n (take_from at ts)
+pub take_leaves : (n at : ℕ) (ts : List Token) → length ts < n → Leaves n (take_from at ts)
 unfolding take_from
 take_leaves n at [] short = tt
 take_leaves n at (t ∷ ts) short = omega arith
