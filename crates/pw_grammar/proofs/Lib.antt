@@ -43,3 +43,4 @@ pub mod LawfulVariables
 pub mod LawfulFunctions
 pub mod LawfulDeclarations
 pub mod LawfulUnits
+pub mod Known
