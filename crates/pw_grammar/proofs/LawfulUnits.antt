@@ -1,9 +1,13 @@
 -- The laws of the reader of units.
-use Rattle.std.proofs.Common.{◌≡◌, ◌≢◌, refl, sym, ◌∙◌, ap, subst, ℕ, zero, suc, ◌+◌, ◌-◌, ◌<◌, ◌≤◌, List, [], ◌∷◌, ◌++◌, length, ◌⊎◌, inl, inr, Result, Ok, Err, Bool, true, false, if◌then◌else◌, Option, Some, None, arith}
+use Rattle.std.proofs.Common.{◌≡◌, ◌≢◌, refl, sym, ◌∙◌, ap, subst, ℕ, zero, suc, ◌+◌, ◌-◌, ◌<◌, ◌≤◌, List, [], ◌∷◌, ◌++◌, length, ◌⊎◌, inl, inr, Result, Ok, Err, Bool, true, false, not, slice_index_or, if◌then◌else◌, Option, Some, None, arith}
 use Rattle.std.proofs.lemmas.List.{append-nil, append_assoc}
 use Rattle.std.specs.Bool.{⊤}
+use Rattle.std.specs.List.{list_all}
+use Rattle.std.proofs.lemmas.Bool.{and_parts}
 use Rattle.pw_grammar.specs.declared.sort.Sort.{Sort}
 use Rattle.pw_grammar.specs.declared.sort.Sort.TheVariants as s
+use Rattle.pw_grammar.specs.declared.sort.TheConstants.{KEYWORDS, PUNCTUATORS}
+use Rattle.pw_grammar.specs.declared.error.SyntaxError.{SyntaxError}
 use Rattle.pw_grammar.specs.declared.error.SyntaxError.TheVariants.{At}
 use Rattle.pw_grammar.specs.Terminals.{sort, sort_of, first_sort, is_same}
 use Rattle.pw_grammar.specs.Statements.{spelled_type, TypePhrase, word, unsigned}
@@ -13,7 +17,7 @@ use Rattle.pw_grammar.specs.ReadingExpressions.{expression}
 use Rattle.pw_grammar.specs.ReadingStatements.{statement}
 use Rattle.pw_grammar.specs.ReadingDeclarations as r
 use Rattle.pw_grammar.proofs.Lawful.{Language, sort_before, GoesOn, Lawful, Within, Lax, within, Seq, bind, bind_from, Pure, Nothing, lawful_pure}
-use Rattle.pw_grammar.proofs.Branches.{Keeps, keeps, keeps_refuse, keeps_pure, lawful_test, keeps_within, same_sorts}
+use Rattle.pw_grammar.proofs.Branches.{Keeps, keeps, keeps_refuse, keeps_pure, lawful_test, keeps_within, same_sorts, sorts_same}
 use Rattle.pw_grammar.proofs.Parts.{AnExpression}
 use Rattle.pw_grammar.proofs.Pieces.{Phrased, APhrase, a_phrase_is_lax, WithPhrase, phrase_then, lawful_with_phrase, fewer_than, Full, full_shrinks}
 use Rattle.pw_grammar.proofs.LawfulTypes.{Is}
@@ -25,6 +29,8 @@ use Rattle.pw_tree.specs.declared.expr.Expr.{Expr}
 use Rattle.pw_tree.specs.declared.stmt.Stmt.{Stmt}
 use Rattle.pw_tree.specs.declared.decl.Decl.{Decl}
 use Rattle.pw_lex.specs.declared.token.Token.{Token}
+use Rattle.pw_lex.specs.declared.token.TokenKind.{TokenKind}
+use Rattle.pw_lex.specs.declared.token.TokenKind.TheVariants as t
 
 -- ---- declarations, one after another
 
@@ -116,8 +122,57 @@ lawful_unit l n = lawful_all n n (omega arith) (r.declaration (expression n) (st
 
 -- ---- a unit ends where the tokens end
 
-no_sort_is_end : (t : Token) → sort t ≡ s.End → ⊥
-no_sort_is_end t e = ?
+abbrev is_no_end : Sort → Bool
+is_no_end x = not (is_same x s.End)
 
-ends_at : (n : ℕ) (cs ds : List Decl) (i j : Place) → either s.End (pure cs) refuse i ≡ Ok (ds, j) → next_sort j ≡ s.End
-ends_at n cs ds i j e = ?
+number_no_end : (xs : List Sort) (n : ℕ) → list_all is_no_end xs ≡ true → is_no_end (slice_index_or xs n s.Other) ≡ true
+unfolding is_same
+number_no_end [] n e = refl
+number_no_end (x ∷ xs) zero e = (and_parts (is_no_end x) (list_all is_no_end xs) e).0
+number_no_end (x ∷ xs) (suc n) e = number_no_end xs n (and_parts (is_no_end x) (list_all is_no_end xs) e).1
+
+kind_no_end : (kind : TokenKind) → is_no_end (sort_of kind) ≡ true
+unfolding is_same sort_of
+kind_no_end (t.Word name) = refl
+kind_no_end (t.Number value u) = refl
+kind_no_end (t.Char value) = refl
+kind_no_end (t.Keyword number) = number_no_end KEYWORDS number refl
+kind_no_end (t.Punct number) = number_no_end PUNCTUATORS number refl
+
+not_both : (b : Bool) → not b ≡ true → b ≡ true → ⊥
+not_both true e f = cc
+not_both false e f = cc
+
+-- no token is the end
+pub no_token_is_end : (t : Token) → sort t ≡ s.End → ⊥
+no_token_is_end t e = not_both (is_same (sort t) s.End) (kind_no_end t.kind) (sorts_same (sort t) s.End e)
+
+at_end : (ts : List Token) → first_sort ts ≡ s.End → ts ≡ []
+at_end [] e = refl
+at_end (t ∷ ts) e = absurd (no_token_is_end t e)
+
+abbrev IsAt : {A : Type 0} → Outcome A → A → Place → Type 0
+IsAt o a j = o ≡ Ok (a, j)
+
+abbrev place_or : {A : Type 0} → Outcome A → Place → Place
+place_or (Ok p) i = p.1
+place_or (Err e) i = i
+
+same_place : {A : Type 0} (a b : A) (i j : Place) → IsAt (Ok (a, i)) b j → i ≡ j
+same_place a b i j e = ap (λ o. place_or o i) e
+
+ended_by : (cs ds : List Decl) (i j : Place) (b : Bool) → sees s.End i ≡ b → (if b then pure cs i else refuse i) ≡ Ok (ds, j) → j.rest ≡ []
+unfolding sees
+ended_by cs ds i j true at_it e =
+    ap (λ j. j.rest) (sym (same_place cs ds i j e)) ∙ at_end i.rest (same_sorts (first_sort i.rest) s.End at_it)
+ended_by cs ds i j false at_it e = absurd cc
+
+ended_both : (o : Outcome (List Decl)) (ds : List Decl) (j : Place)
+    → and_then o (λ cs. either s.End (pure cs) refuse) ≡ Ok (ds, j) → j.rest ≡ []
+ended_both (Ok p) ds j e = ended_by p.0 ds p.1 j (sees s.End p.1) refl e
+ended_both (Err f) ds j e = absurd cc
+
+-- what was read as a unit is all of the tokens
+pub unit_ends : (n : ℕ) (i j : Place) (ds : List Decl) → r.unit n i ≡ Ok (ds, j) → j.rest ≡ []
+unfolding r.unit r.all_declarations
+unit_ends n i j ds e = ended_both (r.declarations (r.declaration (expression n) (statement n) n) n [] i) ds j e
