@@ -1,5 +1,5 @@
 -- What is known of the reader of units and of the limits, gathered; and that no list has two trees.
-use Rattle.std.proofs.Common.{◌≡◌, refl, sym, ◌∙◌, ap, subst, ℕ, suc, ◌<◌, List, [], length, Result, Ok, Err, arith}
+use Rattle.std.proofs.Common.{◌≡◌, refl, sym, ◌∙◌, ap, subst, ℕ, suc, ◌<◌, List, [], length, Result, Ok, Err, Bool, true, false, arith}
 use Rattle.pw_grammar.specs.Expressions.{Phrase, IsAt, spelled, tree_of}
 use Rattle.pw_grammar.specs.Declarations.{UnitPhrase, spelled_unit, IsUnit, trees_of_declarations, Derives, lines_of}
 use Rattle.pw_grammar.specs.Steps.{Place, Outcome}
@@ -9,8 +9,13 @@ use Rattle.pw_grammar.specs.Reading.{parsed}
 use Rattle.pw_grammar.specs.Laws.{Tells, ReadingTells, OneTree}
 use Rattle.pw_grammar.proofs.Lawful.{Lawful, Within, within}
 use Rattle.pw_grammar.proofs.LawfulUnits as b
+use Rattle.pw_grammar.proofs.CompleteSteps.{EndsExpression}
 use Rattle.pw_grammar.proofs.CompleteExpressions.{reads_expression}
-use Rattle.pw_grammar.proofs.CompleteTokens.{ReadsExpressions}
+use Rattle.pw_grammar.proofs.LawfulChains.{lawful_expression}
+use Rattle.pw_grammar.specs.declared.sort.Sort.{Sort}
+use Rattle.pw_grammar.specs.declared.sort.Sort.TheVariants as s
+use Rattle.pw_grammar.specs.Terminals.{first_sort}
+use Rattle.pw_grammar.proofs.CompleteTokens.{ReadsExpressions, ends_part}
 use Rattle.pw_grammar.proofs.CompleteDeclarations.{reads_unit}
 use Rattle.pw_grammar.proofs.Ends.{unit_ends}
 use Rattle.pw_grammar.proofs.Whole.{Knows, IsUnitAt, AUnit, from_start}
@@ -19,11 +24,25 @@ use Rattle.pw_grammar.proofs.LateUnits.{late_found, late_first, late_prefix, lat
 use Rattle.pw_grammar.proofs.Nested.{nested_found, nested_first}
 use Rattle.pw_lex.specs.declared.token.Token.{Token}
 use Rattle.pw_tree.specs.declared.decl.Unit.{Unit}
+use Rattle.pw_tree.specs.declared.decl.Decl.{Decl}
+
+part_ends : (x : Sort) → ends_part x ≡ true → EndsExpression x
+part_ends s.RightParen e = refl
+part_ends s.RightBracket e = refl
+part_ends s.Semicolon e = refl
+part_ends s.Assign e = refl
+part_ends _ e = absurd (let f : false ≡ true = e in cc)
+
+reads_expressions : (n : ℕ) → ReadsExpressions n (expression n)
+reads_expressions n = record { reads = λ c at r is ends short. reads_expression n c at r is (part_ends (first_sort r) ends) short }
+
+unit_at : Within b.AUnit AUnit
+unit_at at ds u x r = record { phrase = r.phrase; is = r.is; spells = r.spells; trees = r.value_is }
 
 pub units : Knows
 units = record
-  { lawful = ?
-  ; reads = ?
+  { lawful = λ n. within unit_at (b.lawful_unit lawful_expression n)
+  ; reads = λ n c is short. reads_unit reads_expressions n c is short
   ; ends = unit_ends }
 
 pub limits : KnowsLimits
@@ -38,3 +57,24 @@ limits = record
 
 pub reading_tells : ReadingTells
 reading_tells n tokens short = parsed_tells units limits n tokens short
+
+-- two derivations of one list are both read, and give what is read
+trees_in : Outcome (List Decl) → List Decl
+trees_in (Ok p) = p.0
+trees_in (Err e) = []
+
+trees_read : (n : ℕ) (tokens : List Token) (c : UnitPhrase) → IsUnit c → spelled_unit c ≡ tokens → length tokens < n
+    → trees_in (unit n (from_start tokens)) ≡ trees_of_declarations 0 c
+unfolding trees_in
+trees_read n tokens c is spells short =
+    ap (λ z. trees_in (unit n (from_start z))) (sym spells)
+    ∙ ap trees_in (reads_unit reads_expressions n c is (subst (λ z. length z < n) (sym spells) short))
+
+same_units : (a b : Unit) → a.decls ≡ b.decls → a.lines ≡ b.lines → a ≡ b
+same_units a b d l = ap (λ ds. record { decls = ds; lines = a.lines }) d ∙ ap (λ ls. record { decls = b.decls; lines = ls }) l
+
+pub one_tree : OneTree
+one_tree tokens a b x y =
+    let short = (let z : length tokens < suc (length tokens) = omega arith in z) in
+    let same = sym (trees_read (suc (length tokens)) tokens x.phrase x.is x.spells short) ∙ trees_read (suc (length tokens)) tokens y.phrase y.is y.spells short in
+    same_units a b (x.decls ∙ (same ∙ sym y.decls)) (x.lines ∙ sym y.lines)

@@ -1,0 +1,5 @@
+use Rattle.pw_grammar.proofs.Known.{reading_tells}
+use Rattle.pw_grammar.proofs.laws.reading_tells_the_tree_or_the_first_fault.Goals as goal
+
+pub returns : goal.returns
+returns c = reading_tells
