@@ -1,30 +1,27 @@
 -- The laws of the readers of declarations.
-use Rattle.std.proofs.Common.{◌≡◌, ◌≢◌, refl, sym, ◌∙◌, ap, subst, ℕ, zero, suc, ◌+◌, ◌-◌, ◌<◌, ◌≤◌, List, [], ◌∷◌, ◌++◌, length, ◌⊎◌, inl, inr, Result, Ok, Err, Bool, true, false, if◌then◌else◌, Option, Some, None, arith}
-use Rattle.std.proofs.lemmas.List.{append-nil, append_assoc, length-append}
-use Rattle.std.specs.Bool.{⊤}
-use Rattle.pw_grammar.specs.declared.sort.Sort.{Sort}
+use Rattle.std.proofs.Common.{◌≡◌, ◌≢◌, refl, sym, ◌∙◌, ap, subst, ℕ, suc, ◌+◌, ◌-◌, ◌≤◌, List, [], ◌∷◌, ◌++◌, length, inl, inr, Ok, Bool, true, false, if◌then◌else◌, Option, Some, None, arith}
+use Rattle.std.proofs.lemmas.Bool.{both_ways}
+use Rattle.std.proofs.lemmas.List.{append-nil, length-append}
 use Rattle.pw_grammar.specs.declared.sort.Sort.TheVariants as s
-use Rattle.pw_grammar.specs.Terminals.{sort, sort_of, first_sort, is_same}
+use Rattle.pw_grammar.specs.Terminals.{sort, is_same}
 use Rattle.pw_grammar.specs.Expressions.{name_in}
 use Rattle.pw_grammar.specs.Statements.{spelled_statements, spelled_type, type_in, first_line}
 use Rattle.pw_grammar.specs.Declarations as g
-use Rattle.pw_grammar.specs.Steps.{Place, Parser, ◌>>=◌, pure, refuse, next_sort, sees, here, line_here, skip, expect, name, either}
+use Rattle.pw_grammar.specs.Steps.{Parser, refuse, sees}
 use Rattle.pw_grammar.specs.ReadingDeclarations as r
-use Rattle.pw_grammar.proofs.Lawful.{Language, sort_before, GoesOn, Lawful, Within, Lax, within, Seq, bind, Pure, Nothing, lawful_pure, leads_nowhere}
-use Rattle.pw_grammar.proofs.Branches.{Keeps, keeps, keeps_refuse, keeps_pure, lawful_test, keeps_within, same_sorts}
-use Rattle.pw_grammar.proofs.Tokens.{Sample}
+use Rattle.pw_grammar.proofs.Lawful.{Language, goes_on_within, GoesOn, Lawful, Within, within, leads_nowhere}
+use Rattle.pw_grammar.proofs.Branches.{Keeps, keeps, keeps_refuse, lawful_test, keeps_within}
 use Rattle.pw_grammar.proofs.Parts.{AnExpression, Here, lawful_from}
-use Rattle.pw_grammar.proofs.Pieces.{Phrased, APhrase, WithPhrase, lawful_with_phrase, WithName, lawful_with_name, fewer_than, Lined, lawful_line, Full}
+use Rattle.pw_grammar.proofs.Pieces.{Phrased, APhrase, WithPhrase, lawful_with_phrase, WithName, lawful_with_name, Lined, lawful_line, Full}
 use Rattle.pw_grammar.proofs.LawfulTypes.{Is, left_paren, right_paren, semicolon, void, a_name}
 use Rattle.pw_grammar.proofs.LawfulLoops.{AStatement}
-use Rattle.pw_grammar.proofs.LawfulParameters.{linkage_at, AStorage, lawful_storage, result_at, AResult, lawful_result}
+use Rattle.pw_grammar.proofs.LawfulParameters.{linkage_at, lawful_storage, result_at, lawful_result}
 use Rattle.pw_grammar.proofs.LawfulVariables.{Ended, IsEnded, spelled_ended, declared_at, AVariable, lawful_variable}
-use Rattle.pw_grammar.proofs.LawfulFunctions.{FunctionPart, prototyped, defined, IsFunction, spelled_function, function_at, AFunction, function_goes_on, lawful_function}
+use Rattle.pw_grammar.proofs.LawfulFunctions.{function_goes_on, FunctionPart, prototyped, defined, IsFunction, spelled_function, function_at, AFunction, lawful_function}
 use Rattle.pw_tree.specs.declared.ty.Ty.{Ty}
 use Rattle.pw_tree.specs.declared.expr.Expr.{Expr}
 use Rattle.pw_tree.specs.declared.stmt.Stmt.{Stmt}
 use Rattle.pw_tree.specs.declared.decl.Linkage.{Linkage}
-use Rattle.pw_tree.specs.declared.decl.Linkage.TheVariants as linkage
 use Rattle.pw_tree.specs.declared.decl.DeclKind.{DeclKind}
 use Rattle.pw_tree.specs.declared.decl.Decl.{Decl}
 use Rattle.pw_lex.specs.declared.token.Token.{Token}
@@ -57,13 +54,7 @@ variable_is : (linkage : Linkage) (ty : Ty) → r.is_void ty ≡ false → Withi
 variable_is linkage ty e at a u x y = record { phrase = variable y.phrase; is = (e, y.is); spells = y.spells; value_is = y.value_is }
 
 part_goes_on : (linkage : Linkage) (ty : Ty) (at : ℕ) → GoesOn (APart linkage ty) at []
-part_goes_on linkage ty at = record
-  { rest = left_paren.token ∷ void.token ∷ right_paren.token ∷ semicolon.token ∷ []
-  ; value = _
-  ; reads = λ x o. record
-      { phrase = function (prototyped left_paren.token (g.none void.token) right_paren.token semicolon.token)
-      ; is = (left_paren.sort_is, void.sort_is, right_paren.sort_is, semicolon.sort_is); spells = refl; value_is = refl }
-  ; starts = λ e x o. subst (λ z. z ≢ s.Else) (sym left_paren.sort_is) left_paren.no_else }
+part_goes_on linkage ty at = goes_on_within (function_is linkage ty) (function_goes_on linkage ty at)
 
 -- a variable, where the type is no `void`
 keeps_variable : (m n : ℕ) → n ≤ m → (linkage : Linkage) (ty : Ty) (b : Bool) → r.is_void ty ≡ b
@@ -110,10 +101,7 @@ with_last first name_at line linkage x p last =
 
 defining : (t : Option Token) → g.IsStorage t → r.is_extern (g.linkage_of t) ≡ false → g.IsDefining t
 defining None is e = tt
-defining (Some t) (inl is) e = absurd (both (r.is_extern (g.linkage_by (sort t))) e (ap (λ x. r.is_extern (g.linkage_by x)) is))
-  where
-    both : (b : Bool) → b ≡ false → b ≡ true → ⊥
-    both b e f = cc
+defining (Some t) (inl is) e = absurd (both_ways (r.is_extern (g.linkage_by (sort t))) e (ap (λ x. r.is_extern (g.linkage_by x)) is))
 defining (Some t) (inr is) e = is
 
 may_have : (t : Option Token) (v : g.Variable) → g.IsStorage t → (r.is_extern (g.linkage_of t) ≡ true → g.HasNoValue v) → g.MayHave t v

@@ -1,26 +1,23 @@
 -- The laws of the readers of the forms of statements, each behind its first token.
-use Rattle.std.proofs.Common.{◌≡◌, ◌≢◌, refl, sym, ◌∙◌, ap, subst, ℕ, zero, suc, ◌+◌, ◌-◌, ◌<◌, ◌≤◌, List, [], ◌∷◌, ◌++◌, length, ◌⊎◌, inl, inr, Result, Ok, Err, Bool, true, false, if◌then◌else◌, Option, Some, None, arith}
-use Rattle.std.proofs.lemmas.List.{append-nil, append_assoc, length-append}
-use Rattle.std.specs.Bool.{⊤}
+use Rattle.std.proofs.Common.{◌≡◌, ◌≢◌, refl, sym, ◌∙◌, ap, subst, ℕ, suc, ◌+◌, ◌≤◌, List, [], ◌∷◌, ◌++◌, length, ◌⊎◌, Bool, true, false, Option, Some, None}
+use Rattle.std.proofs.lemmas.List.{append-nil}
 use Rattle.pw_grammar.specs.declared.sort.Sort.{Sort}
 use Rattle.pw_grammar.specs.declared.sort.Sort.TheVariants as s
-use Rattle.pw_grammar.specs.Terminals.{sort, sort_of, first_sort, is_same}
+use Rattle.pw_grammar.specs.Terminals.{sort, is_same}
 use Rattle.pw_grammar.specs.Expressions.{Phrase, spelled, IsAt, tree_of}
-use Rattle.pw_grammar.specs.Statements.{Simple, spelled_simple, IsSimple, kind_of_simple, Start, spelled_start, IsStart, tree_of_start, spelled_maybe, IsMaybe, tree_of_maybe, spelled_step, IsStep, tree_of_step, Statement, empty, block, declare, simple, if_only, if_else, while_do, do_while, for_do, leave, jump, Statements, spelled_statement, spelled_statements, open_ended, IsStatement, AreStatements, kind_of, trees_of_statements, tree_of_statement, statement_node, first_line, jump_of, behind_test}
-use Rattle.pw_grammar.specs.Steps.{Place, Parser, ◌>>=◌, pure, refuse, next_sort, sees, here, line_here, skip, expect, either, finish_statement}
-use Rattle.pw_grammar.specs.ReadingExpressions.{expression}
+use Rattle.pw_grammar.specs.Statements.{spelled_simple, IsSimple, kind_of_simple, spelled_start, IsStart, tree_of_start, spelled_maybe, IsMaybe, tree_of_maybe, spelled_step, IsStep, tree_of_step, Statement, empty, block, simple, if_only, if_else, while_do, do_while, for_do, leave, jump, spelled_statement, spelled_statements, open_ended, IsStatement, AreStatements, kind_of, trees_of_statements, tree_of_statement, jump_of, behind_test}
+use Rattle.pw_grammar.specs.Steps.{Parser, sees}
 use Rattle.pw_grammar.specs.ReadingStatements as r
-use Rattle.pw_grammar.proofs.Lawful.{Language, sort_before, GoesOn, Lawful, Within, Lax, within, fewer, Seq, bind, Pure, Nothing, lawful_pure}
-use Rattle.pw_grammar.proofs.Branches.{Keeps, keeps, keeps_refuse, keeps_pure, lawful_test, keeps_within, same_sorts, other_sorts}
-use Rattle.pw_grammar.proofs.Tokens.{Sample}
-use Rattle.pw_grammar.proofs.Parts.{AnExpression, Here, lawful_from, Then, lawful_then, keeps_then, WithExpression, lawful_with}
-use Rattle.pw_grammar.proofs.Pieces.{Phrased, APhrase, WithPhrase, lawful_with_phrase, keeps_fewer, lawful_equal, Lined, lawful_line, Full}
-use Rattle.pw_grammar.proofs.LawfulTypes.{Is, no_end, left_paren, right_paren, left_brace, right_brace, semicolon, while}
-use Rattle.pw_grammar.proofs.LawfulSimple.{ASimple, lawful_simple, no_front, AStatementNode, lawful_finish_statement, node_is}
-use Rattle.pw_grammar.proofs.LawfulStarts.{AMaybe, lawful_maybe, AStep, lawful_step, AStart, lawful_start, Tested, lawful_tested}
-use Rattle.pw_grammar.proofs.LawfulLoops.{IsStatementAt, AStatement, a_statement_is_lax, WithStatement, lawful_with_statement, statement_goes_on, full_statement, Elements, lawful_elements}
+use Rattle.pw_grammar.proofs.Lawful.{Language, sort_before, GoesOn, Lawful, Within, Lax, within, Seq, bind, Pure, lawful_pure}
+use Rattle.pw_grammar.proofs.Branches.{Keeps, keeps_pure, lawful_test, keeps_within, same_sorts, other_sorts}
+use Rattle.pw_grammar.proofs.Parts.{AnExpression, Then, lawful_then, keeps_then}
+use Rattle.pw_grammar.proofs.Pieces.{WithPhrase, lawful_with_phrase, keeps_fewer}
+use Rattle.pw_grammar.proofs.LawfulTypes.{Is, no_end, left_paren, right_paren, right_brace, semicolon, while}
+use Rattle.pw_grammar.proofs.LawfulSimple.{lawful_simple}
+use Rattle.pw_grammar.proofs.LawfulStarts.{lawful_maybe, lawful_step, lawful_start, Tested, lawful_tested}
+use Rattle.pw_grammar.proofs.LawfulLoops.{AStatement, a_statement_is_lax, WithStatement, lawful_with_statement, lawful_elements}
 use Rattle.pw_tree.specs.declared.expr.Expr.{Expr}
-use Rattle.pw_tree.specs.declared.stmt.Stmt.{Stmt, roll-Stmt}
+use Rattle.pw_tree.specs.declared.stmt.Stmt.{Stmt}
 use Rattle.pw_tree.specs.declared.stmt.StmtKind.{StmtKind}
 use Rattle.pw_tree.specs.declared.stmt.StmtKind.TheVariants as k
 use Rattle.pw_lex.specs.declared.token.Token.{Token}

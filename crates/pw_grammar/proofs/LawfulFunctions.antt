@@ -1,25 +1,22 @@
 -- The laws of the readers of functions, behind their names.
-use Rattle.std.proofs.Common.{◌≡◌, ◌≢◌, refl, sym, ◌∙◌, ap, subst, ℕ, zero, suc, ◌+◌, ◌-◌, ◌<◌, ◌≤◌, List, [], ◌∷◌, ◌++◌, length, ◌⊎◌, inl, inr, Result, Ok, Err, Bool, true, false, not, ◌&&◌, ◌||◌, if◌then◌else◌, Option, Some, None, arith}
-use Rattle.std.proofs.lemmas.List.{append-nil, append_assoc, length-append}
-use Rattle.std.proofs.lemmas.Bool.{and_parts}
-use Rattle.std.specs.Bool.{⊤}
+use Rattle.std.proofs.Common.{◌≡◌, ◌≢◌, refl, sym, ◌∙◌, ap, subst, ℕ, suc, ◌+◌, ◌-◌, ◌≤◌, List, [], ◌∷◌, ◌++◌, length, Bool, true, false, not, ◌||◌, Option, Some, None, arith}
+use Rattle.std.proofs.lemmas.List.{append-nil}
+use Rattle.std.proofs.lemmas.Bool.{and_parts, not-true}
 use Rattle.std.specs.List.{list_all}
-use Rattle.pw_grammar.specs.declared.sort.Sort.{Sort}
 use Rattle.pw_grammar.specs.declared.sort.Sort.TheVariants as s
-use Rattle.pw_grammar.specs.Terminals.{sort, sort_of, first_sort, is_same}
+use Rattle.pw_grammar.specs.Terminals.{sort, is_same}
 use Rattle.pw_grammar.specs.Statements.{Statements, spelled_statements, AreStatements, trees_of_statements}
 use Rattle.pw_grammar.specs.Declarations as g
-use Rattle.pw_grammar.specs.Steps.{Place, Parser, ◌>>=◌, pure, refuse, next_sort, sees, here, skip, expect, either}
-use Rattle.pw_grammar.specs.ReadingStatements.{is_some, elements}
+use Rattle.pw_grammar.specs.Steps.{Parser, next_sort, sees}
+use Rattle.pw_grammar.specs.ReadingStatements.{is_some}
 use Rattle.pw_grammar.specs.ReadingDeclarations as r
-use Rattle.pw_grammar.proofs.Lawful.{Language, sort_before, GoesOn, Lawful, Within, Lax, within, Seq, bind, Pure, Nothing, lawful_pure}
-use Rattle.pw_grammar.proofs.Branches.{Keeps, keeps, keeps_refuse, keeps_pure, lawful_test, keeps_within, same_sorts}
-use Rattle.pw_grammar.proofs.Tokens.{Sample}
-use Rattle.pw_grammar.proofs.Parts.{AnExpression, Here, lawful_from, Then, lawful_then, keeps_then}
-use Rattle.pw_grammar.proofs.Pieces.{Phrased, APhrase, WithPhrase, lawful_with_phrase, fewer_than, keeps_fewer, keeps_then_fewer}
+use Rattle.pw_grammar.proofs.Lawful.{Language, GoesOn, Lawful, Within, within, Pure, lawful_pure}
+use Rattle.pw_grammar.proofs.Branches.{Keeps, keeps, lawful_test, keeps_within, same_sorts}
+use Rattle.pw_grammar.proofs.Parts.{AnExpression, Here, lawful_from, Then, lawful_then}
+use Rattle.pw_grammar.proofs.Pieces.{Phrased, APhrase, WithPhrase, lawful_with_phrase, fewer_than, keeps_then_fewer}
 use Rattle.pw_grammar.proofs.LawfulTypes.{Is, no_end, left_paren, right_paren, left_brace, right_brace, semicolon, void}
 use Rattle.pw_grammar.proofs.LawfulLoops.{AStatement, lawful_elements}
-use Rattle.pw_grammar.proofs.LawfulParameters.{AParameters, lawful_parameters}
+use Rattle.pw_grammar.proofs.LawfulParameters.{lawful_parameters}
 use Rattle.pw_tree.specs.declared.ty.Ty.{Ty}
 use Rattle.pw_tree.specs.declared.expr.Expr.{Expr}
 use Rattle.pw_tree.specs.declared.stmt.Stmt.{Stmt}
@@ -134,11 +131,7 @@ defines : (linkage : Linkage) (at : ℕ) (ps : g.Parameters) → r.may_define li
 unfolding r.may_define
 defines linkage at ps e =
     let b = and_parts (not (r.is_extern linkage)) (list_all r.is_named (g.parameters_of at ps)) e in
-    record { not_extern = not_true (r.is_extern linkage) b.0; names = have_names at ps b.1 }
-  where
-    not_true : (b : Bool) → not b ≡ true → b ≡ false
-    not_true true e = absurd cc
-    not_true false e = refl
+    record { not_extern = not-true (r.is_extern linkage) b.0; names = have_names at ps b.1 }
 
 -- ---- functions, behind the name
 

@@ -1,22 +1,21 @@
 -- The laws of the readers of initialisers.
-use Rattle.std.proofs.Common.{◌≡◌, ◌≢◌, refl, sym, ◌∙◌, ap, subst, ℕ, zero, suc, ◌+◌, ◌-◌, ◌<◌, ◌≤◌, List, [], ◌∷◌, ◌++◌, length, ◌⊎◌, inl, inr, Result, Ok, Err, Bool, true, false, ◌||◌, if◌then◌else◌, Option, Some, None, arith}
-use Rattle.std.proofs.lemmas.List.{append-nil, append_assoc, length-append}
+use Rattle.std.proofs.Common.{◌≡◌, refl, sym, ◌∙◌, ap, ℕ, zero, suc, ◌+◌, ◌-◌, ◌<◌, ◌≤◌, List, [], ◌∷◌, ◌++◌, length, inl, inr, Ok, Bool, true, false, ◌||◌, Option, Some, None, arith}
+use Rattle.std.proofs.lemmas.List.{append-nil, append_assoc}
 use Rattle.std.specs.Bool.{⊤}
 use Rattle.pw_grammar.specs.declared.sort.Sort.{Sort}
 use Rattle.pw_grammar.specs.declared.sort.Sort.TheVariants as s
-use Rattle.pw_grammar.specs.Terminals.{sort, sort_of, first_sort, is_same}
-use Rattle.pw_grammar.specs.Expressions.{name_in, value_in, IsConstant}
+use Rattle.pw_grammar.specs.Terminals.{sort, is_same}
+use Rattle.pw_grammar.specs.Expressions.{value_in, IsConstant}
 use Rattle.pw_grammar.specs.Statements.{first_line}
 use Rattle.pw_grammar.specs.Declarations as g
-use Rattle.pw_grammar.specs.Steps.{Place, Parser, ◌>>=◌, pure, refuse, next_sort, sees, here, line_here, take, skip, expect, name, either}
+use Rattle.pw_grammar.specs.Steps.{sees, either}
 use Rattle.pw_grammar.specs.ReadingDeclarations as r
-use Rattle.pw_grammar.proofs.Lawful.{Language, sort_before, GoesOn, Lawful, Within, Lax, within, Seq, bind, bind_from, Pure, Nothing, lawful_pure, leads_nowhere}
-use Rattle.pw_grammar.proofs.Branches.{Keeps, keeps, keeps_refuse, keeps_pure, lawful_test, keeps_within, same_sorts}
-use Rattle.pw_grammar.proofs.Tokens.{Sample}
-use Rattle.pw_grammar.proofs.Parts.{Here, lawful_from, Then, lawful_then, keeps_then}
-use Rattle.pw_grammar.proofs.Pieces.{Phrased, APhrase, WithPhrase, lawful_with_phrase, WithName, lawful_with_name, fewer_than, keeps_fewer, keeps_then_fewer, Lined, lawful_line, Full, OneOf, lawful_one_of}
-use Rattle.pw_grammar.proofs.LawfulTypes.{Is, no_end, a_name, a_number}
-use Rattle.pw_grammar.proofs.LawfulSimple.{no_front}
+use Rattle.pw_grammar.proofs.Lawful.{Language, GoesOn, Lawful, Within, within, Pure, lawful_pure, leads_nowhere}
+use Rattle.pw_grammar.proofs.Branches.{keeps, keeps_pure, lawful_test, keeps_within, same_sorts}
+use Rattle.pw_grammar.proofs.Parts.{Here, lawful_from, Then}
+use Rattle.pw_grammar.proofs.Pieces.{Phrased, APhrase, WithPhrase, lawful_with_phrase, WithName, lawful_with_name, keeps_then_fewer, Lined, lawful_line, OneOf, lawful_one_of}
+use Rattle.pw_grammar.proofs.LawfulTypes.{Is, no_end, a_number}
+use Rattle.pw_grammar.proofs.LawfulSimple.{no_front, number_starts}
 use Rattle.pw_tree.specs.declared.decl.InitItem.{InitItem}
 use Rattle.pw_tree.specs.declared.decl.InitKind.{InitKind}
 use Rattle.pw_tree.specs.declared.decl.InitKind.TheVariants as i
@@ -40,9 +39,6 @@ constant_is x e = by_test (is_same x s.Number) refl e
 end_is_no_constant : (is_same s.End s.Number || is_same s.End s.Character) ≡ true → ⊥
 unfolding is_same
 end_is_no_constant e = cc
-
-pub number_starts : (x : Sort) → sort_before (a_number.token ∷ []) x ≢ s.Else
-number_starts x = subst (λ z. z ≢ s.Else) (sym a_number.sort_is) a_number.no_else
 
 constant_goes_on : (at : ℕ) → GoesOn AConstant at []
 constant_goes_on at = record

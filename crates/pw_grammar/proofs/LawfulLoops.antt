@@ -1,23 +1,20 @@
 -- The language of statements, and the laws of the reader of what stands in a block.
-use Rattle.std.proofs.Common.{◌≡◌, ◌≢◌, refl, sym, ◌∙◌, ap, subst, ℕ, zero, suc, ◌+◌, ◌-◌, ◌<◌, ◌≤◌, List, [], ◌∷◌, ◌++◌, length, ◌⊎◌, inl, inr, Result, Ok, Err, Bool, true, false, if◌then◌else◌, Option, Some, None, arith}
-use Rattle.std.proofs.lemmas.List.{append-nil, append_assoc, length-append}
-use Rattle.std.specs.Bool.{⊤}
+use Rattle.std.proofs.Common.{◌≡◌, ◌≢◌, refl, sym, ◌∙◌, ap, subst, ℕ, zero, suc, ◌+◌, ◌-◌, ◌<◌, ◌≤◌, List, [], ◌∷◌, ◌++◌, length, Bool, true, false, arith}
+use Rattle.std.proofs.lemmas.List.{append-nil, append_assoc}
 use Rattle.pw_grammar.specs.declared.sort.Sort.{Sort}
 use Rattle.pw_grammar.specs.declared.sort.Sort.TheVariants as s
-use Rattle.pw_grammar.specs.Terminals.{sort, sort_of, first_sort, is_same}
-use Rattle.pw_grammar.specs.Statements.{TypePhrase, word, unsigned, spelled_type, Local, plain, set, spelled_local, IsLocal, kind_of_local, spelled_start, spelled_maybe, spelled_step, Statement, empty, block, declare, simple, if_only, if_else, while_do, do_while, for_do, leave, jump, Statements, nil, cons, spelled_statement, spelled_statements, open_ended, IsStatement, AreStatements, kind_of, trees_of_statements, tree_of_statement, statement_node}
-use Rattle.pw_grammar.specs.Steps.{Place, Parser, ◌>>=◌, pure, refuse, next_sort, sees, here, skip, expect, either}
+use Rattle.pw_grammar.specs.Terminals.{is_same}
+use Rattle.pw_grammar.specs.Statements.{Local, plain, set, spelled_local, Statement, empty, block, declare, simple, if_only, if_else, while_do, do_while, for_do, leave, jump, nil, cons, spelled_statement, spelled_statements, open_ended, IsStatement, AreStatements, kind_of, trees_of_statements, tree_of_statement}
+use Rattle.pw_grammar.specs.Steps.{Parser, ◌>>=◌, sees}
 use Rattle.pw_grammar.specs.ReadingStatements as r
-use Rattle.pw_grammar.proofs.Lawful.{Language, sort_before, GoesOn, Lawful, Within, Lax, within, Seq, bind, bind_from, Pure, Nothing, lawful_pure}
-use Rattle.pw_grammar.proofs.Branches.{Keeps, keeps, keeps_refuse, keeps_pure, lawful_test, keeps_within, same_sorts}
-use Rattle.pw_grammar.proofs.Tokens.{Sample}
-use Rattle.pw_grammar.proofs.Parts.{AnExpression, Then, lawful_then, keeps_then, WithExpression, lawful_with}
-use Rattle.pw_grammar.proofs.Pieces.{Phrased, APhrase, WithPhrase, lawful_with_phrase, fewer_than, keeps_fewer, Full, full_shrinks}
-use Rattle.pw_grammar.proofs.LawfulTypes.{Is, no_end, semicolon}
-use Rattle.pw_grammar.proofs.LawfulSimple.{full_simple, full_type, no_front, tree_of_local, ALocal, lawful_local}
+use Rattle.pw_grammar.proofs.Lawful.{Language, sort_before, GoesOn, Lawful, Within, Lax, within, Seq, bind, bind_from, Pure, lawful_pure}
+use Rattle.pw_grammar.proofs.Branches.{keeps, lawful_test}
+use Rattle.pw_grammar.proofs.Parts.{AnExpression}
+use Rattle.pw_grammar.proofs.Pieces.{APhrase, fewer_than, Full, full_shrinks}
+use Rattle.pw_grammar.proofs.LawfulTypes.{Is, semicolon}
+use Rattle.pw_grammar.proofs.LawfulSimple.{full_simple, full_type, no_front, ALocal, lawful_local}
 use Rattle.pw_tree.specs.declared.expr.Expr.{Expr}
 use Rattle.pw_tree.specs.declared.stmt.Stmt.{Stmt}
-use Rattle.pw_tree.specs.declared.stmt.StmtKind.{StmtKind}
 use Rattle.pw_lex.specs.declared.token.Token.{Token}
 
 -- ---- the language of statements

@@ -1,25 +1,21 @@
 -- The laws of the readers of a declaration's storage class, its result and its parameters.
-use Rattle.std.proofs.Common.{◌≡◌, ◌≢◌, refl, sym, ◌∙◌, ap, subst, ℕ, zero, suc, ◌+◌, ◌-◌, ◌<◌, ◌≤◌, List, [], ◌∷◌, ◌++◌, length, ◌⊎◌, inl, inr, Result, Ok, Err, Bool, true, false, if◌then◌else◌, Option, Some, None, arith}
+use Rattle.std.proofs.Common.{◌≡◌, ◌≢◌, refl, sym, ◌∙◌, ap, subst, ℕ, zero, suc, ◌+◌, ◌-◌, ◌<◌, ◌≤◌, List, [], ◌∷◌, ◌++◌, length, inl, inr, Ok, false, Option, Some, None, arith}
 use Rattle.std.proofs.lemmas.List.{append-nil, append_assoc, length-append}
-use Rattle.std.specs.Bool.{⊤}
 use Rattle.pw_grammar.specs.declared.sort.Sort.{Sort}
 use Rattle.pw_grammar.specs.declared.sort.Sort.TheVariants as s
-use Rattle.pw_grammar.specs.Terminals.{sort, sort_of, first_sort, is_same}
-use Rattle.pw_grammar.specs.Expressions.{name_in}
-use Rattle.pw_grammar.specs.Statements.{TypePhrase, word, unsigned, type_of, spelled_type, IsType, type_in}
+use Rattle.pw_grammar.specs.Terminals.{sort, is_same}
+use Rattle.pw_grammar.specs.Statements.{spelled_type, IsType, type_in}
 use Rattle.pw_grammar.specs.Declarations as g
-use Rattle.pw_grammar.specs.Steps.{Place, Parser, ◌>>=◌, pure, refuse, next_sort, sees, here, skip, expect, name, either}
-use Rattle.pw_grammar.specs.ReadingStatements.{some, type_name}
+use Rattle.pw_grammar.specs.Steps.{pure, sees, either}
+use Rattle.pw_grammar.specs.ReadingStatements.{some}
 use Rattle.pw_grammar.specs.ReadingDeclarations as r
-use Rattle.pw_grammar.proofs.Lawful.{Language, sort_before, GoesOn, Lawful, Within, Lax, within, Seq, bind, bind_from, Pure, Nothing, lawful_pure, leads_nowhere}
-use Rattle.pw_grammar.proofs.Branches.{Keeps, keeps, keeps_refuse, keeps_pure, lawful_test, keeps_within, keeps_bind_from, same_sorts}
-use Rattle.pw_grammar.proofs.Tokens.{Sample}
-use Rattle.pw_grammar.proofs.Parts.{Here, lawful_from, keeps_from, Then, lawful_then, keeps_then}
-use Rattle.pw_grammar.proofs.Pieces.{Phrased, APhrase, a_phrase_is_lax, WithPhrase, lawful_with_phrase, WithName, lawful_with_name, fewer_than, keeps_fewer, keeps_then_fewer, Full, full_shrinks}
-use Rattle.pw_grammar.proofs.LawfulTypes.{Is, no_end, long, void, AType, lawful_type}
-use Rattle.pw_grammar.proofs.LawfulSimple.{full_type, no_front}
+use Rattle.pw_grammar.proofs.Lawful.{Language, GoesOn, Lawful, Within, within, Pure, lawful_pure, leads_nowhere}
+use Rattle.pw_grammar.proofs.Branches.{Keeps, keeps, keeps_pure, lawful_test, keeps_within, same_sorts}
+use Rattle.pw_grammar.proofs.Parts.{Here, lawful_from, Then}
+use Rattle.pw_grammar.proofs.Pieces.{APhrase, WithPhrase, lawful_with_phrase, WithName, lawful_with_name, keeps_then_fewer}
+use Rattle.pw_grammar.proofs.LawfulTypes.{Is, no_end, void, AType, lawful_type}
 use Rattle.pw_tree.specs.declared.ty.Ty.{Ty}
-use Rattle.pw_tree.specs.declared.ty.Ty.TheVariants.{Long, Void}
+use Rattle.pw_tree.specs.declared.ty.Ty.TheVariants.{Void}
 use Rattle.pw_tree.specs.declared.decl.Param.{Param}
 use Rattle.pw_tree.specs.declared.decl.Linkage.{Linkage}
 use Rattle.pw_tree.specs.declared.decl.Linkage.TheVariants as linkage
@@ -148,13 +144,6 @@ parameter_is at a u x y =
   where
     count : (at n m l : ℕ) → l ≡ n + m → at + n + m ≡ at + l
     count at n m l e = omega arith
-
-parameter_goes_on : (at : ℕ) → GoesOn AParameter at []
-parameter_goes_on at = record
-  { rest = long.token ∷ []; value = _
-  ; reads = λ x o. record
-      { phrase = record { ty = word long.token; name = None }; is = ((Long, ap type_of long.sort_is), tt); spells = refl; value_is = refl }
-  ; starts = λ e x o. subst (λ z. z ≢ s.Else) (sym long.sort_is) long.no_else }
 
 lawful_parameter : (n : ℕ) → Lawful n AParameter r.parameter r.parameter
 unfolding r.parameter

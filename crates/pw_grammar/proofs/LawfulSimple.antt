@@ -1,20 +1,19 @@
 -- The laws of the readers of assignments, locals, and the parts of a `for`.
-use Rattle.std.proofs.Common.{◌≡◌, ◌≢◌, refl, sym, ◌∙◌, ap, subst, ℕ, zero, suc, ◌+◌, ◌-◌, ◌<◌, ◌≤◌, List, [], ◌∷◌, ◌++◌, length, ◌⊎◌, inl, inr, Result, Ok, Err, Bool, true, false, if◌then◌else◌, Option, Some, None, arith}
+use Rattle.std.proofs.Common.{◌≡◌, ◌≢◌, refl, sym, ◌∙◌, ap, subst, ℕ, suc, ◌+◌, ◌-◌, List, [], ◌∷◌, ◌++◌, length, ◌⊎◌, inl, inr, Ok, false, Option, Some, None, arith}
 use Rattle.std.proofs.lemmas.List.{append-nil, append_assoc, length-append}
 use Rattle.std.specs.Bool.{⊤}
 use Rattle.pw_grammar.specs.declared.sort.Sort.{Sort}
 use Rattle.pw_grammar.specs.declared.sort.Sort.TheVariants as s
-use Rattle.pw_grammar.specs.Terminals.{sort, sort_of, first_sort, is_same}
+use Rattle.pw_grammar.specs.Terminals.{sort, is_same}
 use Rattle.pw_grammar.specs.Expressions.{Phrase, identifier, constant, bracketed, input, output, call, index, prefixed, binary, choice, spelled, IsAt, tree_of, name_in}
-use Rattle.pw_grammar.specs.Statements.{TypePhrase, word, unsigned, type_of, spelled_type, IsType, type_in, Local, plain, set, spelled_local, IsLocal, kind_of_local, Simple, assign, assign_element, evaluate, spelled_simple, IsSimple, kind_of_simple, Start, no_start, local_start, simple_start, spelled_start, IsStart, tree_of_start, spelled_maybe, IsMaybe, tree_of_maybe, spelled_step, IsStep, tree_of_step, first_line, statement_node}
-use Rattle.pw_grammar.specs.Steps.{Place, Parser, ◌>>=◌, pure, refuse, next_sort, sees, here, line_here, skip, expect, name, either, finish_statement}
+use Rattle.pw_grammar.specs.Statements.{TypePhrase, word, unsigned, type_of, spelled_type, IsType, type_in, Local, plain, set, spelled_local, IsLocal, kind_of_local, Simple, assign, assign_element, evaluate, spelled_simple, IsSimple, kind_of_simple, first_line, statement_node}
+use Rattle.pw_grammar.specs.Steps.{Parser, pure, sees, either, finish_statement}
 use Rattle.pw_grammar.specs.ReadingStatements as r
-use Rattle.pw_grammar.proofs.Lawful.{Language, sort_before, GoesOn, Lawful, Within, Lax, within, Pure, Nothing, lawful_pure, leads_nowhere}
-use Rattle.pw_grammar.proofs.Branches.{Keeps, keeps, keeps_refuse, keeps_pure, lawful_test, lawful_option, keeps_within, same_sorts}
-use Rattle.pw_grammar.proofs.Tokens.{Sample, a_token}
-use Rattle.pw_grammar.proofs.Parts.{AnExpression, IsExpression, expression_goes_on, Here, lawful_from, Then, lawful_then, keeps_then, WithExpression, lawful_with}
+use Rattle.pw_grammar.proofs.Lawful.{Language, sort_before, GoesOn, Lawful, Within, within, Pure, Nothing, lawful_pure, leads_nowhere}
+use Rattle.pw_grammar.proofs.Branches.{Keeps, keeps_refuse, keeps_pure, lawful_test, keeps_within, same_sorts}
+use Rattle.pw_grammar.proofs.Parts.{AnExpression, Here, lawful_from, Then, lawful_then, keeps_then, WithExpression, lawful_with}
 use Rattle.pw_grammar.proofs.Pieces.{Phrased, APhrase, WithPhrase, lawful_with_phrase, WithName, lawful_with_name, keeps_fewer, Lined, lawful_line, Full}
-use Rattle.pw_grammar.proofs.LawfulTypes.{Is, no_end, left_paren, right_paren, semicolon, long, a_name, a_number, AType, lawful_type}
+use Rattle.pw_grammar.proofs.LawfulTypes.{Is, no_end, semicolon, long, a_name, a_number, lawful_type}
 use Rattle.pw_grammar.proofs.LawfulTargets.{IsTarget, IsWord, IsElement, target_phrase}
 use Rattle.pw_tree.specs.declared.ty.Ty.TheVariants.{Long}
 use Rattle.pw_tree.specs.declared.expr.Expr.{Expr}
@@ -191,7 +190,7 @@ one_spells : spelled one ≡ a_number.token ∷ []
 unfolding spelled
 one_spells = refl
 
-number_starts : (x : Sort) → sort_before (a_number.token ∷ []) x ≢ s.Else
+pub number_starts : (x : Sort) → sort_before (a_number.token ∷ []) x ≢ s.Else
 number_starts x = subst (λ z. z ≢ s.Else) (sym a_number.sort_is) a_number.no_else
 
 abbrev SimpleNode : ℕ → ℕ → Language Stmt

@@ -1,21 +1,19 @@
 -- The laws of the readers of what stands in the head of a loop or of a condition.
-use Rattle.std.proofs.Common.{◌≡◌, ◌≢◌, refl, sym, ◌∙◌, ap, subst, ℕ, zero, suc, ◌+◌, ◌-◌, ◌<◌, ◌≤◌, List, [], ◌∷◌, ◌++◌, length, ◌⊎◌, inl, inr, Result, Ok, Err, Bool, true, false, if◌then◌else◌, Option, Some, None, arith}
+use Rattle.std.proofs.Common.{◌≡◌, ◌≢◌, refl, sym, ◌∙◌, ap, subst, ℕ, suc, ◌+◌, List, [], ◌∷◌, ◌++◌, length, true, false, if◌then◌else◌, Option, Some, None, arith}
 use Rattle.std.proofs.lemmas.List.{append-nil, append_assoc, length-append}
-use Rattle.std.specs.Bool.{⊤}
 use Rattle.pw_grammar.specs.declared.sort.Sort.{Sort}
 use Rattle.pw_grammar.specs.declared.sort.Sort.TheVariants as s
-use Rattle.pw_grammar.specs.Terminals.{sort, sort_of, first_sort, is_same}
+use Rattle.pw_grammar.specs.Terminals.{sort, is_same}
 use Rattle.pw_grammar.specs.Expressions.{Phrase, spelled, IsAt, tree_of}
-use Rattle.pw_grammar.specs.Statements.{Local, spelled_local, IsLocal, Simple, spelled_simple, IsSimple, kind_of_simple, Start, no_start, local_start, simple_start, spelled_start, IsStart, tree_of_start, spelled_maybe, IsMaybe, tree_of_maybe, spelled_step, IsStep, tree_of_step, statement_node}
-use Rattle.pw_grammar.specs.Steps.{Place, Parser, ◌>>=◌, pure, refuse, next_sort, sees, here, skip, expect, either}
+use Rattle.pw_grammar.specs.Statements.{spelled_local, IsLocal, Simple, spelled_simple, IsSimple, kind_of_simple, no_start, local_start, simple_start, spelled_start, IsStart, tree_of_start, spelled_maybe, IsMaybe, tree_of_maybe, spelled_step, IsStep, tree_of_step, statement_node}
+use Rattle.pw_grammar.specs.Steps.{Parser, ◌>>=◌, next_sort, sees}
 use Rattle.pw_grammar.specs.ReadingStatements as r
-use Rattle.pw_grammar.proofs.Lawful.{Language, sort_before, GoesOn, Lawful, Within, Lax, within, Pure, Nothing, lawful_pure}
-use Rattle.pw_grammar.proofs.Branches.{Keeps, keeps, keeps_refuse, keeps_pure, lawful_test, keeps_within, same_sorts}
-use Rattle.pw_grammar.proofs.Tokens.{Sample}
+use Rattle.pw_grammar.proofs.Lawful.{Language, GoesOn, Lawful, Within, within, Pure, lawful_pure}
+use Rattle.pw_grammar.proofs.Branches.{keeps, keeps_pure, lawful_test, keeps_within, same_sorts}
 use Rattle.pw_grammar.proofs.Parts.{AnExpression, Then, lawful_then, keeps_then, WithExpression, lawful_with}
-use Rattle.pw_grammar.proofs.Pieces.{Phrased, APhrase, WithPhrase, lawful_with_phrase, keeps_fewer}
+use Rattle.pw_grammar.proofs.Pieces.{APhrase, WithPhrase, lawful_with_phrase, keeps_fewer}
 use Rattle.pw_grammar.proofs.LawfulTypes.{Is, no_end, left_paren, right_paren, semicolon}
-use Rattle.pw_grammar.proofs.LawfulSimple.{ASimple, lawful_simple, ASimpleStatement, lawful_simple_statement, tree_of_local, ALocal, lawful_local}
+use Rattle.pw_grammar.proofs.LawfulSimple.{lawful_simple_statement, tree_of_local, lawful_local}
 use Rattle.pw_tree.specs.declared.expr.Expr.{Expr}
 use Rattle.pw_tree.specs.declared.stmt.Stmt.{Stmt}
 use Rattle.pw_lex.specs.declared.token.Token.{Token}

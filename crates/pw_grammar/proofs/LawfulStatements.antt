@@ -1,23 +1,22 @@
 -- The laws of the reader of statements.
-use Rattle.std.proofs.Common.{◌≡◌, ◌≢◌, refl, sym, ◌∙◌, ap, subst, ℕ, zero, suc, ◌+◌, ◌-◌, ◌<◌, ◌≤◌, List, [], ◌∷◌, ◌++◌, length, ◌⊎◌, inl, inr, Result, Ok, Err, Bool, true, false, if◌then◌else◌, Option, Some, None, arith}
-use Rattle.std.proofs.lemmas.List.{append-nil, append_assoc, length-append}
+use Rattle.std.proofs.Common.{◌≡◌, ◌≢◌, refl, sym, ◌∙◌, ap, subst, ℕ, zero, suc, ◌+◌, List, [], ◌∷◌, ◌++◌, length, inl, inr, true, false, if◌then◌else◌, arith}
 use Rattle.pw_grammar.specs.declared.sort.Sort.{Sort}
 use Rattle.pw_grammar.specs.declared.sort.Sort.TheVariants as s
-use Rattle.pw_grammar.specs.Terminals.{sort, sort_of, first_sort, is_same}
-use Rattle.pw_grammar.specs.Statements.{Statement, empty, spelled_statement, open_ended, IsStatement, kind_of, tree_of_statement, statement_node, first_line}
-use Rattle.pw_grammar.specs.Steps.{Place, Outcome, Parser, ◌>>=◌, pure, refuse, next_sort, sees, here, line_here, skip, expect, either, finish_statement}
+use Rattle.pw_grammar.specs.Terminals.{is_same}
+use Rattle.pw_grammar.specs.Statements.{Statement, empty, spelled_statement, open_ended, IsStatement, kind_of}
+use Rattle.pw_grammar.specs.Steps.{Place, Outcome, Parser, next_sort}
 use Rattle.pw_grammar.specs.ReadingExpressions.{expression}
 use Rattle.pw_grammar.specs.ReadingStatements as r
-use Rattle.pw_grammar.proofs.Lawful.{Language, sort_before, GoesOn, Lawful, Within, Lax, within, fewer, Seq, bind, Pure, Nothing, lawful_pure}
-use Rattle.pw_grammar.proofs.Branches.{Keeps, keeps, keeps_refuse, keeps_pure, lawful_test, keeps_within}
+use Rattle.pw_grammar.proofs.Lawful.{Language, sort_before, GoesOn, Lawful, Within, within, Seq, bind}
+use Rattle.pw_grammar.proofs.Branches.{keeps, lawful_test}
 use Rattle.pw_grammar.proofs.Parts.{AnExpression, Here, lawful_from}
 use Rattle.pw_grammar.proofs.Pieces.{fewer_than, lawful_equal, lawful_no_turns, Lined, lawful_line, Full}
-use Rattle.pw_grammar.proofs.LawfulTypes.{Is, semicolon}
+use Rattle.pw_grammar.proofs.LawfulTypes.{semicolon}
 use Rattle.pw_grammar.proofs.LawfulSimple.{no_front, AStatementNode, lawful_finish_statement, node_is}
-use Rattle.pw_grammar.proofs.LawfulLoops.{IsStatementAt, AStatement, statement_goes_on, full_statement}
-use Rattle.pw_grammar.proofs.LawfulForms.{IsForm, AForm, a_form_is_lax, form_goes_on, Form, lawful_empty, lawful_block, lawful_conditional, lawful_while, lawful_do, lawful_for, lawful_leave, lawful_jump, lawful_evaluated, last_spells, before_end}
+use Rattle.pw_grammar.proofs.LawfulLoops.{AStatement, statement_goes_on, full_statement}
+use Rattle.pw_grammar.proofs.LawfulForms.{AForm, a_form_is_lax, form_goes_on, Form, lawful_empty, lawful_block, lawful_conditional, lawful_while, lawful_do, lawful_for, lawful_leave, lawful_jump, lawful_evaluated, last_spells, before_end}
 use Rattle.pw_tree.specs.declared.expr.Expr.{Expr}
-use Rattle.pw_tree.specs.declared.stmt.Stmt.{Stmt, roll-Stmt}
+use Rattle.pw_tree.specs.declared.stmt.Stmt.{Stmt}
 use Rattle.pw_tree.specs.declared.stmt.StmtKind.{StmtKind}
 use Rattle.pw_tree.specs.declared.stmt.StmtKind.TheVariants as k
 use Rattle.pw_lex.specs.declared.token.Token.{Token}

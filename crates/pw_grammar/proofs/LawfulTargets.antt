@@ -1,10 +1,10 @@
 -- What may stand in front of `=`: a name, or a name and an index, with no brackets round them.
-use Rattle.std.proofs.Common.{◌≡◌, ◌≢◌, refl, sym, ◌∙◌, ap, subst, ℕ, zero, suc, ◌+◌, ◌-◌, ◌<◌, ◌≤◌, ◌==◌, List, [], ◌∷◌, ◌++◌, length, ◌⊎◌, inl, inr, Bool, true, false, if◌then◌else◌, Option, Some, None, arith}
+use Rattle.std.proofs.Common.{◌≡◌, refl, sym, ◌∙◌, ap, ℕ, suc, ◌+◌, ◌<◌, ◌≤◌, List, length, ◌⊎◌, inl, inr, Bool, if◌then◌else◌, Option, Some, None, arith}
 use Rattle.std.proofs.lemmas.Bool.{ne_eqb, eq-eqb}
 use Rattle.std.specs.Bool.{⊤}
-use Rattle.pw_grammar.specs.Expressions.{Phrase, identifier, constant, bracketed, input, output, call, index, prefixed, binary, choice, spelled, tree_of, trees_of, prefix_in, binary_in, name_in, value_in, is_unsigned}
+use Rattle.pw_grammar.specs.Expressions.{Phrase, identifier, constant, bracketed, input, output, call, index, prefixed, binary, choice, spelled, tree_of, name_in}
 use Rattle.pw_grammar.specs.ReadingStatements.{target, target_of, word_of, word_at, with_index}
-use Rattle.pw_tree.specs.declared.expr.Expr.{Expr, out-Expr, roll-Expr}
+use Rattle.pw_tree.specs.declared.expr.Expr.{Expr, out-Expr}
 use Rattle.pw_tree.specs.declared.expr.ExprKind.{ExprKind, out-ExprKind, out-roll-ExprKind}
 use Rattle.pw_tree.specs.declared.expr.ExprKind.TheOpen.{ExprKind-F}
 use Rattle.pw_tree.specs.declared.expr.ExprKind.TheVariants as e

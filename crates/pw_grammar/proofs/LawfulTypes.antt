@@ -1,20 +1,18 @@
 -- The laws of the readers of types, and a token of each sort that a rule asks for.
-use Rattle.std.proofs.Common.{◌≡◌, ◌≢◌, refl, sym, ◌∙◌, ap, subst, ℕ, zero, suc, ◌+◌, ◌-◌, ◌<◌, ◌≤◌, List, [], ◌∷◌, ◌++◌, length, ◌⊎◌, inl, inr, Result, Ok, Err, Bool, true, false, if◌then◌else◌, Option, Some, None, arith}
-use Rattle.std.specs.Bool.{⊤}
+use Rattle.std.proofs.Common.{◌≡◌, ◌≢◌, refl, sym, ◌∙◌, ap, subst, ℕ, suc, [], ◌∷◌, true, false, Some, None}
 use Rattle.pw_grammar.specs.declared.sort.Sort.{Sort}
 use Rattle.pw_grammar.specs.declared.sort.Sort.TheVariants as s
-use Rattle.pw_grammar.specs.Terminals.{sort, sort_of, first_sort, is_same}
-use Rattle.pw_grammar.specs.Statements.{TypePhrase, word, unsigned, type_of, spelled_type, IsType, type_or, type_in}
-use Rattle.pw_grammar.specs.Steps.{Place, Parser, ◌>>=◌, pure, refuse, next_sort, sees, skip, expect}
+use Rattle.pw_grammar.specs.Terminals.{sort, sort_of, is_same}
+use Rattle.pw_grammar.specs.Statements.{word, unsigned, type_of, spelled_type, IsType, type_or, type_in}
+use Rattle.pw_grammar.specs.Steps.{next_sort, sees}
 use Rattle.pw_grammar.specs.ReadingStatements as r
-use Rattle.pw_grammar.proofs.Lawful.{Language, sort_before, GoesOn, Lawful, Within, Lax, within, Pure, lawful_pure}
-use Rattle.pw_grammar.proofs.Branches.{Keeps, keeps, keeps_refuse, keeps_pure, lawful_test, lawful_option, keeps_within, same_sorts}
+use Rattle.pw_grammar.proofs.Lawful.{Language, GoesOn, Lawful, Within, Pure, lawful_pure}
+use Rattle.pw_grammar.proofs.Branches.{keeps, keeps_refuse, lawful_test, lawful_option, keeps_within, same_sorts}
 use Rattle.pw_grammar.proofs.Tokens.{Sample, a_token}
 use Rattle.pw_grammar.proofs.Parts.{Then, lawful_then, keeps_then}
-use Rattle.pw_grammar.proofs.Pieces.{Phrased, APhrase, keeps_fewer, fewer_than, Full}
+use Rattle.pw_grammar.proofs.Pieces.{APhrase, keeps_fewer}
 use Rattle.pw_tree.specs.declared.ty.Ty.{Ty}
 use Rattle.pw_tree.specs.declared.ty.Ty.TheVariants.{Long, Ulong}
-use Rattle.pw_lex.specs.declared.token.Token.{Token}
 use Rattle.pw_lex.specs.declared.token.TokenKind.TheVariants as t
 
 -- ---- tokens of a sort

@@ -1,32 +1,24 @@
 -- The laws of the reader of units.
-use Rattle.std.proofs.Common.{◌≡◌, ◌≢◌, refl, sym, ◌∙◌, ap, subst, ℕ, zero, suc, ◌+◌, ◌-◌, ◌<◌, ◌≤◌, List, [], ◌∷◌, ◌++◌, length, ◌⊎◌, inl, inr, Result, Ok, Err, Bool, true, false, not, slice_index_or, if◌then◌else◌, Option, Some, None, arith}
+use Rattle.std.proofs.Common.{◌≡◌, refl, sym, ◌∙◌, ap, ℕ, zero, suc, ◌-◌, ◌<◌, ◌≤◌, List, [], ◌∷◌, ◌++◌, length, Ok, Err, Bool, true, false, not, slice_index_or, if◌then◌else◌, arith}
 use Rattle.std.proofs.lemmas.List.{append-nil, append_assoc}
-use Rattle.std.specs.Bool.{⊤}
 use Rattle.std.specs.List.{list_all}
-use Rattle.std.proofs.lemmas.Bool.{and_parts}
+use Rattle.std.proofs.lemmas.Bool.{and_parts, not-true, both_ways}
 use Rattle.pw_grammar.specs.declared.sort.Sort.{Sort}
 use Rattle.pw_grammar.specs.declared.sort.Sort.TheVariants as s
 use Rattle.pw_grammar.specs.declared.sort.TheConstants.{KEYWORDS, PUNCTUATORS}
-use Rattle.pw_grammar.specs.declared.error.SyntaxError.{SyntaxError}
-use Rattle.pw_grammar.specs.declared.error.SyntaxError.TheVariants.{At}
 use Rattle.pw_grammar.specs.Terminals.{sort, sort_of, first_sort, is_same}
-use Rattle.pw_grammar.specs.Statements.{spelled_type, TypePhrase, word, unsigned}
 use Rattle.pw_grammar.specs.Declarations as g
-use Rattle.pw_grammar.specs.Steps.{Place, Outcome, Parser, and_then, ◌>>=◌, pure, refuse, next_sort, sees, either}
+use Rattle.pw_grammar.specs.Steps.{Place, Outcome, Parser, and_then, pure, refuse, sees, either}
 use Rattle.pw_grammar.specs.ReadingExpressions.{expression}
 use Rattle.pw_grammar.specs.ReadingStatements.{statement}
 use Rattle.pw_grammar.specs.ReadingDeclarations as r
-use Rattle.pw_grammar.proofs.Lawful.{Language, sort_before, GoesOn, Lawful, Within, Lax, within, Seq, bind, bind_from, Pure, Nothing, lawful_pure}
-use Rattle.pw_grammar.proofs.Branches.{Keeps, keeps, keeps_refuse, keeps_pure, lawful_test, keeps_within, same_sorts, sorts_same}
-use Rattle.pw_grammar.proofs.Parts.{AnExpression}
-use Rattle.pw_grammar.proofs.Pieces.{Phrased, APhrase, a_phrase_is_lax, WithPhrase, phrase_then, lawful_with_phrase, fewer_than, Full, full_shrinks}
+use Rattle.pw_grammar.proofs.Lawful.{Language, GoesOn, Lawful, Within, within, bind_from, Pure, lawful_pure}
+use Rattle.pw_grammar.proofs.Branches.{keeps, keeps_refuse, keeps_pure, lawful_test, same_sorts, sorts_same}
+use Rattle.pw_grammar.proofs.Pieces.{APhrase, a_phrase_is_lax, WithPhrase, phrase_then, lawful_with_phrase, fewer_than, Full, full_shrinks}
 use Rattle.pw_grammar.proofs.LawfulTypes.{Is}
-use Rattle.pw_grammar.proofs.LawfulSimple.{full_type, no_front, no_tokens}
-use Rattle.pw_grammar.proofs.LawfulLoops.{AStatement}
+use Rattle.pw_grammar.proofs.LawfulSimple.{no_tokens}
 use Rattle.pw_grammar.proofs.LawfulStatements.{Expressions, lawful_statement}
 use Rattle.pw_grammar.proofs.LawfulDeclarations.{ADeclaration, lawful_declaration}
-use Rattle.pw_tree.specs.declared.expr.Expr.{Expr}
-use Rattle.pw_tree.specs.declared.stmt.Stmt.{Stmt}
 use Rattle.pw_tree.specs.declared.decl.Decl.{Decl}
 use Rattle.pw_lex.specs.declared.token.Token.{Token}
 use Rattle.pw_lex.specs.declared.token.TokenKind.{TokenKind}
@@ -139,13 +131,9 @@ kind_no_end (t.Char value) = refl
 kind_no_end (t.Keyword number) = number_no_end KEYWORDS number refl
 kind_no_end (t.Punct number) = number_no_end PUNCTUATORS number refl
 
-not_both : (b : Bool) → not b ≡ true → b ≡ true → ⊥
-not_both true e f = cc
-not_both false e f = cc
-
 -- no token is the end
 pub no_token_is_end : (t : Token) → sort t ≡ s.End → ⊥
-no_token_is_end t e = not_both (is_same (sort t) s.End) (kind_no_end t.kind) (sorts_same (sort t) s.End e)
+no_token_is_end t e = both_ways (is_same (sort t) s.End) (not-true (is_same (sort t) s.End) (kind_no_end t.kind)) (sorts_same (sort t) s.End e)
 
 at_end : (ts : List Token) → first_sort ts ≡ s.End → ts ≡ []
 at_end [] e = refl

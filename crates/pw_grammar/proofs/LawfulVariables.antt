@@ -1,22 +1,21 @@
 -- The laws of the readers of variables.
-use Rattle.std.proofs.Common.{◌≡◌, ◌≢◌, refl, sym, ◌∙◌, ap, subst, ℕ, zero, suc, ◌+◌, ◌-◌, ◌<◌, ◌≤◌, List, [], ◌∷◌, ◌++◌, length, ◌⊎◌, inl, inr, Result, Ok, Err, Bool, true, false, not, ◌&&◌, ◌||◌, if◌then◌else◌, Option, Some, None, arith}
-use Rattle.std.proofs.lemmas.List.{append-nil, append_assoc, length-append}
-use Rattle.std.proofs.lemmas.Bool.{and_parts}
+use Rattle.std.proofs.Common.{◌≡◌, ◌≢◌, refl, ◌∙◌, ap, ℕ, suc, ◌+◌, ◌-◌, ◌≤◌, List, [], ◌∷◌, ◌++◌, length, Bool, true, false, not, ◌&&◌, Option, Some, None, arith}
+use Rattle.std.proofs.lemmas.List.{append-nil}
+use Rattle.std.proofs.lemmas.Bool.{and_parts, not-true, both_ways}
 use Rattle.std.specs.Bool.{⊤}
 use Rattle.pw_grammar.specs.declared.sort.Sort.{Sort}
 use Rattle.pw_grammar.specs.declared.sort.Sort.TheVariants as s
-use Rattle.pw_grammar.specs.Terminals.{sort, sort_of, first_sort, is_same}
-use Rattle.pw_grammar.specs.Expressions.{value_in}
+use Rattle.pw_grammar.specs.Terminals.{sort, is_same}
 use Rattle.pw_grammar.specs.Declarations as g
-use Rattle.pw_grammar.specs.Steps.{Place, Parser, ◌>>=◌, pure, refuse, next_sort, sees, here, take, skip, expect, either}
+use Rattle.pw_grammar.specs.Steps.{sees}
 use Rattle.pw_grammar.specs.ReadingDeclarations as r
-use Rattle.pw_grammar.proofs.Lawful.{Language, sort_before, GoesOn, Lawful, Within, Lax, within, Seq, bind, Pure, Nothing, lawful_pure}
-use Rattle.pw_grammar.proofs.Branches.{Keeps, keeps, keeps_refuse, keeps_pure, lawful_test, keeps_within, same_sorts}
-use Rattle.pw_grammar.proofs.Tokens.{Sample}
-use Rattle.pw_grammar.proofs.Parts.{Here, lawful_from, Then, lawful_then, keeps_then}
-use Rattle.pw_grammar.proofs.Pieces.{Phrased, APhrase, WithPhrase, lawful_with_phrase, fewer_than, keeps_fewer, keeps_then_fewer, OneOf, lawful_one_of}
+use Rattle.pw_grammar.proofs.Lawful.{Language, GoesOn, Lawful, Within, within, Pure, lawful_pure}
+use Rattle.pw_grammar.proofs.Branches.{Keeps, keeps_pure, lawful_test, keeps_within, same_sorts}
+use Rattle.pw_grammar.proofs.Parts.{Here, lawful_from, Then, lawful_then}
+use Rattle.pw_grammar.proofs.Pieces.{Phrased, APhrase, WithPhrase, lawful_with_phrase, keeps_then_fewer, OneOf, lawful_one_of}
 use Rattle.pw_grammar.proofs.LawfulTypes.{Is, no_end, right_bracket, left_brace, right_brace, semicolon, a_number}
-use Rattle.pw_grammar.proofs.LawfulInitials.{value_of, number_starts, AnElement, lawful_initial, MoreItems, lawful_items}
+use Rattle.pw_grammar.proofs.LawfulSimple.{number_starts}
+use Rattle.pw_grammar.proofs.LawfulInitials.{value_of, lawful_initial, lawful_items}
 use Rattle.pw_tree.specs.declared.ty.Ty.{Ty}
 use Rattle.pw_tree.specs.declared.decl.InitItem.{InitItem}
 use Rattle.pw_tree.specs.declared.decl.Linkage.{Linkage}
@@ -112,11 +111,7 @@ may_have linkage x = is_same x s.Assign && not (r.is_extern linkage)
 may_have_is : (linkage : Linkage) (x : Sort) → may_have linkage x ≡ true → (x ≡ s.Assign) × (r.is_extern linkage ≡ false)
 may_have_is linkage x e =
     let p = and_parts (is_same x s.Assign) (not (r.is_extern linkage)) e in
-    (same_sorts x s.Assign p.0, not_true (r.is_extern linkage) p.1)
-  where
-    not_true : (b : Bool) → not b ≡ true → b ≡ false
-    not_true true e = absurd cc
-    not_true false e = refl
+    (same_sorts x s.Assign p.0, not-true (r.is_extern linkage) p.1)
 
 single_is : (linkage : Linkage) → Within (Then (λ x. may_have linkage x ≡ true) (λ q. WithPhrase g.IsElement g.spelled_element g.element_of (λ x. Pure (Some (x ∷ [])))))
     (AnInitial linkage None)
@@ -193,9 +188,6 @@ declared_at ty at v = (at + g.extent v.0 - 1, d.Var ty (g.count_in v.0) (g.eleme
 
 abbrev pub AVariable : Linkage → Ty → Language Declared
 AVariable linkage ty = APhrase (IsEnded linkage) spelled_ended (declared_at ty)
-
-both_ways : (b : Bool) → b ≡ false → b ≡ true → ⊥
-both_ways b e f = cc
 
 variable_by : (linkage : Linkage) (ty : Ty) (at : ℕ) (a : Declared) (u : List Token) (n : Size) (y : Initial) (e : Token)
     → IsSize n → IsInitial linkage (count_at at n) y → sort e ≡ s.Semicolon → u ≡ spelled_size n ++ (spelled_initial y ++ e ∷ [])

@@ -1,16 +1,16 @@
 -- Readers of phrases, each with what comes behind it; the line of a phrase's first token; loops, which take a token a turn.
-use Rattle.std.proofs.Common.{◌≡◌, ◌≢◌, refl, sym, ◌∙◌, ap, subst, ℕ, zero, suc, ◌+◌, ◌-◌, ◌<◌, ◌≤◌, List, [], ◌∷◌, ◌++◌, length, ◌⊎◌, inl, inr, Result, Ok, Err, Bool, true, false, if◌then◌else◌, Option, Some, None, arith}
-use Rattle.std.proofs.lemmas.List.{append-nil, append_assoc, length-append}
+use Rattle.std.proofs.Common.{◌≡◌, refl, sym, ◌∙◌, ap, subst, ℕ, zero, suc, ◌+◌, ◌-◌, ◌<◌, ◌≤◌, List, [], ◌∷◌, ◌++◌, length, ◌⊎◌, inl, inr, Ok, Err, Bool, true, false, if◌then◌else◌, arith}
+use Rattle.std.proofs.lemmas.List.{append-nil, length-append}
 use Rattle.std.specs.Bool.{⊤}
 use Rattle.pw_grammar.specs.declared.sort.Sort.{Sort}
 use Rattle.pw_grammar.specs.declared.sort.Sort.TheVariants as s
-use Rattle.pw_grammar.specs.Terminals.{sort, sort_of, first_sort, is_same}
+use Rattle.pw_grammar.specs.Terminals.{sort}
 use Rattle.pw_grammar.specs.Expressions.{name_in}
 use Rattle.pw_grammar.specs.Statements.{first_line}
-use Rattle.pw_grammar.specs.Steps.{Place, Outcome, Parser, and_then, ◌>>=◌, pure, refuse, next_sort, sees, here, line_here, take, skip, expect, name}
-use Rattle.pw_grammar.proofs.Lawful.{Language, sort_before, Leads, Agree, GoesOn, HasRead, HasStopped, Says, Reaches, Same, Lawful, Within, Lax, within, Seq, bind, bind_from, Leaves, Shrinks, Pure, Nothing, lawful_pure, same_passed, near_or_far, leads_nowhere}
-use Rattle.pw_grammar.proofs.Branches.{Keeps, keeps, keeps_equal, keeps_refuse, keeps_pure, lawful_test, keeps_within, keeps_bind_from, next_agrees, same_sorts}
-use Rattle.pw_grammar.proofs.Tokens.{Named, AName, a_name_is_lax, lawful_name, AToken, Given, a_token_is_lax, keeps_take, Taken, ALine, keeps_skip, take_leaves}
+use Rattle.pw_grammar.specs.Steps.{Place, Outcome, Parser, ◌>>=◌, pure, refuse, next_sort, line_here, take, skip, name}
+use Rattle.pw_grammar.proofs.Lawful.{Language, Agree, GoesOn, Says, Same, Lawful, Within, Lax, within, Seq, bind, Leaves, Shrinks, Pure, lawful_pure, same_passed, near_or_far}
+use Rattle.pw_grammar.proofs.Branches.{Keeps, keeps, keeps_equal, keeps_refuse, lawful_test, keeps_within, keeps_bind_from}
+use Rattle.pw_grammar.proofs.Tokens.{AName, a_name_is_lax, lawful_name, AToken, a_token_is_lax, keeps_take, take_leaves}
 use Rattle.pw_grammar.proofs.Parts.{Then, keeps_then}
 use Rattle.pw_lex.specs.declared.token.Token.{Token}
 
