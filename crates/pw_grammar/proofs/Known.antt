@@ -17,7 +17,7 @@ use Rattle.pw_grammar.specs.declared.sort.Sort.TheVariants as s
 use Rattle.pw_grammar.specs.Terminals.{first_sort}
 use Rattle.pw_grammar.proofs.CompleteTokens.{ReadsExpressions, ends_part}
 use Rattle.pw_grammar.proofs.CompleteDeclarations.{reads_unit}
-use Rattle.pw_grammar.proofs.Ends.{unit_ends}
+use Rattle.pw_grammar.proofs.LawfulUnits.{unit_ends}
 use Rattle.pw_grammar.proofs.Whole.{Knows, IsUnitAt, AUnit, from_start}
 use Rattle.pw_grammar.proofs.FirstFault.{KnowsLimits, parsed_tells}
 use Rattle.pw_grammar.proofs.LateUnits.{late_found, late_first, late_prefix, late_shared, late_below}

@@ -18,7 +18,6 @@ pub mod FirstFault
 pub mod LateFunctions
 pub mod LateUnits
 pub mod Nested
-pub mod Ends
 pub mod CompleteTokens
 pub mod CompleteTypes
 pub mod CompleteStarts
