@@ -75,7 +75,7 @@ element_length : (y : Statement) → Kind y → 0 < length (spelled_statement y)
 unfolding spelled_statement
 element_length y (a_statement is) =
     some_tokens starts_statement (spelled_statement y) refl
-        (subst (λ ts. starts_statement (first_sort ts) ≡ true) (append-nil (spelled_statement y)) (statement_starts y [] is))
+    (subst (λ ts. starts_statement (first_sort ts) ≡ true) (append-nil (spelled_statement y)) (statement_starts y [] is))
 element_length y (a_local l same is) = subst (λ y. 0 < length (spelled_statement y)) (sym same)
     (some_tokens r.begins_type (spelled_local l) no_type_ends (subst (λ ts. r.begins_type (first_sort ts) ≡ true) (append-nil (spelled_local l)) (local_begins l [] is)))
 
@@ -87,7 +87,7 @@ reads_one : (n : ℕ) (expr : Parser Expr) (stmt : Parser Stmt) → ReadsExpress
 unfolding r.element spelled_statement kind_of
 reads_one n expr stmt reads y at ts (a_statement is) short part =
     ap (λ b. if b then r.local expr (spot at (spelled_statement y ++ ts)) else stmt (spot at (spelled_statement y ++ ts))) (begins_no_type _ (statement_starts y ts is))
-        ∙ part is
+    ∙ part is
 reads_one n expr stmt reads y at ts (a_local l same is) short part =
     subst (λ y. r.element expr stmt (spot at (spelled_statement y ++ ts)) ≡ Ok (tree_of_statement at y, spot (at + length (spelled_statement y)) ts)) (sym same)
     (ap (λ b. if b then r.local expr (spot at (spelled_local l ++ ts)) else stmt (spot at (spelled_local l ++ ts))) (local_begins l ts is)
@@ -125,14 +125,14 @@ elements_cons : (n : ℕ) (expr : Parser Expr) (stmt : Parser Stmt) → ReadsExp
 unfolding spelled_statements trees_of_statements
 elements_cons n expr stmt reads turns y ys at ts kind short part rest = λ found.
     let parts : (spelled_statement y ++ spelled_statements ys) ++ ts ≡ spelled_statement y ++ (spelled_statements ys ++ ts) =
-        append_assoc (spelled_statement y) (spelled_statements ys) ts in
+    append_assoc (spelled_statement y) (spelled_statements ys) ts in
     parted (r.elements expr stmt (suc turns) found) at parts
     (one_element expr stmt turns found (spot at (spelled_statement y ++ (spelled_statements ys ++ ts)))
-        (spot (at + length (spelled_statement y)) (spelled_statements ys ++ ts))
-        (tree_of_statement at y) (element_no y s.RightBrace (spelled_statements ys ++ ts) refl no_type_brace kind)
-        (reads_one n expr stmt reads y at (spelled_statements ys ++ ts) kind (fits _ _ n parts short) part)
+    (spot (at + length (spelled_statement y)) (spelled_statements ys ++ ts))
+    (tree_of_statement at y) (element_no y s.RightBrace (spelled_statements ys ++ ts) refl no_type_brace kind)
+    (reads_one n expr stmt reads y at (spelled_statements ys ++ ts) kind (fits _ _ n parts short) part)
     ∙ valued _ (counted _ (rest (found ++ tree_of_statement at y ∷ [])) (omega (arith, length-append (spelled_statement y) (spelled_statements ys))))
-        (append_assoc found (tree_of_statement at y ∷ []) (trees_of_statements (at + length (spelled_statement y)) ys)))
+    (append_assoc found (tree_of_statement at y ∷ []) (trees_of_statements (at + length (spelled_statement y)) ys)))
 
 -- behind the elements that are left, and before their end, there is no `else`
 rest_no : (ys : Statements) (ts : List Token) → AreStatements ys → first_sort ts ≡ s.RightBrace → first_sort (spelled_statements ys ++ ts) ≢ s.Else
@@ -150,7 +150,7 @@ reads_block expr stmt n at o ys c ts is_c elements =
     (then_ _ (step_skip at o _)
     (then_ _ (elements [])
     (then_ _ (step_expect s.RightBrace (suc at + length (spelled_statements ys)) c ts is_c)
-        (done _ _ ts (omega (arith, length-append (spelled_statements ys) (c ∷ [])))))))
+    (done _ _ ts (omega (arith, length-append (spelled_statements ys) (c ∷ [])))))))
 
 -- ---- any statement
 
@@ -178,13 +178,25 @@ else_fits t o v c w e z ts n short =
 
 do_fits : (t : Token) (v : List Token) (w o : Token) (x : List Token) (c e : Token) (ts : List Token) (n : ℕ)
     → length ((t ∷ (v ++ w ∷ o ∷ (x ++ c ∷ e ∷ []))) ++ ts) < suc n → length (v ++ w ∷ o ∷ (x ++ c ∷ e ∷ ts)) < n
-do_fits t v w o x c e ts n short = omega (arith, length-append (v ++ w ∷ o ∷ (x ++ c ∷ e ∷ [])) ts, length-append v (w ∷ o ∷ (x ++ c ∷ e ∷ [])),
-    length-append x (c ∷ e ∷ []), length-append v (w ∷ o ∷ (x ++ c ∷ e ∷ ts)), length-append x (c ∷ e ∷ ts))
+do_fits t v w o x c e ts n short = omega (
+  arith,
+  length-append (v ++ w ∷ o ∷ (x ++ c ∷ e ∷ [])) ts,
+  length-append v (w ∷ o ∷ (x ++ c ∷ e ∷ [])),
+  length-append x (c ∷ e ∷ []),
+  length-append v (w ∷ o ∷ (x ++ c ∷ e ∷ ts)),
+  length-append x (c ∷ e ∷ ts),
+)
 
 head_fits : (t o : Token) (u v : List Token) (e : Token) (w : List Token) (c : Token) (x ts : List Token) (n : ℕ)
     → length ((t ∷ o ∷ (u ++ (v ++ e ∷ (w ++ c ∷ x)))) ++ ts) < suc n → length (x ++ ts) < n
-head_fits t o u v e w c x ts n short = omega (arith, length-append (u ++ (v ++ e ∷ (w ++ c ∷ x))) ts, length-append u (v ++ e ∷ (w ++ c ∷ x)),
-    length-append v (e ∷ (w ++ c ∷ x)), length-append w (c ∷ x), length-append x ts)
+head_fits t o u v e w c x ts n short = omega (
+  arith,
+  length-append (u ++ (v ++ e ∷ (w ++ c ∷ x))) ts,
+  length-append u (v ++ e ∷ (w ++ c ∷ x)),
+  length-append v (e ∷ (w ++ c ∷ x)),
+  length-append w (c ∷ x),
+  length-append x ts,
+)
 
 block_fits : (o : Token) (v : List Token) (c : Token) (ts : List Token) (n : ℕ) → length ((o ∷ (v ++ c ∷ [])) ++ ts) < suc n → length (v ++ c ∷ ts) < n
 block_fits o v c ts n short = omega (arith, length-append (v ++ c ∷ []) ts, length-append v (c ∷ []), length-append v (c ∷ ts))
@@ -242,9 +254,9 @@ mutual
       reads_whole (expression (suc n)) (r.statement n) (suc n) (if_else t o a c y x z) at ts s.If is is.0
       (reads_if_else (suc n) (expression (suc n)) (r.statement n) (e (suc n)) at t o a c y x z ts is.1 is.2 is.3 is.6 short
       (reads_statement e n y (st.behind_test at a) (x ∷ (spelled_statement z ++ ts)) is.4 (λ p. false_no_true (open_ended y) is.5 p)
-          (else_fits t o (spelled a) c (spelled_statement y) x (spelled_statement z) ts n short).0)
+      (else_fits t o (spelled a) c (spelled_statement y) x (spelled_statement z) ts n short).0)
       (reads_statement e n z (st.behind_part (st.behind_test at a) y) ts is.7 other
-          (else_fits t o (spelled a) c (spelled_statement y) x (spelled_statement z) ts n short).1))
+      (else_fits t o (spelled a) c (spelled_statement y) x (spelled_statement z) ts n short).1))
   reads_statement e (suc n) (while_do t o a c y) at ts is other short =
       reads_whole (expression (suc n)) (r.statement n) (suc n) (while_do t o a c y) at ts s.While is is.0
       (reads_while (suc n) (expression (suc n)) (r.statement n) (e (suc n)) at t o a c y ts is.1 is.2 is.3 short
@@ -253,12 +265,12 @@ mutual
       reads_whole (expression (suc n)) (r.statement n) (suc n) (do_while t y w o a c x) at ts s.Do is is.0
       (reads_do (suc n) (expression (suc n)) (r.statement n) (e (suc n)) at t y w o a c x ts is.2 is.3 is.4 is.5 is.6 short
       (reads_statement e n y (suc at) (w ∷ o ∷ (spelled a ++ c ∷ x ∷ ts)) is.1 (λ p. while_no_else (sort w) is.2)
-          (do_fits t (spelled_statement y) w o (spelled a) c x ts n short)))
+      (do_fits t (spelled_statement y) w o (spelled a) c x ts n short)))
   reads_statement e (suc n) (for_do t o start a x step c y) at ts is other short =
       reads_whole (expression (suc n)) (r.statement n) (suc n) (for_do t o start a x step c y) at ts s.For is is.0
       (reads_for (suc n) (expression (suc n)) (r.statement n) (e (suc n)) at t o start a x step c y ts is.1 is.2 is.3 is.4 is.5 is.6 short
       (reads_statement e n y (st.behind_head at start a step) ts is.7 other
-          (head_fits t o (st.spelled_start start) (st.spelled_maybe a) x (st.spelled_step step) c (spelled_statement y) ts n short)))
+      (head_fits t o (st.spelled_start start) (st.spelled_maybe a) x (st.spelled_step step) c (spelled_statement y) ts n short)))
   reads_statement e (suc n) (leave t a x) at ts is other short =
       reads_whole (expression (suc n)) (r.statement n) (suc n) (leave t a x) at ts s.Return is is.0
       (reads_return (suc n) (expression (suc n)) (e (suc n)) at t a x ts is.1 is.2 short)
@@ -277,5 +289,5 @@ mutual
       elements_cons m (expression m) (r.statement n) (e m) turns y ys at ts (kind_is y are.0) short1
       (λ is. reads_statement e n y at (spelled_statements ys ++ ts) is (λ p. rest_no ys ts are.1 end) (one_fits (spelled_statement y) (spelled_statements ys) ts n short))
       (reads_statements e m n turns ys (at + length (spelled_statement y)) ts are.1 end
-          (rest_fits (spelled_statement y) (spelled_statements ys) ts n short) (rest_fits (spelled_statement y) (spelled_statements ys) ts m short1)
-          (cons_fits (spelled_statement y) (spelled_statements ys) ts turns (element_length y (kind_is y are.0)) short2))
+      (rest_fits (spelled_statement y) (spelled_statements ys) ts n short) (rest_fits (spelled_statement y) (spelled_statements ys) ts m short1)
+      (cons_fits (spelled_statement y) (spelled_statements ys) ts turns (element_length y (kind_is y are.0)) short2))

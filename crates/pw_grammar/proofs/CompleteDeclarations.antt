@@ -62,7 +62,7 @@ reads_front : (expr : Parser Expr) (stmt : Parser Stmt) (n at : ℕ) (g : Option
 unfolding rd.declaration
 reads_front expr stmt n at g c x ts p last m us is_g is_c is_x reads ends =
     then_ _ (step_storage g at (spelled_result c ++ x ∷ ts) is_g (result_no c (x ∷ ts) s.Extern is_c no_type_extern (λ p. cc))
-        (result_no c (x ∷ ts) s.Static is_c no_type_static (λ p. cc)))
+    (result_no c (x ∷ ts) s.Static is_c no_type_static (λ p. cc)))
     (then_ _ (step_result c (at + length (spelled_storage g)) (x ∷ ts) is_c)
     (then_ _ (step_name (name_at at g (spelled_result c)) x ts is_x)
     (then_ _ reads (ap (λ k. pure (declared at g c x p k) (spot m us)) (let same : m - 1 ≡ last = omega arith in same)))))
@@ -187,57 +187,69 @@ pub reads_declaration : ((m : ℕ) → ReadsExpressions m (expression m)) → (n
     ≡ Ok (tree_of_declaration at c, spot (at + length (spelled_declaration c)) ts)
 reads_declaration reads n (prototype g y x o ps c e) at ts (is_g, is_y, is_x, is_o, are, is_c, is_e) short =
     let parts : spelled_declaration (prototype g y x o ps c e) ++ ts ≡ spelled_storage g ++ (spelled_result y ++ x ∷ o ∷ (spelled_parameters ps ++ c ∷ e ∷ ts)) =
-        function_parts (spelled_storage g) (spelled_result y) x o (spelled_parameters ps) (c ∷ e ∷ []) ts in
+    function_parts (spelled_storage g) (spelled_result y) x o (spelled_parameters ps) (c ∷ e ∷ []) ts in
     let inner : length (o ∷ (spelled_parameters ps ++ c ∷ e ∷ ts)) < n = front_fits (spelled_storage g) (spelled_result y) x _ n (fits _ _ n parts short) in
     parted (rd.declaration (expression n) (r.statement n) n) at parts
     (counted _ (reads_front (expression n) (r.statement n) n at g y x (o ∷ (spelled_parameters ps ++ c ∷ e ∷ ts)) _
-        (suc (behind_parameters at g y ps)) _ ts is_g is_y is_x
-        (a_function (expression n) (r.statement n) n (linkage_of g) (result_in y)
-            (spot (suc (name_at at g (spelled_result y))) (o ∷ (spelled_parameters ps ++ c ∷ e ∷ ts))) is_o
-        ∙ reads_function (expression n) (r.statement n) n (linkage_of g) (result_in y) (suc (name_at at g (spelled_result y))) o ps c (e ∷ ts) _ _ are is_c (omega arith)
-            (ends_here (expression n) (r.statement n) n (linkage_of g) (result_in y) (parameters_of (suc (suc (name_at at g (spelled_result y)))) ps)
-                (spot (suc (behind_parameters at g y ps)) (e ∷ ts)) is_e
-            ∙ a_prototype (result_in y) (parameters_of (suc (suc (name_at at g (spelled_result y)))) ps) (suc (behind_parameters at g y ps)) e ts is_e))
-        refl)
-    (omega (arith, length-append (spelled_storage g) (spelled_result y ++ x ∷ o ∷ (spelled_parameters ps ++ c ∷ e ∷ [])),
-        length-append (spelled_result y) (x ∷ o ∷ (spelled_parameters ps ++ c ∷ e ∷ [])), length-append (spelled_parameters ps) (c ∷ e ∷ []))))
+    (suc (behind_parameters at g y ps)) _ ts is_g is_y is_x
+    (a_function (expression n) (r.statement n) n (linkage_of g) (result_in y)
+    (spot (suc (name_at at g (spelled_result y))) (o ∷ (spelled_parameters ps ++ c ∷ e ∷ ts))) is_o
+    ∙ reads_function (expression n) (r.statement n) n (linkage_of g) (result_in y) (suc (name_at at g (spelled_result y))) o ps c (e ∷ ts) _ _ are is_c (omega arith)
+    (ends_here (expression n) (r.statement n) n (linkage_of g) (result_in y) (parameters_of (suc (suc (name_at at g (spelled_result y)))) ps)
+    (spot (suc (behind_parameters at g y ps)) (e ∷ ts)) is_e
+    ∙ a_prototype (result_in y) (parameters_of (suc (suc (name_at at g (spelled_result y)))) ps) (suc (behind_parameters at g y ps)) e ts is_e))
+    refl)
+    (omega (
+      arith,
+      length-append (spelled_storage g) (spelled_result y ++ x ∷ o ∷ (spelled_parameters ps ++ c ∷ e ∷ [])),
+      length-append (spelled_result y) (x ∷ o ∷ (spelled_parameters ps ++ c ∷ e ∷ [])),
+      length-append (spelled_parameters ps) (c ∷ e ∷ []),
+    )))
 reads_declaration reads n (function g y x o ps c b body e) at ts (is_g, is_y, is_x, is_o, are, names, is_c, is_b, is, is_e) short =
     let parts : spelled_declaration (function g y x o ps c b body e) ++ ts
-            ≡ spelled_storage g ++ (spelled_result y ++ x ∷ o ∷ (spelled_parameters ps ++ c ∷ b ∷ (spelled_statements body ++ e ∷ ts))) =
-        body_parts (spelled_storage g) (spelled_result y) x o (spelled_parameters ps) c b (spelled_statements body) e ts in
+    ≡ spelled_storage g ++ (spelled_result y ++ x ∷ o ∷ (spelled_parameters ps ++ c ∷ b ∷ (spelled_statements body ++ e ∷ ts))) =
+    body_parts (spelled_storage g) (spelled_result y) x o (spelled_parameters ps) c b (spelled_statements body) e ts in
     let inner : length (o ∷ (spelled_parameters ps ++ c ∷ b ∷ (spelled_statements body ++ e ∷ ts))) < n =
-        front_fits (spelled_storage g) (spelled_result y) x _ n (fits _ _ n parts short) in
+    front_fits (spelled_storage g) (spelled_result y) x _ n (fits _ _ n parts short) in
     let deeper : length (spelled_statements body ++ e ∷ ts) < n = omega (arith, length-append (spelled_parameters ps) (c ∷ b ∷ (spelled_statements body ++ e ∷ ts))) in
     parted (rd.declaration (expression n) (r.statement n) n) at parts
     (counted _ (reads_front (expression n) (r.statement n) n at g y x (o ∷ (spelled_parameters ps ++ c ∷ b ∷ (spelled_statements body ++ e ∷ ts))) _
-        (suc (suc (behind_parameters at g y ps)) + length (spelled_statements body)) _ ts (defines g is_g) is_y is_x
-        (a_function (expression n) (r.statement n) n (linkage_of g) (result_in y)
-            (spot (suc (name_at at g (spelled_result y))) (o ∷ (spelled_parameters ps ++ c ∷ b ∷ (spelled_statements body ++ e ∷ ts)))) is_o
-        ∙ reads_function (expression n) (r.statement n) n (linkage_of g) (result_in y) (suc (name_at at g (spelled_result y))) o ps c
-            (b ∷ (spelled_statements body ++ e ∷ ts)) _ _ are is_c (omega arith)
-            (has_body (expression n) (r.statement n) n (linkage_of g) (result_in y) (parameters_of (suc (suc (name_at at g (spelled_result y)))) ps)
-                (spot (suc (behind_parameters at g y ps)) (b ∷ (spelled_statements body ++ e ∷ ts))) (no_other is_b (λ p. cc))
-                (may_it (linkage_of g) _ (own_definition g is_g) (all_named ps (suc (suc (name_at at g (spelled_result y)))) names))
-            ∙ a_body (expression n) (r.statement n) n (result_in y) (parameters_of (suc (suc (name_at at g (spelled_result y)))) ps)
-                (suc (behind_parameters at g y ps)) b body e ts is_b is_e
-                (reads_statements reads n n n body (suc (suc (behind_parameters at g y ps))) (e ∷ ts) is is_e deeper deeper deeper)))
-        refl)
-    (omega (arith, length-append (spelled_storage g) (spelled_result y ++ x ∷ o ∷ (spelled_parameters ps ++ c ∷ b ∷ (spelled_statements body ++ e ∷ []))),
-        length-append (spelled_result y) (x ∷ o ∷ (spelled_parameters ps ++ c ∷ b ∷ (spelled_statements body ++ e ∷ []))),
-        length-append (spelled_parameters ps) (c ∷ b ∷ (spelled_statements body ++ e ∷ [])), length-append (spelled_statements body) (e ∷ []))))
+    (suc (suc (behind_parameters at g y ps)) + length (spelled_statements body)) _ ts (defines g is_g) is_y is_x
+    (a_function (expression n) (r.statement n) n (linkage_of g) (result_in y)
+    (spot (suc (name_at at g (spelled_result y))) (o ∷ (spelled_parameters ps ++ c ∷ b ∷ (spelled_statements body ++ e ∷ ts)))) is_o
+    ∙ reads_function (expression n) (r.statement n) n (linkage_of g) (result_in y) (suc (name_at at g (spelled_result y))) o ps c
+    (b ∷ (spelled_statements body ++ e ∷ ts)) _ _ are is_c (omega arith)
+    (has_body (expression n) (r.statement n) n (linkage_of g) (result_in y) (parameters_of (suc (suc (name_at at g (spelled_result y)))) ps)
+    (spot (suc (behind_parameters at g y ps)) (b ∷ (spelled_statements body ++ e ∷ ts))) (no_other is_b (λ p. cc))
+    (may_it (linkage_of g) _ (own_definition g is_g) (all_named ps (suc (suc (name_at at g (spelled_result y)))) names))
+    ∙ a_body (expression n) (r.statement n) n (result_in y) (parameters_of (suc (suc (name_at at g (spelled_result y)))) ps)
+    (suc (behind_parameters at g y ps)) b body e ts is_b is_e
+    (reads_statements reads n n n body (suc (suc (behind_parameters at g y ps))) (e ∷ ts) is is_e deeper deeper deeper)))
+    refl)
+    (omega (
+      arith,
+      length-append (spelled_storage g) (spelled_result y ++ x ∷ o ∷ (spelled_parameters ps ++ c ∷ b ∷ (spelled_statements body ++ e ∷ []))),
+      length-append (spelled_result y) (x ∷ o ∷ (spelled_parameters ps ++ c ∷ b ∷ (spelled_statements body ++ e ∷ []))),
+      length-append (spelled_parameters ps) (c ∷ b ∷ (spelled_statements body ++ e ∷ [])),
+      length-append (spelled_statements body) (e ∷ []),
+    )))
 reads_declaration reads n (variable g y x v e) at ts (is_y, is_x, is_v, may, is_e) short =
     let parts : spelled_declaration (variable g y x v e) ++ ts ≡ spelled_storage g ++ (spelled_type y ++ x ∷ (spelled_variable v ++ e ∷ ts)) =
-        variable_parts (spelled_storage g) (spelled_type y) x (spelled_variable v) e ts in
+    variable_parts (spelled_storage g) (spelled_type y) x (spelled_variable v) e ts in
     parted (rd.declaration (expression n) (r.statement n) n) at parts
     (counted _ (reads_front (expression n) (r.statement n) n at g (dc.value y) x (spelled_variable v ++ e ∷ ts) _
-        (suc (name_at at g (spelled_type y)) + length (spelled_variable v)) _ ts (stored g v may) is_y is_x
-        (a_variable (expression n) (r.statement n) n (linkage_of g) (type_in y) (spot (suc (name_at at g (spelled_type y))) (spelled_variable v ++ e ∷ ts))
-            (variable_no v e ts is_v is_e) (type_not_void y is_y)
-        ∙ step_variable n (linkage_of g) (type_in y) v (name_at at g (spelled_type y)) e ts is_v (may_be g v may) is_e
-            (front_fits (spelled_storage g) (spelled_type y) x _ n (fits _ _ n parts short)))
-        refl)
-    (omega (arith, length-append (spelled_storage g) (spelled_type y ++ x ∷ (spelled_variable v ++ e ∷ [])),
-        length-append (spelled_type y) (x ∷ (spelled_variable v ++ e ∷ [])), length-append (spelled_variable v) (e ∷ []))))
+    (suc (name_at at g (spelled_type y)) + length (spelled_variable v)) _ ts (stored g v may) is_y is_x
+    (a_variable (expression n) (r.statement n) n (linkage_of g) (type_in y) (spot (suc (name_at at g (spelled_type y))) (spelled_variable v ++ e ∷ ts))
+    (variable_no v e ts is_v is_e) (type_not_void y is_y)
+    ∙ step_variable n (linkage_of g) (type_in y) v (name_at at g (spelled_type y)) e ts is_v (may_be g v may) is_e
+    (front_fits (spelled_storage g) (spelled_type y) x _ n (fits _ _ n parts short)))
+    refl)
+    (omega (
+      arith,
+      length-append (spelled_storage g) (spelled_type y ++ x ∷ (spelled_variable v ++ e ∷ [])),
+      length-append (spelled_type y) (x ∷ (spelled_variable v ++ e ∷ [])),
+      length-append (spelled_variable v) (e ∷ []),
+    )))
 
 -- ---- units
 
@@ -284,9 +296,9 @@ reads_declarations reads n (suc turns) (c ∷ cs) found at is short1 short2 =
     either_other s.End (pure found) (next_declaration n turns found) (spot at (spelled_declaration c ++ spelled_unit cs)) (declaration_no_end c (spelled_unit cs) is.0)
     ∙ then_ _ (reads_declaration reads n c at (spelled_unit cs) is.0 short1)
     (valued _ (counted _ (reads_declarations reads n turns cs (found ++ tree_of_declaration at c ∷ []) (at + length (spelled_declaration c)) is.1
-        (behind (spelled_declaration c) (spelled_unit cs) n short1) (unit_fits (spelled_declaration c) (spelled_unit cs) turns (declaration_length c) short2))
-        (omega (arith, length-append (spelled_declaration c) (spelled_unit cs))))
-        (append_assoc found (tree_of_declaration at c ∷ []) (trees_of_declarations (at + length (spelled_declaration c)) cs)))
+    (behind (spelled_declaration c) (spelled_unit cs) n short1) (unit_fits (spelled_declaration c) (spelled_unit cs) turns (declaration_length c) short2))
+    (omega (arith, length-append (spelled_declaration c) (spelled_unit cs))))
+    (append_assoc found (tree_of_declaration at c ∷ []) (trees_of_declarations (at + length (spelled_declaration c)) cs)))
 
 -- a whole unit is read, to the end of its tokens
 pub reads_unit : ((m : ℕ) → ReadsExpressions m (expression m)) → (n : ℕ) (c : UnitPhrase) → IsUnit c → length (spelled_unit c) < n

@@ -66,8 +66,8 @@ binary_chains p n knows a t b left right k at r low stops short tighter i level_
     let below : i ≤ k = omega (arith, level_is) in
     higher_level p n (binary a t b) i k at r stops (omega arith) below (near_or_far k i)
     (own_level p n knows a t b left right i at r (omega arith)
-        (subst (λ m. IsAt m a) same is_left) (subst (λ m. IsOperator m (sort t)) same is) (subst (λ m. IsAt m b) level_is is_right)
-        (stops_less (i + 2) (k + 2) (first_sort r) (omega arith) stops) short)
+    (subst (λ m. IsAt m a) same is_left) (subst (λ m. IsOperator m (sort t)) same is) (subst (λ m. IsAt m b) level_is is_right)
+    (stops_less (i + 2) (k + 2) (first_sort r) (omega arith) stops) short)
 
 level_chains : (p : Parser Expr) (n : ℕ) → Knows p n → (c : Phrase) → Chains p n c
 unfolding IsAt spelled
@@ -99,24 +99,31 @@ plain_reads : (p : Parser Expr) (n : ℕ) → Knows p n → (c : Phrase) (at : �
 unfolding read.choice
 plain_reads p n knows c at r is ends short =
     then_reads (read.level p (suc n) 10) _ _ (tree_of at c) (record { at = at + length (spelled c); rest = r }) _
-        (level_reads p n knows c 10 at r (omega arith) is (ends_stops 12 (first_sort r) ends) short)
+    (level_reads p n knows c 10 at r (omega arith) is (ends_stops 12 (first_sort r) ends) short)
     (rw (sees_other s.Question (record { at = at + length (spelled c); rest = r }) (ends_no_question (first_sort r) ends)) refl)
 
 branches_read : (p : Parser Expr) (n : ℕ) → Knows p n → (first : ℕ) (test : Expr) (q : Token) (a : Phrase) (m : Token) (b : Phrase) (at last : ℕ) (r : List Token)
     → IsAt 13 a → sort m ≡ s.Colon → IsAt 13 b → EndsExpression (first_sort r)
     → last ≡ suc (suc at + length (spelled a)) + length (spelled b) → suc (length (spelled a) + length (spelled b)) + length r < n
     → read.branches p first test (record { at = at; rest = q ∷ (spelled a ++ m ∷ (spelled b ++ r)) })
-        ≡ Ok (roll-Expr (record { first = first; last = last - 1; line = q.line
-            ; kind = e.Cond test (tree_of (suc at) a) (tree_of (suc (suc at + length (spelled a))) b) }), record { at = last; rest = r })
+    ≡ Ok (
+      roll-Expr (record {
+        first = first;
+        last = last - 1;
+        line = q.line;
+        kind = e.Cond test (tree_of (suc at) a) (tree_of (suc (suc at + length (spelled a))) b);
+      }),
+      record { at = last; rest = r },
+    )
 unfolding read.branches
 branches_read p n knows first test q a m b at last r is_a colon is_b ends total short =
     let behind : length (spelled b ++ r) ≡ length (spelled b) + length r = length-append (spelled b) r in
     then_reads skip _ _ q.line _ _ (skips at q _)
     (then_reads p _ _ (tree_of (suc at) a) (record { at = suc at + length (spelled a); rest = m ∷ (spelled b ++ r) }) _
-        (knows a (suc at) (m ∷ (spelled b ++ r)) is_a (ends_with (sort m) s.Colon colon refl) (omega (arith, behind)))
+    (knows a (suc at) (m ∷ (spelled b ++ r)) is_a (ends_with (sort m) s.Colon colon refl) (omega (arith, behind)))
     (then_reads (expect s.Colon) _ _ m.line _ _ (expects s.Colon _ m (spelled b ++ r) colon)
     (then_reads p _ _ (tree_of (suc (suc at + length (spelled a))) b) (record { at = suc (suc at + length (spelled a)) + length (spelled b); rest = r }) _
-        (knows b (suc (suc at + length (spelled a))) r is_b ends (omega arith))
+    (knows b (suc (suc at + length (spelled a))) r is_b ends (omega arith))
     (finishes first q.line _ _ _ last r refl (sym total)))))
 
 choice_reads : (p : Parser Expr) (n : ℕ) → Knows p n → (c : Phrase) (at : ℕ) (r : List Token) → IsAt 13 c → EndsExpression (first_sort r)
@@ -138,16 +145,16 @@ choice_reads p n knows (binary a t b) at r is ends short =
 choice_reads p n knows (choice c q a m b) at r is ends short =
     let inner : length (spelled a ++ m ∷ spelled b) ≡ suc (length (spelled a) + length (spelled b)) = count_between (spelled a) m (spelled b) in
     let count : length (spelled c ++ q ∷ (spelled a ++ m ∷ spelled b)) ≡ suc (length (spelled c) + length (spelled a ++ m ∷ spelled b))
-        = count_between (spelled c) q (spelled a ++ m ∷ spelled b) in
+    = count_between (spelled c) q (spelled a ++ m ∷ spelled b) in
     let behind : length (spelled a ++ m ∷ (spelled b ++ r)) ≡ suc (length (spelled a) + length (spelled b ++ r)) = count_between (spelled a) m (spelled b ++ r) in
     let after : length (spelled b ++ r) ≡ length (spelled b) + length r = length-append (spelled b) r in
     at_rest (read.choice p (suc n)) at _ (spelled c ++ q ∷ (spelled a ++ m ∷ (spelled b ++ r))) _
-        (regroup_between (spelled c) q (spelled a ++ m ∷ spelled b) r ∙ ap (λ w. spelled c ++ q ∷ w) (regroup_between (spelled a) m (spelled b) r))
+    (regroup_between (spelled c) q (spelled a ++ m ∷ spelled b) r ∙ ap (λ w. spelled c ++ q ∷ w) (regroup_between (spelled a) m (spelled b) r))
     (then_reads (read.level p (suc n) 10) _ _ (tree_of at c) (record { at = at + length (spelled c); rest = q ∷ (spelled a ++ m ∷ (spelled b ++ r)) }) _
-        (level_reads p n knows c 10 at _ (omega arith) is.1 (question_stops 12 (sort q) is.2) (omega (arith, count, inner, behind, after)))
+    (level_reads p n knows c 10 at _ (omega arith) is.1 (question_stops 12 (sort q) is.2) (omega (arith, count, inner, behind, after)))
     (rw (sees_it s.Question (record { at = at + length (spelled c); rest = q ∷ (spelled a ++ m ∷ (spelled b ++ r)) }) is.2)
     (branches_read p n knows at (tree_of at c) q a m b (at + length (spelled c)) _ r is.3 is.4 is.5 ends
-        (omega (arith, count, inner)) (omega (arith, count, inner)))))
+    (omega (arith, count, inner)) (omega (arith, count, inner)))))
 
 -- ---- expressions
 

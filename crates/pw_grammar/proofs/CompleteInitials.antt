@@ -96,17 +96,21 @@ step_more_elements (suc turns) (dc.comma t) found at ts is end short =
     ∙ valued (found ++ []) (done found (at + 1) ts (omega arith)) (sym (append-nil found)))
 step_more_elements (suc turns) (dc.more t x xs) found at ts is end short =
     let parts : (spelled_element x ++ spelled_more_elements xs) ++ ts ≡ spelled_element x ++ (spelled_more_elements xs ++ ts) =
-        append_assoc (spelled_element x) (spelled_more_elements xs) ts in
+    append_assoc (spelled_element x) (spelled_more_elements xs) ts in
     either_this s.Comma (behind_comma turns found) (pure found) (spot at (t ∷ ((spelled_element x ++ spelled_more_elements xs) ++ ts))) is.0
     ∙ then_ _ (step_skip at t _)
     (parted (either s.RightBrace (pure found) (next_element turns found)) (suc at) parts
     (either_other s.RightBrace (pure found) (next_element turns found) (spot (suc at) (spelled_element x ++ (spelled_more_elements xs ++ ts))) (element_no x _ is.1)
     ∙ then_ _ (step_element x (suc at) (spelled_more_elements xs ++ ts) is.1)
     (valued _ (counted _ (step_more_elements turns xs (found ++ element_of (suc at) x ∷ []) (suc at + length (spelled_element x)) ts is.2 end
-        (omega (arith, length-append (spelled_element x ++ spelled_more_elements xs) ts, length-append (spelled_element x) (spelled_more_elements xs),
-        length-append (spelled_more_elements xs) ts)))
-        (omega (arith, length-append (spelled_element x) (spelled_more_elements xs))))
-        (append_assoc found (element_of (suc at) x ∷ []) (more_elements_of (suc at + length (spelled_element x)) xs)))))
+    (omega (
+      arith,
+      length-append (spelled_element x ++ spelled_more_elements xs) ts,
+      length-append (spelled_element x) (spelled_more_elements xs),
+      length-append (spelled_more_elements xs) ts,
+    )))
+    (omega (arith, length-append (spelled_element x) (spelled_more_elements xs))))
+    (append_assoc found (element_of (suc at) x ∷ []) (more_elements_of (suc at + length (spelled_element x)) xs)))))
 
 -- ---- variables
 
@@ -148,15 +152,17 @@ step_listed : (n count at : ℕ) (q b : Token) (x : Element) (xs : MoreElements)
     → sort e ≡ s.RightBrace
     → length (spelled_element x ++ (spelled_more_elements xs ++ e ∷ ts)) < n
     → rd.initials_by n (Some count) (spot at (q ∷ b ∷ (spelled_element x ++ (spelled_more_elements xs ++ e ∷ ts))))
-    ≡ Ok (Some (element_of (suc (suc at)) x ∷ more_elements_of (suc (suc at) + length (spelled_element x)) xs),
-        spot (suc (suc (suc at) + length (spelled_element x) + length (spelled_more_elements xs))) ts)
+    ≡ Ok (
+      Some (element_of (suc (suc at)) x ∷ more_elements_of (suc (suc at) + length (spelled_element x)) xs),
+      spot (suc (suc (suc at) + length (spelled_element x) + length (spelled_more_elements xs))) ts,
+    )
 unfolding rd.listed_initials
 step_listed n count at q b x xs e ts is_b is are is_e short =
     then_ _ (step_skip at q _)
     (then_ _ (step_expect s.LeftBrace (suc at) b _ is_b)
     (then_ _ (step_element x (suc (suc at)) (spelled_more_elements xs ++ e ∷ ts) is)
     (then_ _ (step_more_elements n xs (element_of (suc (suc at)) x ∷ []) (suc (suc at) + length (spelled_element x)) (e ∷ ts) are is_e
-        (behind (spelled_element x) (spelled_more_elements xs ++ e ∷ ts) n short))
+    (behind (spelled_element x) (spelled_more_elements xs ++ e ∷ ts) n short))
     (then_ _ (step_expect s.RightBrace (suc (suc at) + length (spelled_element x) + length (spelled_more_elements xs)) e ts is_e) refl))))
 
 -- the variable has no initialiser, or may have one
@@ -181,7 +187,7 @@ scalar_is ty x a b m n e f = cc
 
 array_is : (ty : Ty) (count : ℕ) (x : Element) (xs : MoreElements) (a b m n : ℕ) → a ≡ b → m ≡ n
     → ◌≡◌ {A = ℕ × DeclKind} (a, d.Var ty (Some count) (Some (element_of m x ∷ more_elements_of (m + length (spelled_element x)) xs)))
-        (b, d.Var ty (Some count) (Some (element_of n x ∷ more_elements_of (n + length (spelled_element x)) xs)))
+    (b, d.Var ty (Some count) (Some (element_of n x ∷ more_elements_of (n + length (spelled_element x)) xs)))
 array_is ty count x xs a b m n e f = cc
 
 listed_parts : (u v : List Token) (z : Token) (ts : List Token) → (u ++ (v ++ z ∷ [])) ++ ts ≡ u ++ (v ++ z ∷ ts)
@@ -209,14 +215,14 @@ step_variable n l ty (dc.array o m c) at e ts is may is_e short =
     (variable_is _ _ _ _ ts (ap (λ j. (j, d.Var ty (Some (value_in m.kind)) None)) (omega arith)) (omega arith))))
 step_variable n l ty (dc.array_set o m c q b x xs z) at e ts is may is_e short = not_extern (rd.is_extern l) may (λ own.
     let parts : (spelled_element x ++ (spelled_more_elements xs ++ z ∷ [])) ++ e ∷ ts ≡ spelled_element x ++ (spelled_more_elements xs ++ z ∷ e ∷ ts) =
-        listed_parts (spelled_element x) (spelled_more_elements xs) z (e ∷ ts) in
+    listed_parts (spelled_element x) (spelled_more_elements xs) z (e ∷ ts) in
     let inner : length (o ∷ m ∷ c ∷ q ∷ b ∷ (spelled_element x ++ (spelled_more_elements xs ++ z ∷ e ∷ ts))) < n =
-        fits _ _ n (ap (λ u. o ∷ m ∷ c ∷ q ∷ b ∷ u) parts) short in
+    fits _ _ n (ap (λ u. o ∷ m ∷ c ∷ q ∷ b ∷ u) parts) short in
     parted (rd.variable n l ty) (suc at) (ap (λ u. o ∷ m ∷ c ∷ q ∷ b ∷ u) parts)
     (then_ _ (step_size (suc at) o m c (q ∷ b ∷ (spelled_element x ++ (spelled_more_elements xs ++ z ∷ e ∷ ts))) is.0)
     (then_ _ (its_initials n l (Some (value_in m.kind))
-        (spot (suc (suc (suc (suc at)))) (q ∷ b ∷ (spelled_element x ++ (spelled_more_elements xs ++ z ∷ e ∷ ts)))) is.1 own
-        ∙ step_listed n (value_in m.kind) (suc (suc (suc (suc at)))) q b x xs z (e ∷ ts) is.2 is.3 is.4 is.5 (omega arith))
+    (spot (suc (suc (suc (suc at)))) (q ∷ b ∷ (spelled_element x ++ (spelled_more_elements xs ++ z ∷ e ∷ ts)))) is.1 own
+    ∙ step_listed n (value_in m.kind) (suc (suc (suc (suc at)))) q b x xs z (e ∷ ts) is.2 is.3 is.4 is.5 (omega arith))
     (then_ _ (step_expect s.Semicolon (suc (suc (suc (suc (suc (suc (suc at))))) + length (spelled_element x) + length (spelled_more_elements xs))) e ts is_e)
     (variable_is _ _ _ _ ts (array_is ty (value_in m.kind) x xs _ _ _ _ (omega arith) (omega arith))
-        (omega (arith, length-append (spelled_element x) (spelled_more_elements xs ++ z ∷ []), length-append (spelled_more_elements xs) (z ∷ []))))))))
+    (omega (arith, length-append (spelled_element x) (spelled_more_elements xs ++ z ∷ []), length-append (spelled_more_elements xs) (z ∷ []))))))))

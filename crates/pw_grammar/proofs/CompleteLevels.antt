@@ -69,7 +69,7 @@ prefix_operator_reads t at ts o =
 
 operators_read : (c : Phrase) (turns : ℕ) (found : List (Un × ℕ)) (at : ℕ) (r : List Token) → IsAt 2 c → length (operators_of c) ≤ turns
     → read.operators turns found (record { at = at; rest = spelled c ++ r })
-        ≡ Ok (found ++ operators_of c, record { at = at + length (operators_of c); rest = spelled (operand_of c) ++ r })
+    ≡ Ok (found ++ operators_of c, record { at = at + length (operators_of c); rest = spelled (operand_of c) ++ r })
 unfolding read.operators IsAt spelled
 operators_read (prefixed t a) zero found at r is enough = absurd (omega arith)
 operators_read (prefixed t a) (suc turns) found at r is enough =
@@ -95,9 +95,9 @@ prefix_reads p n knows c at r is stops short =
     let there : ℕ = at + length (operators_of c) in
     let back = postfix_suffixed p n knows (operand_of c) there r (operand_at c is) (omega (arith, count)) in
     then_reads (read.operators (suc n) []) _ _ (operators_of c) (record { at = there; rest = spelled (operand_of c) ++ r }) _
-        (operators_read c (suc n) [] at r is (omega (arith, count)))
+    (operators_read c (suc n) [] at r is (omega (arith, count)))
     (then_reads (read.postfix p (suc n)) _ _ (tree_of there (operand_of c)) (record { at = there + length (spelled (operand_of c)); rest = r }) _
-        (back.comes ∙ suffixes_end p (suc n) back.turns there _ (record { at = there + length (spelled (operand_of c)); rest = r }) stops)
+    (back.comes ∙ suffixes_end p (suc n) back.turns there _ (record { at = there + length (spelled (operand_of c)); rest = r }) stops)
     (same_end _ _ _ _ r (wrapped_is c at _ (omega (arith, count))) (omega (arith, count))))
 
 -- ---- binary operators
@@ -121,7 +121,7 @@ unfolding read.chain read.binary_operator
 chain_ends n operand zero first left i stops = refl
 chain_ends n operand (suc turns) first left i stops =
     ap (λ o. and_then (read.binary_by o i) (λ x. on_option x (pure left) (λ op. operand >>= (λ right. finish first op.1 (e.Binary op.0 left right)
-        >>= (λ whole. read.chain n operand turns first whole))))) (none_at_level n (binary_of (next_sort i)) stops.operator)
+    >>= (λ whole. read.chain n operand turns first whole))))) (none_at_level n (binary_of (next_sort i)) stops.operator)
 
 -- reading up to the phrase's end comes to the loop of the level behind it, with enough turns left
 pub record Chained (p : Parser Expr) (n k : ℕ) (c : Phrase) (at : ℕ) (r : List Token) : Type 0 where
@@ -139,10 +139,11 @@ chained_reads p n k c at r h stops =
 pub lifted : (p : Parser Expr) (n k : ℕ) (c : Phrase) (at : ℕ) (r : List Token) → IsRead (read.level p n k) c at r → length r < n
     → Chained p n k c at r
 unfolding read.level
-lifted p n k c at r h short = record
-  { turns = n
-  ; enough = short
-  ; comes = then_reads (read.level p n k) _ _ (tree_of at c) _ _ h refl }
+lifted p n k c at r h short = record {
+  turns = n;
+  enough = short;
+  comes = then_reads (read.level p n k) _ _ (tree_of at c) _ _ h refl;
+}
 
 -- a phrase of a level is read at each looser one
 pub reads_up : (p : Parser Expr) (n : ℕ) (d k m : ℕ) (c : Phrase) (at : ℕ) (r : List Token) → m ≡ d + k → IsRead (read.level p n k) c at r
@@ -163,20 +164,21 @@ pub binary_chained : (p : Parser Expr) (n k : ℕ) (a : Phrase) (t : Token) (b :
     → IsRead (read.level p n k) b (suc (at + length (spelled a))) r
     → (turns : ℕ) → length (t ∷ (spelled b ++ r)) < turns
     → read.level p n (suc k) (record { at = at; rest = spelled a ++ t ∷ (spelled b ++ r) })
-        ≡ read.chain (suc k + 2) (read.level p n k) turns at (tree_of at a) (record { at = at + length (spelled a); rest = t ∷ (spelled b ++ r) })
+    ≡ read.chain (suc k + 2) (read.level p n k) turns at (tree_of at a) (record { at = at + length (spelled a); rest = t ∷ (spelled b ++ r) })
     → Chained p n k (binary a t b) at r
 unfolding read.chain spelled tree_of
 binary_chained p n k a t b at r is second zero enough comes = absurd (omega arith)
 binary_chained p n k a t b at r is second (suc turns) enough comes =
     let count : length (spelled a ++ t ∷ spelled b) ≡ suc (length (spelled a) + length (spelled b)) = count_between (spelled a) t (spelled b) in
     let behind : length (spelled b ++ r) ≡ length (spelled b) + length r = length-append (spelled b) r in
-    record
-      { turns = turns
-      ; enough = omega (arith, behind)
-      ; comes = at_rest (read.level p n (suc k)) at _ (spelled a ++ t ∷ (spelled b ++ r)) _ (regroup_between (spelled a) t (spelled b) r)
+    record {
+      turns = turns;
+      enough = omega (arith, behind);
+      comes = at_rest (read.level p n (suc k)) at _ (spelled a ++ t ∷ (spelled b ++ r)) _ (regroup_between (spelled a) t (spelled b) r)
           (comes ∙ then_reads (read.binary_operator (suc k + 2)) _ _ (Some (binary_in t, t.line)) _ _
-              (binary_operator_reads (suc k + 2) t (at + length (spelled a)) (spelled b ++ r) is)
+          (binary_operator_reads (suc k + 2) t (at + length (spelled a)) (spelled b ++ r) is)
           (then_reads (read.level p n k) _ _ (tree_of (suc (at + length (spelled a))) b) _ _ second
           (ap (λ m. read.chain (suc k + 2) (read.level p n k) turns at
-              (roll-Expr (record { first = at; last = m - 1; line = t.line; kind = e.Binary (binary_in t) (tree_of at a) (tree_of (suc (at + length (spelled a))) b) }))
-              (record { at = m; rest = r })) (omega (arith, count))))) }
+          (roll-Expr (record { first = at; last = m - 1; line = t.line; kind = e.Binary (binary_in t) (tree_of at a) (tree_of (suc (at + length (spelled a))) b) }))
+          (record { at = m; rest = r })) (omega (arith, count)))));
+    }

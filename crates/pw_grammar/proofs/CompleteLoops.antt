@@ -42,7 +42,7 @@ reads_step n expr reads None at ts is ends short =
     either_this s.RightParen (pure None) (r.some (r.simple_statement expr)) (spot at ts) ends ∙ done None _ ts (omega arith)
 reads_step n expr reads (Some a) at ts is ends short =
     either_other s.RightParen (pure None) (r.some (r.simple_statement expr)) (spot at (spelled_simple a ++ ts))
-        (told_apart starts_expression (simple_starts a ts is) refl)
+    (told_apart starts_expression (simple_starts a ts is) refl)
     ∙ then_ _ (reads_simple_statement n expr reads a at ts is (ap ends_part ends) (not_assign (first_sort ts) ends) short) refl
 
 -- ---- the first part of a `for`
@@ -71,7 +71,7 @@ reads_start n expr reads (simple_start a e) at ts (is, is_e) short =
     let parts : (spelled_simple a ++ e ∷ []) ++ ts ≡ spelled_simple a ++ e ∷ ts = append_assoc (spelled_simple a) (e ∷ []) ts in
     parted (r.start expr) at parts
     (starts_with expr (spot at (spelled_simple a ++ e ∷ ts)) false (told_apart starts_expression (simple_starts a (e ∷ ts) is) refl)
-        (begins_no_type _ (statement_too _ (simple_starts a (e ∷ ts) is)))
+    (begins_no_type _ (statement_too _ (simple_starts a (e ∷ ts) is)))
     ∙ then_ _ (reads_simple_statement n expr reads a at (e ∷ ts) is (ap ends_part is_e) (no_other is_e (λ p. cc)) (fits _ _ n parts short))
     (then_ _ (step_expect s.Semicolon (at + length (spelled_simple a)) e ts is_e) (done _ _ ts (omega (arith, length-append (spelled_simple a) (e ∷ []))))))
 
@@ -100,8 +100,8 @@ pub reads_for : (n : ℕ) (expr : Parser Expr) (stmt : Parser Stmt) → ReadsExp
 unfolding r.for_loop st.spelled_statement st.kind_of
 reads_for n expr stmt reads at t o start a e step c y ts is_o is_start is_a is_e is_step is_c short part =
     let parts : (t ∷ o ∷ (spelled_start start ++ (spelled_maybe a ++ e ∷ (spelled_step step ++ c ∷ st.spelled_statement y)))) ++ ts
-            ≡ t ∷ o ∷ (spelled_start start ++ (spelled_maybe a ++ e ∷ (spelled_step step ++ c ∷ (st.spelled_statement y ++ ts)))) =
-        for_parts t o (spelled_start start) (spelled_maybe a) e (spelled_step step) c (st.spelled_statement y) ts in
+    ≡ t ∷ o ∷ (spelled_start start ++ (spelled_maybe a ++ e ∷ (spelled_step step ++ c ∷ (st.spelled_statement y ++ ts)))) =
+    for_parts t o (spelled_start start) (spelled_maybe a) e (spelled_step step) c (st.spelled_statement y) ts in
     let short3 = for_fits t o (spelled_start start) (spelled_maybe a) e (spelled_step step ++ c ∷ (st.spelled_statement y ++ ts)) n (fits _ _ n parts short) in
     parted (r.for_loop expr stmt) at parts
     (then_ _ (step_skip at t _)
@@ -109,11 +109,11 @@ reads_for n expr stmt reads at t o start a e step c y ts is_o is_start is_a is_e
     (then_ _ (reads_start n expr reads start (suc (suc at)) (spelled_maybe a ++ e ∷ (spelled_step step ++ c ∷ (st.spelled_statement y ++ ts))) is_start short3.0)
     (then_ _ (reads_maybe n expr reads a (suc (suc at) + length (spelled_start start)) (e ∷ (spelled_step step ++ c ∷ (st.spelled_statement y ++ ts))) is_a is_e short3.1)
     (then_ _ (step_expect s.Semicolon (suc (suc at) + length (spelled_start start) + length (spelled_maybe a)) e
-        (spelled_step step ++ c ∷ (st.spelled_statement y ++ ts)) is_e)
+    (spelled_step step ++ c ∷ (st.spelled_statement y ++ ts)) is_e)
     (then_ _ (reads_step n expr reads step (suc (suc (suc at) + length (spelled_start start) + length (spelled_maybe a)))
-        (c ∷ (st.spelled_statement y ++ ts)) is_step is_c short3.2)
+    (c ∷ (st.spelled_statement y ++ ts)) is_step is_c short3.2)
     (then_ _ (step_expect s.RightParen (suc (suc (suc at) + length (spelled_start start) + length (spelled_maybe a)) + length (spelled_step step)) c
-        (st.spelled_statement y ++ ts) is_c)
+    (st.spelled_statement y ++ ts) is_c)
     (then_ _ part (done _ _ ts (for_count at (spelled_start start) (spelled_maybe a) e (spelled_step step) c (st.spelled_statement y)))))))))))
 
 -- ---- statements without statements in them

@@ -62,7 +62,7 @@ unfolding rd.result
 step_result (dc.nothing t) at ts is = either_this s.Void (rd.given ty.Void) r.type_name (spot at (t ∷ ts)) is ∙ counted _ (step_given ty.Void at t ts) (omega arith)
 step_result (dc.value c) at ts is =
     either_other s.Void (rd.given ty.Void) r.type_name (spot at (spelled_type c ++ ts)) (told_apart r.begins_type (type_begins c ts is) no_type_void)
-        ∙ step_type c at ts is
+    ∙ step_type c at ts is
 
 -- ---- parameters
 
@@ -115,16 +115,20 @@ step_more_parameters (suc turns) dc.end found at ts is end short =
     ∙ valued (found ++ []) (done found (at + 0) ts (omega arith)) (sym (append-nil found))
 step_more_parameters (suc turns) (dc.more t p ps) found at ts is end short =
     let parts : (spelled_parameter p ++ spelled_more_parameters ps) ++ ts ≡ spelled_parameter p ++ (spelled_more_parameters ps ++ ts) =
-        append_assoc (spelled_parameter p) (spelled_more_parameters ps) ts in
+    append_assoc (spelled_parameter p) (spelled_more_parameters ps) ts in
     either_this s.Comma (next_parameter turns found) (pure found) (spot at (t ∷ ((spelled_parameter p ++ spelled_more_parameters ps) ++ ts))) is.0
     ∙ then_ _ (step_skip at t _)
     (parted (rd.parameter >>= (λ p. rd.more_parameters turns (found ++ p ∷ []))) (suc at) parts
     (then_ _ (step_parameter p (suc at) (spelled_more_parameters ps ++ ts) is.1 (more_no ps ts is.2 end))
     (valued _ (counted _ (step_more_parameters turns ps (found ++ parameter_of (suc at) p ∷ []) (suc at + length (spelled_parameter p)) ts is.2 end
-        (omega (arith, length-append (spelled_parameter p ++ spelled_more_parameters ps) ts, length-append (spelled_parameter p) (spelled_more_parameters ps),
-        length-append (spelled_more_parameters ps) ts)))
-        (omega (arith, length-append (spelled_parameter p) (spelled_more_parameters ps))))
-        (append_assoc found (parameter_of (suc at) p ∷ []) (more_parameters_of (suc at + length (spelled_parameter p)) ps)))))
+    (omega (
+      arith,
+      length-append (spelled_parameter p ++ spelled_more_parameters ps) ts,
+      length-append (spelled_parameter p) (spelled_more_parameters ps),
+      length-append (spelled_more_parameters ps) ts,
+    )))
+    (omega (arith, length-append (spelled_parameter p) (spelled_more_parameters ps))))
+    (append_assoc found (parameter_of (suc at) p ∷ []) (more_parameters_of (suc at + length (spelled_parameter p)) ps)))))
 
 pub step_parameters : (n : ℕ) (ps : Parameters) (at : ℕ) (ts : List Token) → AreParameters ps → first_sort ts ≡ s.RightParen → length (spelled_parameters ps ++ ts) < n
     → rd.parameters n (spot at (spelled_parameters ps ++ ts)) ≡ Ok (parameters_of at ps, spot (at + length (spelled_parameters ps)) ts)
@@ -133,15 +137,19 @@ step_parameters n (dc.none t) at ts is end short =
     either_this s.Void (rd.given []) (rd.some_parameters n) (spot at (t ∷ ts)) is ∙ counted _ (step_given [] at t ts) (omega arith)
 step_parameters n (dc.some p ps) at ts is end short =
     let parts : (spelled_parameter p ++ spelled_more_parameters ps) ++ ts ≡ spelled_parameter p ++ (spelled_more_parameters ps ++ ts) =
-        append_assoc (spelled_parameter p) (spelled_more_parameters ps) ts in
+    append_assoc (spelled_parameter p) (spelled_more_parameters ps) ts in
     parted (rd.parameters n) at parts
     (either_other s.Void (rd.given []) (rd.some_parameters n) (spot at (spelled_parameter p ++ (spelled_more_parameters ps ++ ts)))
-        (told_apart r.begins_type (parameter_begins p (spelled_more_parameters ps ++ ts) is.0) no_type_void)
+    (told_apart r.begins_type (parameter_begins p (spelled_more_parameters ps ++ ts) is.0) no_type_void)
     ∙ then_ _ (step_parameter p at (spelled_more_parameters ps ++ ts) is.0 (more_no ps ts is.1 end))
     (counted _ (step_more_parameters n ps (parameter_of at p ∷ []) (at + length (spelled_parameter p)) ts is.1 end
-        (omega (arith, length-append (spelled_parameter p ++ spelled_more_parameters ps) ts, length-append (spelled_parameter p) (spelled_more_parameters ps),
-        length-append (spelled_more_parameters ps) ts)))
-        (omega (arith, length-append (spelled_parameter p) (spelled_more_parameters ps)))))
+    (omega (
+      arith,
+      length-append (spelled_parameter p ++ spelled_more_parameters ps) ts,
+      length-append (spelled_parameter p) (spelled_more_parameters ps),
+      length-append (spelled_more_parameters ps) ts,
+    )))
+    (omega (arith, length-append (spelled_parameter p) (spelled_more_parameters ps)))))
 
 -- ---- what a function's parameters are, as its body asks
 

@@ -42,8 +42,8 @@ bracketed_reads p n knows o a c at r is closes short =
     let count : length (spelled a ++ c ∷ []) ≡ suc (length (spelled a)) = count_last (spelled a) c in
     then_reads skip _ _ o.line _ _ (skips at o _)
     (then_reads p _ _ (tree_of (suc at) a) (record { at = suc at + length (spelled a); rest = c ∷ r }) _
-        (at_rest p (suc at) _ (spelled a ++ c ∷ r) _ (regroup_last (spelled a) c r)
-        (knows a (suc at) (c ∷ r) is (ends_with (sort c) s.RightParen closes refl) (omega (arith, count))))
+    (at_rest p (suc at) _ (spelled a ++ c ∷ r) _ (regroup_last (spelled a) c r)
+    (knows a (suc at) (c ∷ r) is (ends_with (sort c) s.RightParen closes refl) (omega (arith, count))))
     (then_reads (expect s.RightParen) _ _ c.line _ _ (expects s.RightParen _ c r closes)
     (same_end _ _ _ _ r refl (omega (arith, count)))))
 
@@ -65,8 +65,8 @@ output_reads p n knows k o a c at r opens is closes short =
     then_reads skip _ _ k.line _ _ (skips at k _)
     (then_reads (expect s.LeftParen) _ _ o.line _ _ (expects s.LeftParen _ o _ opens)
     (then_reads p _ _ (tree_of (suc (suc at)) a) (record { at = suc (suc at) + length (spelled a); rest = c ∷ r }) _
-        (at_rest p (suc (suc at)) _ (spelled a ++ c ∷ r) _ (regroup_last (spelled a) c r)
-        (knows a (suc (suc at)) (c ∷ r) is (ends_with (sort c) s.RightParen closes refl) (omega (arith, count))))
+    (at_rest p (suc (suc at)) _ (spelled a ++ c ∷ r) _ (regroup_last (spelled a) c r)
+    (knows a (suc (suc at)) (c ∷ r) is (ends_with (sort c) s.RightParen closes refl) (omega (arith, count))))
     (then_reads (expect s.RightParen) _ _ c.line _ _ (expects s.RightParen _ c r closes)
     (finishes at k.line _ _ _ _ r refl (omega (arith, count))))))
 
@@ -101,7 +101,7 @@ more_ends (more t a xs) r are closes = ends_with (sort t) s.Comma are.0 refl
 more_reads : (p : Parser Expr) (n : ℕ) → Knows p n → (xs : More) (turns : ℕ) (found : List Expr) (at : ℕ) (r : List Token)
     → AreMore xs → first_sort r ≡ s.RightParen → length (spelled_more xs) + length r < n → length (spelled_more xs) + length r < turns
     → read.more_arguments p turns found (record { at = at; rest = spelled_more xs ++ r })
-        ≡ Ok (found ++ trees_of_more at xs, record { at = at + length (spelled_more xs); rest = r })
+    ≡ Ok (found ++ trees_of_more at xs, record { at = at + length (spelled_more xs); rest = r })
 unfolding read.more_arguments AreMore spelled_more trees_of_more
 more_reads p n knows xs zero found at r are closes short enough = absurd (omega arith)
 more_reads p n knows end (suc turns) found at r are closes short enough =
@@ -113,15 +113,15 @@ more_reads p n knows (more t a xs) (suc turns) found at r are closes short enoug
     rw (sees_it s.Comma (record { at = at; rest = t ∷ ((spelled a ++ spelled_more xs) ++ r) }) are.0)
     (then_reads skip _ _ t.line _ _ (skips at t _)
     (then_reads p _ _ (tree_of (suc at) a) (record { at = suc at + length (spelled a); rest = spelled_more xs ++ r }) _
-        (at_rest p (suc at) _ (spelled a ++ (spelled_more xs ++ r)) _ (append_assoc (spelled a) (spelled_more xs) r)
-        (knows a (suc at) (spelled_more xs ++ r) are.1 (more_ends xs r are.2 closes) (omega (arith, count, behind))))
+    (at_rest p (suc at) _ (spelled a ++ (spelled_more xs ++ r)) _ (append_assoc (spelled a) (spelled_more xs) r)
+    (knows a (suc at) (spelled_more xs ++ r) are.1 (more_ends xs r are.2 closes) (omega (arith, count, behind))))
     (more_reads p n knows xs turns (found ++ tree_of (suc at) a ∷ []) (suc at + length (spelled a)) r are.2 closes (omega (arith, count)) (omega (arith, count))
     ∙ same_end _ _ _ _ r (append_assoc found (tree_of (suc at) a ∷ []) (trees_of_more (suc at + length (spelled a)) xs)) (omega (arith, count)))))
 
 arguments_read : (p : Parser Expr) (n turns : ℕ) → Knows p n → (xs : Arguments) (at : ℕ) (r : List Token)
     → AreArguments xs → first_sort r ≡ s.RightParen → length (spelled_arguments xs) + length r < n → length (spelled_arguments xs) + length r < turns
     → read.arguments p turns (record { at = at; rest = spelled_arguments xs ++ r })
-        ≡ Ok (trees_of at xs, record { at = at + length (spelled_arguments xs); rest = r })
+    ≡ Ok (trees_of at xs, record { at = at + length (spelled_arguments xs); rest = r })
 unfolding read.arguments read.some_arguments AreArguments spelled_arguments trees_of
 arguments_read p n turns knows nothing at r are closes short enough =
     rw (sees_it s.RightParen (record { at = at; rest = r }) closes)
@@ -131,9 +131,9 @@ arguments_read p n turns knows (arguments a xs) at r are closes short enough =
     let behind : length (spelled_more xs ++ r) ≡ length (spelled_more xs) + length r = length-append (spelled_more xs) r in
     at_rest (read.arguments p turns) at _ (spelled a ++ (spelled_more xs ++ r)) _ (append_assoc (spelled a) (spelled_more xs) r)
     (rw (sees_other s.RightParen (record { at = at; rest = spelled a ++ (spelled_more xs ++ r) })
-        (begins_other _ s.RightParen (begins 13 a (spelled_more xs ++ r) are.0) refl))
+    (begins_other _ s.RightParen (begins 13 a (spelled_more xs ++ r) are.0) refl))
     (then_reads p _ _ (tree_of at a) (record { at = at + length (spelled a); rest = spelled_more xs ++ r }) _
-        (knows a at (spelled_more xs ++ r) are.0 (more_ends xs r are.1 closes) (omega (arith, count, behind)))
+    (knows a at (spelled_more xs ++ r) are.0 (more_ends xs r are.1 closes) (omega (arith, count, behind)))
     (more_reads p n knows xs turns (tree_of at a ∷ []) (at + length (spelled a)) r are.1 closes (omega (arith, count)) (omega (arith, count))
     ∙ same_end _ _ _ _ r refl (omega (arith, count)))))
 
@@ -143,24 +143,24 @@ call_reads : (p : Parser Expr) (n turns : ℕ) → Knows p n → (first : ℕ) (
     → AreArguments xs → sort c ≡ s.RightParen → last ≡ suc (suc at + length (spelled_arguments xs))
     → suc (length (spelled_arguments xs) + length r) < n → suc (length (spelled_arguments xs) + length r) < turns
     → read.call p turns first left (record { at = at; rest = o ∷ (spelled_arguments xs ++ c ∷ r) })
-        ≡ Ok (roll-Expr (record { first = first; last = last - 1; line = o.line; kind = e.Call left (trees_of (suc at) xs) }), record { at = last; rest = r })
+    ≡ Ok (roll-Expr (record { first = first; last = last - 1; line = o.line; kind = e.Call left (trees_of (suc at) xs) }), record { at = last; rest = r })
 unfolding read.call
 call_reads p n turns knows first left o xs c at last r are closes ends short enough =
     then_reads skip _ _ o.line _ _ (skips at o _)
     (then_reads (read.arguments p turns) _ _ (trees_of (suc at) xs) (record { at = suc at + length (spelled_arguments xs); rest = c ∷ r }) _
-        (arguments_read p n turns knows xs (suc at) (c ∷ r) are closes (omega arith) (omega arith))
+    (arguments_read p n turns knows xs (suc at) (c ∷ r) are closes (omega arith) (omega arith))
     (then_reads (expect s.RightParen) _ _ c.line _ _ (expects s.RightParen _ c r closes)
     (finishes first o.line _ _ _ last r refl (sym ends))))
 
 index_reads : (p : Parser Expr) (n : ℕ) → Knows p n → (first : ℕ) (left : Expr) (o : Token) (i : Phrase) (c : Token) (at last : ℕ) (r : List Token)
     → IsAt 13 i → sort c ≡ s.RightBracket → last ≡ suc (suc at + length (spelled i)) → suc (length (spelled i) + length r) < n
     → read.index p first left (record { at = at; rest = o ∷ (spelled i ++ c ∷ r) })
-        ≡ Ok (roll-Expr (record { first = first; last = last - 1; line = o.line; kind = e.Index left (tree_of (suc at) i) }), record { at = last; rest = r })
+    ≡ Ok (roll-Expr (record { first = first; last = last - 1; line = o.line; kind = e.Index left (tree_of (suc at) i) }), record { at = last; rest = r })
 unfolding read.index
 index_reads p n knows first left o i c at last r is closes ends short =
     then_reads skip _ _ o.line _ _ (skips at o _)
     (then_reads p _ _ (tree_of (suc at) i) (record { at = suc at + length (spelled i); rest = c ∷ r }) _
-        (knows i (suc at) (c ∷ r) is (ends_with (sort c) s.RightBracket closes refl) (omega arith))
+    (knows i (suc at) (c ∷ r) is (ends_with (sort c) s.RightBracket closes refl) (omega arith))
     (then_reads (expect s.RightBracket) _ _ c.line _ _ (expects s.RightBracket _ c r closes)
     (finishes first o.line _ _ _ last r refl (sym ends))))
 
@@ -176,51 +176,54 @@ pub record Suffixed (p : Parser Expr) (n : ℕ) (c : Phrase) (at : ℕ) (r : Lis
 primary_suffixed : (p : Parser Expr) (n : ℕ) → Knows p n → (c : Phrase) (at : ℕ) (r : List Token) → IsAt 0 c
     → length (spelled c) + length r < suc n → Suffixed p (suc n) c at r
 unfolding read.postfix
-primary_suffixed p n knows c at r is short = record
-  { turns = suc n
-  ; enough = omega arith
-  ; comes = then_reads (read.primary p) _ _ (tree_of at c) _ _ (primary_reads p n knows c at r is short) refl }
+primary_suffixed p n knows c at r is short = record {
+  turns = suc n;
+  enough = omega arith;
+  comes = then_reads (read.primary p) _ _ (tree_of at c) _ _ (primary_reads p n knows c at r is short) refl;
+}
 
 call_suffixed : (p : Parser Expr) (n : ℕ) → Knows p n → (f : Phrase) (o : Token) (xs : Arguments) (c : Token) (at : ℕ) (r : List Token)
     → sort o ≡ s.LeftParen → AreArguments xs → sort c ≡ s.RightParen → length (spelled (call f o xs c)) + length r < suc n
     → (turns : ℕ) → length (o ∷ (spelled_arguments xs ++ c ∷ r)) < turns
     → read.postfix p (suc n) (record { at = at; rest = spelled f ++ o ∷ (spelled_arguments xs ++ c ∷ r) })
-        ≡ read.suffixes p (suc n) turns at (tree_of at f) (record { at = at + length (spelled f); rest = o ∷ (spelled_arguments xs ++ c ∷ r) })
+    ≡ read.suffixes p (suc n) turns at (tree_of at f) (record { at = at + length (spelled f); rest = o ∷ (spelled_arguments xs ++ c ∷ r) })
     → Suffixed p (suc n) (call f o xs c) at r
 unfolding read.suffixes spelled tree_of
 call_suffixed p n knows f o xs c at r opens are closes short zero enough comes = absurd (omega arith)
 call_suffixed p n knows f o xs c at r opens are closes short (suc turns) enough comes =
     let count : length (spelled f ++ o ∷ (spelled_arguments xs ++ c ∷ [])) ≡ suc (suc (length (spelled f) + length (spelled_arguments xs))) = count_enclosed (spelled f) o (spelled_arguments xs) c in
     let behind : length (spelled_arguments xs ++ c ∷ r) ≡ length (spelled_arguments xs) + suc (length r) = length-append (spelled_arguments xs) (c ∷ r) in
-    record
-      { turns = turns
-      ; enough = omega (arith, behind)
-      ; comes = at_rest (read.postfix p (suc n)) at _ (spelled f ++ o ∷ (spelled_arguments xs ++ c ∷ r)) _ (regroup_enclosed (spelled f) o (spelled_arguments xs) c r)
+    record {
+      turns = turns;
+      enough = omega (arith, behind);
+      comes = at_rest (read.postfix p (suc n)) at _ (spelled f ++ o ∷ (spelled_arguments xs ++ c ∷ r)) _ (regroup_enclosed (spelled f) o (spelled_arguments xs) c r)
           (comes ∙ rw (sees_it s.LeftParen (record { at = at + length (spelled f); rest = o ∷ (spelled_arguments xs ++ c ∷ r) }) opens)
           (then_reads (read.call p (suc n) at (tree_of at f)) _ _ _ _ _
           (call_reads p n (suc n) knows at (tree_of at f) o xs c (at + length (spelled f)) (at + length (spelled f ++ o ∷ (spelled_arguments xs ++ c ∷ []))) r are closes
-              (omega (arith, count)) (omega (arith, count)) (omega (arith, count))) refl)) }
+          (omega (arith, count)) (omega (arith, count)) (omega (arith, count))) refl));
+    }
 
 index_suffixed : (p : Parser Expr) (n : ℕ) → Knows p n → (a : Phrase) (o : Token) (i : Phrase) (c : Token) (at : ℕ) (r : List Token)
     → sort o ≡ s.LeftBracket → IsAt 13 i → sort c ≡ s.RightBracket → length (spelled (index a o i c)) + length r < suc n
     → (turns : ℕ) → length (o ∷ (spelled i ++ c ∷ r)) < turns
     → read.postfix p (suc n) (record { at = at; rest = spelled a ++ o ∷ (spelled i ++ c ∷ r) })
-        ≡ read.suffixes p (suc n) turns at (tree_of at a) (record { at = at + length (spelled a); rest = o ∷ (spelled i ++ c ∷ r) })
+    ≡ read.suffixes p (suc n) turns at (tree_of at a) (record { at = at + length (spelled a); rest = o ∷ (spelled i ++ c ∷ r) })
     → Suffixed p (suc n) (index a o i c) at r
 unfolding read.suffixes spelled tree_of
 index_suffixed p n knows a o i c at r opens is closes short zero enough comes = absurd (omega arith)
 index_suffixed p n knows a o i c at r opens is closes short (suc turns) enough comes =
     let count : length (spelled a ++ o ∷ (spelled i ++ c ∷ [])) ≡ suc (suc (length (spelled a) + length (spelled i))) = count_enclosed (spelled a) o (spelled i) c in
     let behind : length (spelled i ++ c ∷ r) ≡ length (spelled i) + suc (length r) = length-append (spelled i) (c ∷ r) in
-    record
-      { turns = turns
-      ; enough = omega (arith, behind)
-      ; comes = at_rest (read.postfix p (suc n)) at _ (spelled a ++ o ∷ (spelled i ++ c ∷ r)) _ (regroup_enclosed (spelled a) o (spelled i) c r)
+    record {
+      turns = turns;
+      enough = omega (arith, behind);
+      comes = at_rest (read.postfix p (suc n)) at _ (spelled a ++ o ∷ (spelled i ++ c ∷ r)) _ (regroup_enclosed (spelled a) o (spelled i) c r)
           (comes ∙ rw (sees_other s.LeftParen (record { at = at + length (spelled a); rest = o ∷ (spelled i ++ c ∷ r) }) (λ h. let f : s.LeftBracket ≡ s.LeftParen = sym opens ∙ h in cc))
           (rw (sees_it s.LeftBracket (record { at = at + length (spelled a); rest = o ∷ (spelled i ++ c ∷ r) }) opens)
           (then_reads (read.index p at (tree_of at a)) _ _ _ _ _
           (index_reads p n knows at (tree_of at a) o i c (at + length (spelled a)) (at + length (spelled a ++ o ∷ (spelled i ++ c ∷ []))) r is closes
-              (omega (arith, count)) (omega (arith, count))) refl))) }
+          (omega (arith, count)) (omega (arith, count))) refl)));
+    }
 
 -- what is left to read behind a front is counted with it
 counts_on : (u : List Token) (o : Token) (v : List Token) (c : Token) (r : List Token) (n : ℕ)

@@ -41,7 +41,7 @@ target_word : (at : ℕ) (x : Token) → r.target at (tree_of at (identifier x))
 unfolding r.target tree_of
 target_word at x =
     ap (λ v. r.target_of at (tree_of at (identifier x)) (out-ExprKind v.kind))
-        (out-roll-Expr (record { first = at; last = at + 1 - 1; line = x.line; kind = e.Word (name_in x.kind) }))
+    (out-roll-Expr (record { first = at; last = at + 1 - 1; line = x.line; kind = e.Word (name_in x.kind) }))
     ∙ (ap (λ v. r.target_of at (tree_of at (identifier x)) v) (out-Word (name_in x.kind)) ∙ ap (λ v. r.with_index None v) (word_is at x))
 
 element_is : (at last line : ℕ) (a b : Expr) (x : List ℕ) → r.word_of at a ≡ Some x
@@ -49,10 +49,10 @@ element_is : (at last line : ℕ) (a b : Expr) (x : List ℕ) → r.word_of at a
 unfolding r.target
 element_is at last line a b x is =
     ap (λ v. r.target_of at (roll-Expr (record { first = at; last = last; line = line; kind = e.Index a b })) (out-ExprKind v.kind))
-        (out-roll-Expr (record { first = at; last = last; line = line; kind = e.Index a b }))
+    (out-roll-Expr (record { first = at; last = last; line = line; kind = e.Index a b }))
     ∙ (ap (λ v. r.target_of at (roll-Expr (record { first = at; last = last; line = line; kind = e.Index a b })) v) (out-Index a b)
     ∙ (ap (λ v. if v.first == at then r.with_index (Some b) (r.word_of at a) else None)
-        (out-roll-Expr (record { first = at; last = last; line = line; kind = e.Index a b }))
+    (out-roll-Expr (record { first = at; last = last; line = line; kind = e.Index a b }))
     ∙ (ap (λ t. if t then r.with_index (Some b) (r.word_of at a) else None) (same_number at) ∙ ap (λ v. r.with_index (Some b) v) is)))
 
 target_element : (at : ℕ) (x o : Token) (i : Phrase) (c : Token)
@@ -103,18 +103,18 @@ unfolding r.simple
 reads_simple n expr reads (assign x q a) at ts (is_x, is_q, is_a) ends other short =
     then_ _ (reads_word n expr reads at x (q ∷ (spelled a ++ ts)) is_x (ap ends_part is_q) short)
     (counted _ (reads_assigned n expr reads _ (name_in x.kind) None (suc at) q a (pure (k.Eval (tree_of at (identifier x)))) ts (target_word at x) is_q is_a ends
-        (omega arith)) (omega arith))
+    (omega arith)) (omega arith))
 reads_simple n expr reads (assign_element x o i c q a) at ts (is_x, is_o, is_i, is_c, is_q, is_a) ends other short =
     let inner : length (x ∷ o ∷ (spelled i ++ c ∷ q ∷ (spelled a ++ ts))) < n = fits _ _ n (assigned_parts x o (spelled i) c q (spelled a) ts) short in
     parted (r.simple expr) at (assigned_parts x o (spelled i) c q (spelled a) ts)
     (then_ _ (reads_element n expr reads at x o i c (q ∷ (spelled a ++ ts)) is_x is_o is_i is_c (ap ends_part is_q) inner)
     (counted _ (reads_assigned n expr reads _ (name_in x.kind) (Some (tree_of (suc (suc at)) i)) (suc (suc (suc at) + length (spelled i))) q a
-        (pure (k.Eval (tree_of at (index (identifier x) o i c)))) ts
-        (target_element at x o i c) is_q is_a ends (omega (arith, length-append (spelled i) (c ∷ q ∷ (spelled a ++ ts)))))
+    (pure (k.Eval (tree_of at (index (identifier x) o i c)))) ts
+    (target_element at x o i c) is_q is_a ends (omega (arith, length-append (spelled i) (c ∷ q ∷ (spelled a ++ ts)))))
     (omega (arith, length-append (spelled i) (c ∷ q ∷ spelled a)))))
 reads_simple n expr reads (evaluate a) at ts is ends other short =
     then_ _ (reads.reads a at ts is ends short)
-        (either_other s.Assign (r.assigned expr (r.target at (tree_of at a))) (pure (k.Eval (tree_of at a))) (spot (at + length (spelled a)) ts) other)
+    (either_other s.Assign (r.assigned expr (r.target at (tree_of at a))) (pure (k.Eval (tree_of at a))) (spot (at + length (spelled a)) ts) other)
 
 pub reads_simple_statement : (n : ℕ) (expr : Parser Expr) → ReadsExpressions n expr → (c : Simple) (at : ℕ) (ts : List Token) → IsSimple c
     → ends_part (first_sort ts) ≡ true → first_sort ts ≢ s.Assign → length (spelled_simple c ++ ts) < n

@@ -47,7 +47,7 @@ pub reads_while : (n : ℕ) (expr : Parser Expr) (stmt : Parser Stmt) → ReadsE
 unfolding r.while_loop st.spelled_statement st.kind_of
 reads_while n expr stmt reads at t o a c y ts is_o is_a is_c short part =
     let parts : (t ∷ o ∷ (spelled a ++ c ∷ st.spelled_statement y)) ++ ts ≡ t ∷ o ∷ (spelled a ++ c ∷ (st.spelled_statement y ++ ts)) =
-        tested_parts t o (spelled a) c (st.spelled_statement y) ts in
+    tested_parts t o (spelled a) c (st.spelled_statement y) ts in
     let inner : length (t ∷ o ∷ (spelled a ++ c ∷ (st.spelled_statement y ++ ts))) < n = fits _ _ n parts short in
     parted (r.while_loop expr stmt) at parts
     (then_ _ (step_skip at t _)
@@ -63,7 +63,7 @@ pub reads_if_only : (n : ℕ) (expr : Parser Expr) (stmt : Parser Stmt) → Read
 unfolding r.conditional r.maybe_else st.spelled_statement st.kind_of
 reads_if_only n expr stmt reads at t o a c y ts is_o is_a is_c other short part =
     let parts : (t ∷ o ∷ (spelled a ++ c ∷ st.spelled_statement y)) ++ ts ≡ t ∷ o ∷ (spelled a ++ c ∷ (st.spelled_statement y ++ ts)) =
-        tested_parts t o (spelled a) c (st.spelled_statement y) ts in
+    tested_parts t o (spelled a) c (st.spelled_statement y) ts in
     let inner : length (t ∷ o ∷ (spelled a ++ c ∷ (st.spelled_statement y ++ ts))) < n = fits _ _ n parts short in
     parted (r.conditional expr stmt) at parts
     (then_ _ (step_skip at t _)
@@ -85,17 +85,20 @@ pub reads_if_else : (n : ℕ) (expr : Parser Expr) (stmt : Parser Stmt) → Read
 unfolding r.conditional r.maybe_else r.alternative st.spelled_statement st.kind_of
 reads_if_else n expr stmt reads at t o a c y e z ts is_o is_a is_c is_e short part rest =
     let parts : (t ∷ o ∷ (spelled a ++ c ∷ (st.spelled_statement y ++ e ∷ st.spelled_statement z))) ++ ts
-            ≡ t ∷ o ∷ (spelled a ++ c ∷ (st.spelled_statement y ++ e ∷ (st.spelled_statement z ++ ts))) =
-        else_parts t o (spelled a) c (st.spelled_statement y) e (st.spelled_statement z) ts in
+    ≡ t ∷ o ∷ (spelled a ++ c ∷ (st.spelled_statement y ++ e ∷ (st.spelled_statement z ++ ts))) =
+    else_parts t o (spelled a) c (st.spelled_statement y) e (st.spelled_statement z) ts in
     let inner : length (t ∷ o ∷ (spelled a ++ c ∷ (st.spelled_statement y ++ e ∷ (st.spelled_statement z ++ ts)))) < n = fits _ _ n parts short in
     parted (r.conditional expr stmt) at parts
     (then_ _ (step_skip at t _)
     (then_ _ (reads_test n expr reads (suc at) o a c (st.spelled_statement y ++ e ∷ (st.spelled_statement z ++ ts)) is_o is_a is_c (omega arith))
     (then_ _ part
     (then_ _ (either_this s.Else (r.alternative stmt) (pure None) (spot (st.behind_test at a + length (st.spelled_statement y)) (e ∷ (st.spelled_statement z ++ ts))) is_e
-        ∙ then_ _ (step_skip (st.behind_test at a + length (st.spelled_statement y)) e (st.spelled_statement z ++ ts)) (then_ _ rest refl))
-    (done _ _ ts (omega (arith, length-append (spelled a) (c ∷ (st.spelled_statement y ++ e ∷ st.spelled_statement z)),
-        length-append (st.spelled_statement y) (e ∷ st.spelled_statement z))))))))
+    ∙ then_ _ (step_skip (st.behind_test at a + length (st.spelled_statement y)) e (st.spelled_statement z ++ ts)) (then_ _ rest refl))
+    (done _ _ ts (omega (
+      arith,
+      length-append (spelled a) (c ∷ (st.spelled_statement y ++ e ∷ st.spelled_statement z)),
+      length-append (st.spelled_statement y) (e ∷ st.spelled_statement z),
+    )))))))
 
 do_parts : (t : Token) (v : List Token) (w o : Token) (x : List Token) (c e : Token) (ts : List Token)
     → (t ∷ (v ++ w ∷ o ∷ (x ++ c ∷ e ∷ []))) ++ ts ≡ t ∷ (v ++ w ∷ o ∷ (x ++ c ∷ e ∷ ts))
@@ -111,13 +114,13 @@ pub reads_do : (n : ℕ) (expr : Parser Expr) (stmt : Parser Stmt) → ReadsExpr
 unfolding r.do_loop st.spelled_statement st.kind_of
 reads_do n expr stmt reads at t y w o a c e ts is_w is_o is_a is_c is_e short part =
     let parts : (t ∷ (st.spelled_statement y ++ w ∷ o ∷ (spelled a ++ c ∷ e ∷ []))) ++ ts ≡ t ∷ (st.spelled_statement y ++ w ∷ o ∷ (spelled a ++ c ∷ e ∷ ts)) =
-        do_parts t (st.spelled_statement y) w o (spelled a) c e ts in
+    do_parts t (st.spelled_statement y) w o (spelled a) c e ts in
     let inner : length (t ∷ (st.spelled_statement y ++ w ∷ o ∷ (spelled a ++ c ∷ e ∷ ts))) < n = fits _ _ n parts short in
     parted (r.do_loop expr stmt) at parts
     (then_ _ (step_skip at t _)
     (then_ _ part
     (then_ _ (step_expect s.While (suc at + length (st.spelled_statement y)) w (o ∷ (spelled a ++ c ∷ e ∷ ts)) is_w)
     (then_ _ (reads_test n expr reads (suc (suc at + length (st.spelled_statement y))) o a c (e ∷ ts) is_o is_a is_c
-        (omega (arith, length-append (st.spelled_statement y) (w ∷ o ∷ (spelled a ++ c ∷ e ∷ ts)))))
+    (omega (arith, length-append (st.spelled_statement y) (w ∷ o ∷ (spelled a ++ c ∷ e ∷ ts)))))
     (then_ _ (step_expect s.Semicolon (suc (suc (suc (suc at + length (st.spelled_statement y))) + length (spelled a))) e ts is_e)
     (done _ _ ts (omega (arith, length-append (st.spelled_statement y) (w ∷ o ∷ (spelled a ++ c ∷ e ∷ [])), length-append (spelled a) (c ∷ e ∷ [])))))))))

@@ -30,7 +30,7 @@ same_end a b m n r e f = ap₂ (λ c k. Ok (c, record { at = k; rest = r })) e f
 -- a node, by where it ends and what it is
 pub finishes : (first line : ℕ) (kind other : ExprKind) (m n : ℕ) (r : List Token) → kind ≡ other → m ≡ n
     → finish first line kind (record { at = m; rest = r })
-        ≡ Ok (roll-Expr (record { first = first; last = n - 1; line = line; kind = other }), record { at = n; rest = r })
+    ≡ Ok (roll-Expr (record { first = first; last = n - 1; line = line; kind = other }), record { at = n; rest = r })
 finishes first line kind other m n r e f =
     ap₂ (λ a k. Ok (roll-Expr (record { first = first; last = k - 1; line = line; kind = a }), record { at = k; rest = r })) e f
 
@@ -104,24 +104,27 @@ pub ends_no_question : (x : Sort) → EndsExpression x → x ≢ s.Question
 ends_no_question x e = λ q. let f : false ≡ true = subst EndsExpression q e in cc
 
 pub ends_stops : (m : ℕ) (x : Sort) → EndsExpression x → Stops m x
-ends_stops m x e = record
-  { paren = λ q. let f : false ≡ true = subst EndsExpression q e in cc
-  ; bracket = λ q. let f : false ≡ true = subst EndsExpression q e in cc
-  ; operator = λ op f. absurd (let g : None ≡ Some op = sym (not_binary x e) ∙ f in cc) }
+ends_stops m x e = record {
+  paren = λ q. let f : false ≡ true = subst EndsExpression q e in cc;
+  bracket = λ q. let f : false ≡ true = subst EndsExpression q e in cc;
+  operator = λ op f. absurd (let g : None ≡ Some op = sym (not_binary x e) ∙ f in cc);
+}
 
 pub stops_less : (m n : ℕ) (x : Sort) → m ≤ n → Stops n x → Stops m x
 stops_less m n x h r = record
-  { paren = r.paren; bracket = r.bracket; operator = λ op e. let f : n < level_of op = r.operator op e in omega arith }
+    { paren = r.paren; bracket = r.bracket; operator = λ op e. let f : n < level_of op = r.operator op e in omega arith }
 
 -- an operator ends what is tighter
 pub operator_stops : (m : ℕ) (x : Sort) → IsOperator (suc m) x → Stops m x
-operator_stops m x o = record
-  { paren = λ q. let f : None ≡ Some o.0 = sym (ap binary_of q) ∙ o.1 in cc
-  ; bracket = λ q. let f : None ≡ Some o.0 = sym (ap binary_of q) ∙ o.1 in cc
-  ; operator = λ op e. let f : op ≡ o.0 = ap binary_or (sym e ∙ o.1) in let g : level_of op ≡ suc m = ap level_of f ∙ o.2 in omega (arith, g) }
+operator_stops m x o = record {
+  paren = λ q. let f : None ≡ Some o.0 = sym (ap binary_of q) ∙ o.1 in cc;
+  bracket = λ q. let f : None ≡ Some o.0 = sym (ap binary_of q) ∙ o.1 in cc;
+  operator = λ op e. let f : op ≡ o.0 = ap binary_or (sym e ∙ o.1) in let g : level_of op ≡ suc m = ap level_of f ∙ o.2 in omega (arith, g);
+}
 
 pub question_stops : (m : ℕ) (x : Sort) → x ≡ s.Question → Stops m x
-question_stops m x q = record
-  { paren = λ e. let f : s.Question ≡ s.LeftParen = sym q ∙ e in cc
-  ; bracket = λ e. let f : s.Question ≡ s.LeftBracket = sym q ∙ e in cc
-  ; operator = λ op e. absurd (let f : None ≡ Some op = sym (ap binary_of q) ∙ e in cc) }
+question_stops m x q = record {
+  paren = λ e. let f : s.Question ≡ s.LeftParen = sym q ∙ e in cc;
+  bracket = λ e. let f : s.Question ≡ s.LeftBracket = sym q ∙ e in cc;
+  operator = λ op e. absurd (let f : None ≡ Some op = sym (ap binary_of q) ∙ e in cc);
+}

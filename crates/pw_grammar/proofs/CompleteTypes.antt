@@ -37,7 +37,7 @@ pub step_type : (c : TypePhrase) (at : ℕ) (ts : List Token) → IsType c
 unfolding r.type_name r.unsigned_long
 step_type (word t) at ts (y, e) =
     ap (λ b. if b then r.unsigned_long (spot at (t ∷ ts)) else r.type_by (type_of (sort t)) (spot at (t ∷ ts)))
-        (sees_other s.Unsigned (spot at (t ∷ ts)) (one_word (sort t) y e))
+    (sees_other s.Unsigned (spot at (t ∷ ts)) (one_word (sort t) y e))
     ∙ counted _ (by_word (type_of (sort t)) y at t ts e) (omega arith)
 step_type (unsigned u l) at ts (e, f) =
     ap (λ b. if b then r.unsigned_long (spot at (u ∷ l ∷ ts)) else r.type_by (type_of (sort u)) (spot at (u ∷ l ∷ ts))) (sees_it s.Unsigned (spot at (u ∷ l ∷ ts)) e)
@@ -119,7 +119,7 @@ reads_local n expr reads (set c x q a e) at ts (is_c, is_x, is_q, is_a, is_e) sh
     (then_ _ (step_type c at (x ∷ q ∷ (spelled a ++ e ∷ ts)) is_c)
     (then_ _ (step_name (at + length (spelled_type c)) x (q ∷ (spelled a ++ e ∷ ts)) is_x)
     (then_ _ (step_value n expr reads (suc (at + length (spelled_type c))) q a (e ∷ ts) is_q is_a (ap ends_part is_e)
-        (set_fits (spelled_type c) x q (spelled a ++ e ∷ ts) n (fits _ _ n (set_parts (spelled_type c) x q (spelled a) e ts) short)))
+    (set_fits (spelled_type c) x q (spelled a ++ e ∷ ts) n (fits _ _ n (set_parts (spelled_type c) x q (spelled a) e ts) short)))
     (then_ _ (step_expect s.Semicolon (suc (suc (at + length (spelled_type c))) + length (spelled a)) e ts is_e)
     (node_is at _ _ _ _ (spelled_type c ++ x ∷ q ∷ (spelled a ++ e ∷ [])) ts refl (set_count at (spelled_type c) x q (spelled a) e)
     (same_line (spelled_type c) (x ∷ q ∷ (spelled a ++ e ∷ ts)) (x ∷ q ∷ (spelled a ++ e ∷ [])) (type_length c)))))))

@@ -1,15 +1,15 @@
 -- The answer for a whole list is its tree, or exactly its first fault.
-use Rattle.std.proofs.Common.{◌≡◌, ◌≢◌, refl, sym, ◌∙◌, ap, subst, ℕ, zero, suc, ◌+◌, ◌-◌, ◌<◌, ◌≤◌, List, [], ◌∷◌, ◌++◌, length, take, drop, ◌⊎◌, inl, inr, Result, Ok, Err, Bool, true, false, if◌then◌else◌, nat_le, Option, Some, None, arith}
-use Rattle.std.proofs.lemmas.List.{append-nil, append_assoc, length-append, take-append-drop, length-take-le}
+use Rattle.std.proofs.Common.{◌≡◌, refl, sym, ◌∙◌, ap, subst, ℕ, zero, suc, ◌+◌, ◌<◌, ◌≤◌, List, [], ◌∷◌, ◌++◌, length, take, drop, ◌⊎◌, inl, inr, Ok, Err, Bool, true, false, if◌then◌else◌, nat_le, Option, Some, None, arith}
+use Rattle.std.proofs.lemmas.List.{append-nil, append_assoc, take-append-drop, length-take-le}
 use Rattle.std.proofs.lemmas.Bool.{leb-true, leb-false}
 use Rattle.pw_grammar.specs.declared.error.SyntaxError.{SyntaxError}
 use Rattle.pw_grammar.specs.declared.error.SyntaxError.TheVariants.{At, TooNested, TooLong, NoMemory}
-use Rattle.pw_grammar.specs.Declarations.{UnitPhrase, spelled_unit, IsUnit, trees_of_declarations}
-use Rattle.pw_grammar.specs.Faults.{Begins, IsWhole, IsStuck, IsFault, IsFirstFault, ComesBefore, GoesOnTooLong, token_of, rank, StandsLate}
+use Rattle.pw_grammar.specs.Declarations.{UnitPhrase, spelled_unit, IsUnit}
+use Rattle.pw_grammar.specs.Faults.{Begins, IsStuck, IsFault, IsFirstFault, ComesBefore, GoesOnTooLong, token_of, StandsLate}
 use Rattle.pw_grammar.specs.Limits.{first_nested, first_late, anew, Walk}
 use Rattle.pw_grammar.specs.Reading.{earlier, first_limit, up_to, judged_by, value_of, judged, parsed}
 use Rattle.pw_grammar.specs.Laws.{HasTree, Tells}
-use Rattle.pw_grammar.specs.Steps.{Place, Outcome, Parser, next_sort}
+use Rattle.pw_grammar.specs.Steps.{Outcome}
 use Rattle.pw_grammar.specs.ReadingDeclarations.{unit}
 use Rattle.pw_grammar.proofs.Lawful.{near_or_far}
 use Rattle.pw_grammar.proofs.Whole.{Knows, IsRead, IsRefused, TellsOf, from_start, reading_tells, before_or_at}
@@ -36,11 +36,12 @@ take_take (suc a) (suc b) (t ∷ ts) e = ap (λ z. t ∷ z) (take_take a b ts (o
 
 -- a shorter prefix begins what a longer one begins
 pub shorter : (a b : ℕ) (ts : List Token) → a ≤ b → Begins (take b ts) → Begins (take a ts)
-shorter a b ts e r = record
-  { phrase = r.phrase
-  ; is = r.is
-  ; rest = drop a (take b ts) ++ r.rest
-  ; spells = r.spells ∙ (ap (λ z. z ++ r.rest) (sym (take-append-drop a (take b ts)) ∙ ap (λ z. z ++ drop a (take b ts)) (take_take a b ts e)) ∙ append_assoc (take a ts) (drop a (take b ts)) r.rest) }
+shorter a b ts e r = record {
+  phrase = r.phrase;
+  is = r.is;
+  rest = drop a (take b ts) ++ r.rest;
+  spells = r.spells ∙ (ap (λ z. z ++ r.rest) (sym (take-append-drop a (take b ts)) ∙ ap (λ z. z ++ drop a (take b ts)) (take_take a b ts e)) ∙ append_assoc (take a ts) (drop a (take b ts)) r.rest);
+}
 
 -- ---- limits
 
@@ -96,32 +97,36 @@ before_by a b r s e f = by (before_or_at a b e)
     by (inr z) = inr (z, f)
 
 both_limits : (x y : ℕ) (b : Bool) → nat_le x y ≡ b → LimitIs (Some x) (Some y) (if b then TooNested x else TooLong y)
-both_limits x y true e = record
-  { at = x
-  ; is = inl (refl, refl)
-  ; nested = λ z t same near. before_by x t 1 1 (let q = same_some x z same in omega (arith, q)) (omega arith)
-  ; late = λ z t same near. before_by x t 1 2 (let q = same_some y z same in let r = leb-true x y e in omega (arith, q, r)) (omega arith) }
-both_limits x y false e = record
-  { at = y
-  ; is = inr (refl, refl)
-  ; nested = λ z t same near. inl (let q = same_some x z same in let r = leb-false x y e in omega (arith, q, r))
-  ; late = λ z t same near. before_by y t 2 2 (let q = same_some y z same in omega (arith, q)) (omega arith) }
+both_limits x y true e = record {
+  at = x;
+  is = inl (refl, refl);
+  nested = λ z t same near. before_by x t 1 1 (let q = same_some x z same in omega (arith, q)) (omega arith);
+  late = λ z t same near. before_by x t 1 2 (let q = same_some y z same in let r = leb-true x y e in omega (arith, q, r)) (omega arith);
+}
+both_limits x y false e = record {
+  at = y;
+  is = inr (refl, refl);
+  nested = λ z t same near. inl (let q = same_some x z same in let r = leb-false x y e in omega (arith, q, r));
+  late = λ z t same near. before_by y t 2 2 (let q = same_some y z same in omega (arith, q)) (omega arith);
+}
 
 some_error : (e f : SyntaxError) → Some e ≡ Some f → e ≡ f
 some_error e f z = cc
 
 limit_is : (a b : Option ℕ) (e : SyntaxError) → earlier a b ≡ Some e → LimitIs a b e
 limit_is None None e z = absurd cc
-limit_is (Some x) None e z = subst (λ f. LimitIs (Some x) None f) (some_error (TooNested x) e z) (record
-  { at = x
-  ; is = inl (refl, refl)
-  ; nested = λ z t same near. before_by x t 1 1 (let q = same_some x z same in omega (arith, q)) (omega arith)
-  ; late = λ z t same near. no_some (ComesBefore (TooNested x) (TooLong t)) z same })
-limit_is None (Some y) e z = subst (λ f. LimitIs None (Some y) f) (some_error (TooLong y) e z) (record
-  { at = y
-  ; is = inr (refl, refl)
-  ; nested = λ z t same near. no_some (ComesBefore (TooLong y) (TooNested t)) z same
-  ; late = λ z t same near. before_by y t 2 2 (let q = same_some y z same in omega (arith, q)) (omega arith) })
+limit_is (Some x) None e z = subst (λ f. LimitIs (Some x) None f) (some_error (TooNested x) e z) (record {
+  at = x;
+  is = inl (refl, refl);
+  nested = λ z t same near. before_by x t 1 1 (let q = same_some x z same in omega (arith, q)) (omega arith);
+  late = λ z t same near. no_some (ComesBefore (TooNested x) (TooLong t)) z same;
+})
+limit_is None (Some y) e z = subst (λ f. LimitIs None (Some y) f) (some_error (TooLong y) e z) (record {
+  at = y;
+  is = inr (refl, refl);
+  nested = λ z t same near. no_some (ComesBefore (TooLong y) (TooNested t)) z same;
+  late = λ z t same near. before_by y t 2 2 (let q = same_some y z same in omega (arith, q)) (omega arith);
+})
 limit_is (Some x) (Some y) e z = subst (λ f. LimitIs (Some x) (Some y) f) (some_error _ e z) (both_limits x y (nat_le x y) refl)
 
 -- ---- the first fault
@@ -151,9 +156,10 @@ read_has_tree l ts ds r none = record { phrase = r.phrase; is = r.is; spells = r
   where
     whole : Begins ts
     whole = record { phrase = r.phrase; is = r.is; rest = []; spells = r.spells ∙ sym (append-nil ts) }
+
     faultless : (fault : SyntaxError) → IsFault ts fault → ⊥
     faultless (At m) (inl (inside, stuck)) = stuck (record
-      { phrase = r.phrase; is = r.is; rest = drop (suc m) ts; spells = r.spells ∙ sym (take-append-drop (suc m) ts) })
+        { phrase = r.phrase; is = r.is; rest = drop (suc m) ts; spells = r.spells ∙ sym (take-append-drop (suc m) ts) })
     faultless (At m) (inr (end, not_whole)) = not_whole (record { phrase = r.phrase; is = r.is; spells = r.spells })
     faultless (TooNested m) f = let n = l.nested_first ts m f in no_some ⊥ n.0 (sym none.nested ∙ n.1)
     faultless (TooLong m) f = let n = late_fault l ts m f.0 f.1 in no_some ⊥ n.0 (sym none.late ∙ n.1)
@@ -192,6 +198,7 @@ limit_first l ts e x b = record { is = fault x.is; first = others }
     fault : ((e ≡ TooNested x.at) × (first_nested 0 0 ts ≡ Some x.at)) ⊎ ((e ≡ TooLong x.at) × (first_late (anew 0) ts ≡ Some x.at)) → IsFault ts e
     fault (inl (z, f)) = subst (λ d. IsFault ts d) (sym z) (l.nested_found ts x.at f)
     fault (inr (z, f)) = subst (λ d. IsFault ts d) (sym z) (late_is_fault l ts x.at f b)
+
     others : (other : SyntaxError) → IsFault ts other → ComesBefore e other
     others (At m) f = inl (let after = refused_later ts (suc x.at) m (limit_below l ts e x) b f in let at_is = limit_at _ _ e x in omega (arith, after, at_is))
     others (TooNested m) f = let n = l.nested_first ts m f in x.nested n.0 m n.1 n.2
@@ -205,17 +212,23 @@ refused_under l ts e x m near b stuck = record { is = inl (inside, unwanted stuc
   where
     low : x.at < length ts
     low = limit_below l ts e x
+
     long : length (take (suc x.at) ts) ≡ suc x.at
     long = length-take-le (suc x.at) ts low
+
     inside : m < length ts
     inside = omega (arith, low)
+
     unwanted : IsStuck (take (suc x.at) ts) m → Begins (take (suc m) ts) → ⊥
     unwanted (inl (z, f)) g = f (subst (λ us. Begins us) (sym (take_take (suc m) (suc x.at) ts (omega arith))) g)
     unwanted (inr (z, f)) g = absurd (let q = z ∙ long in omega (arith, q))
+
     begins : Begins (take m ts)
     begins = subst (λ us. Begins us) (take_take m (suc x.at) ts (omega arith)) b
+
     at_is : token_of e ≡ x.at
     at_is = limit_at (first_nested 0 0 ts) (first_late (anew 0) ts) e x
+
     others : (other : SyntaxError) → IsFault ts other → ComesBefore (At m) other
     others (At n) f = before_by m n 0 0 (refused_later ts m n (omega (arith, inside)) begins f) (omega arith)
     others (TooNested n) f =

@@ -1,17 +1,16 @@
 -- Where a function is too long: what the walk over its tokens finds is what its derivation says.
-use Rattle.std.proofs.Common.{◌≡◌, ◌≢◌, refl, sym, ◌∙◌, ap, subst, ℕ, zero, suc, ◌+◌, ◌-◌, ◌<◌, ◌≤◌, List, [], ◌∷◌, ◌++◌, length, ◌⊎◌, inl, inr, Bool, true, false, if◌then◌else◌, ◌&&◌, ◌||◌, ◌==◌, nat_le, Option, Some, None, arith}
-use Rattle.std.proofs.lemmas.List.{append-nil, append_assoc, length-append}
-use Rattle.std.proofs.lemmas.Bool.{leb-true, leb-false, le-leb, lt-leb}
+use Rattle.std.proofs.Common.{◌≡◌, refl, sym, ◌∙◌, ap, subst, ℕ, suc, ◌+◌, ◌-◌, ◌<◌, ◌≤◌, List, [], ◌∷◌, ◌++◌, length, ◌⊎◌, inl, inr, Bool, true, false, if◌then◌else◌, ◌&&◌, ◌||◌, ◌==◌, nat_le, Some, arith}
+use Rattle.std.proofs.lemmas.List.{append_assoc, length-append}
+use Rattle.std.proofs.lemmas.Bool.{le-leb, lt-leb}
 use Rattle.std.proofs.Math.Bool.{and-false}
 use Rattle.std.proofs.Math.Nat.{add_assoc}
 use Rattle.std.proofs.Math.Dec.{eqb-suc-zero}
 use Rattle.pw_grammar.proofs.Lawful.{near_or_far}
-use Rattle.std.specs.Prelude.{max, nat_lt}
 use Rattle.pw_grammar.specs.declared.sort.Sort.{Sort}
 use Rattle.pw_grammar.specs.declared.sort.Sort.TheVariants as s
-use Rattle.pw_grammar.specs.Terminals.{sort, sort_of, first_sort, is_same}
+use Rattle.pw_grammar.specs.Terminals.{sort, is_same}
 use Rattle.pw_grammar.specs.Faults.{opens, closes, opens_by, closes_by, bracket}
-use Rattle.pw_grammar.specs.Limits.{Walk, is_inside, is_late, is_last, anew, onward, step, first_late}
+use Rattle.pw_grammar.specs.Limits.{Walk, is_inside, is_late, anew, step, first_late}
 use Rattle.pw_lex.specs.declared.token.Token.{Token}
 
 -- inside n + 1 brackets of a declaration that began at `start`
@@ -32,9 +31,10 @@ pub record IsInner (u : List Token) : Type 0 where
       → first_late (within_brackets at n start true) (u ++ v) ≡ Some (start + 8192)
 
 pub inner_nil : IsInner []
-inner_nil = record
-  { passes = λ at n start body v early. ap (λ m. first_late (within_brackets m n start body) v) (let e : at ≡ at + 0 = omega arith in e)
-  ; finds = λ at n start v low high. absurd (nothing_between at start low high) }
+inner_nil = record {
+  passes = λ at n start body v early. ap (λ m. first_late (within_brackets m n start body) v) (let e : at ≡ at + 0 = omega arith in e);
+  finds = λ at n start v low high. absurd (nothing_between at start low high);
+}
   where
     nothing_between : (at start : ℕ) → at ≤ start + 8192 → start + 8192 < at + 0 → ⊥
     nothing_between at start low high = omega arith
@@ -108,30 +108,34 @@ both_finds u v w a b at n start low high (inl e) =
 both_finds u v w a b at n start low high (inr e) = a.finds at n start (v ++ w) low e
 
 pub inner_both : (u v : List Token) → IsInner u → IsInner v → IsInner (u ++ v)
-inner_both u v a b = record
-  { passes = λ at n start body w early.
+inner_both u v a b = record {
+  passes = λ at n start body w early.
       ap (λ z. first_late (within_brackets at n start body) z) (append_assoc u v w)
       ∙ (both_passes u v w a b at n start body (subst (λ k. (body ≡ false) ⊎ (at + k ≤ start + 8192)) (length-append u v) early)
-      ∙ ap (λ k. first_late (within_brackets k n start body) w) (add_assoc at (length u) (length v) ∙ ap (λ k. at + k) (sym (length-append u v))))
-  ; finds = λ at n start w low high.
+      ∙ ap (λ k. first_late (within_brackets k n start body) w) (add_assoc at (length u) (length v) ∙ ap (λ k. at + k) (sym (length-append u v))));
+  finds = λ at n start w low high.
       ap (λ z. first_late (within_brackets at n start true) z) (append_assoc u v w)
-      ∙ both_finds u v w a b at n start low (subst (λ k. start + 8192 < at + k) (length-append u v) high) (near_or_far (at + length u) (start + 8192)) }
+      ∙ both_finds u v w a b at n start low (subst (λ k. start + 8192 < at + k) (length-append u v) high) (near_or_far (at + length u) (start + 8192));
+}
 
 -- a token that is no bracket
 plain_bracket : (t : Token) (n : ℕ) → IsPlain (sort t) → bracket n t ≡ n
 plain_bracket t n (o, c) = ap (λ b. if b then suc n else (if closes t then n - 1 else n)) o ∙ ap (λ b. if b then n - 1 else n) c
 
 pub inner_token : (t : Token) → IsPlain (sort t) → IsInner (t ∷ [])
-inner_token t plain = record
-  { passes = λ at n start body v early.
+inner_token t plain = record {
+  passes = λ at n start body v early.
       passes_token t at n n start body v (plain_bracket t (suc n) plain) (early_one at start body early)
-      ∙ ap (λ k. first_late (within_brackets k n start body) v) (one_more at)
-  ; finds = λ at n start v low high. finds_token t at n start v (just at start low high) }
+      ∙ ap (λ k. first_late (within_brackets k n start body) v) (one_more at);
+  finds = λ at n start v low high. finds_token t at n start v (just at start low high);
+}
   where
     one_more : (at : ℕ) → suc at ≡ at + 1
     one_more at = omega arith
+
     just : (at start : ℕ) → at ≤ start + 8192 → start + 8192 < at + 1 → at ≡ start + 8192
     just at start low high = omega arith
+
     early_one : (at start : ℕ) (body : Bool) → (body ≡ false) ⊎ (at + 1 ≤ start + 8192) → (body ≡ false) ⊎ (suc at ≤ start + 8192)
     early_one at start body (inl e) = inl e
     early_one at start body (inr e) = inr (omega arith)
@@ -168,6 +172,7 @@ brackets_pass o c u v opens closes inner at n start body early =
     first_early : (body ≡ false) ⊎ (suc (suc at + length u) ≤ start + 8192) → (body ≡ false) ⊎ (suc at ≤ start + 8192)
     first_early (inl e) = inl e
     first_early (inr e) = inr (omega arith)
+
     middle_early : (body ≡ false) ⊎ (suc (suc at + length u) ≤ start + 8192) → (body ≡ false) ⊎ (suc at + length u ≤ start + 8192)
     middle_early (inl e) = inl e
     middle_early (inr e) = inr (omega arith)
@@ -196,11 +201,12 @@ bracket_count at o c u = bracket_sum at (length u) (length (u ++ c ∷ [])) (len
     bracket_sum at n m e = omega arith
 
 pub inner_brackets : (o c : Token) (u : List Token) → Opens o → Closes c → IsInner u → IsInner (o ∷ (u ++ c ∷ []))
-inner_brackets o c u opens closes inner = record
-  { passes = λ at n start body v early.
+inner_brackets o c u opens closes inner = record {
+  passes = λ at n start body v early.
       ap (λ z. first_late (within_brackets at n start body) (o ∷ z)) (append_assoc u (c ∷ []) v)
       ∙ (brackets_pass o c u v opens closes inner at n start body (subst (λ k. (body ≡ false) ⊎ (k ≤ start + 8192)) (bracket_count at o c u) early)
-      ∙ ap (λ k. first_late (within_brackets k n start body) v) (sym (bracket_count at o c u)))
-  ; finds = λ at n start v low high.
+      ∙ ap (λ k. first_late (within_brackets k n start body) v) (sym (bracket_count at o c u)));
+  finds = λ at n start v low high.
       ap (λ z. first_late (within_brackets at n start true) (o ∷ z)) (append_assoc u (c ∷ []) v)
-      ∙ brackets_find o c u v opens closes inner at n start low (subst (λ k. start + 8192 < k) (bracket_count at o c u) high) (near_or_far (suc at) (start + 8192)) }
+      ∙ brackets_find o c u v opens closes inner at n start low (subst (λ k. start + 8192 < k) (bracket_count at o c u) high) (near_or_far (suc at) (start + 8192));
+}

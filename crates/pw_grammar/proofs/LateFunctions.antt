@@ -30,12 +30,13 @@ abbrev pub last_on : Walk → Sort → Bool
 last_on w x = bracket_on w.depth x == 0 && (is_same x s.Semicolon || (is_same x s.RightBrace && w.in_body))
 
 abbrev pub onward_on : Walk → Sort → Walk
-onward_on w x = record
-  { at = suc w.at
-  ; depth = bracket_on w.depth x
-  ; start = w.start
-  ; in_body = inside_on w x
-  ; behind_list = is_same x s.RightParen && bracket_on w.depth x == 0 }
+onward_on w x = record {
+  at = suc w.at;
+  depth = bracket_on w.depth x;
+  start = w.start;
+  in_body = inside_on w x;
+  behind_list = is_same x s.RightParen && bracket_on w.depth x == 0;
+}
 
 abbrev pub step_on : Walk → Sort → Walk
 step_on w x = if last_on w x then anew (suc w.at) else onward_on w x
@@ -65,21 +66,23 @@ pub outer_nil : IsOuter []
 outer_nil = record { passes = λ at start v. ap (λ m. first_late (after m start false) v) (let e : at ≡ at + 0 = omega arith in e) }
 
 pub outer_both : (u v : List Token) → IsOuter u → IsOuter v → IsOuter (u ++ v)
-outer_both u v a b = record
-  { passes = λ at start w.
+outer_both u v a b = record {
+  passes = λ at start w.
       ap (λ z. first_late (after at start false) z) (append_assoc u v w)
       ∙ (a.passes at start (v ++ w)
       ∙ (b.passes (at + length u) start w
-      ∙ ap (λ k. first_late (after k start false) w) (add_assoc at (length u) (length v) ∙ ap (λ k. at + k) (sym (length-append u v))))) }
+      ∙ ap (λ k. first_late (after k start false) w) (add_assoc at (length u) (length v) ∙ ap (λ k. at + k) (sym (length-append u v)))));
+}
 
 -- a symbol that leaves the walk outside brackets
 abbrev pub IsOuterSort : Sort → Type 0
 IsOuterSort x = (at start : ℕ) (v : List Token) → first_on (after at start false) x v ≡ first_late (after (suc at) start false) v
 
 pub outer_token : (t : Token) → IsOuterSort (sort t) → IsOuter (t ∷ [])
-outer_token t o = record
-  { passes = λ at start v. on_sort (after at start false) t (sort t) v refl
-      ∙ (o at start v ∙ ap (λ k. first_late (after k start false) v) (let e : suc at ≡ at + 1 = omega arith in e)) }
+outer_token t o = record {
+  passes = λ at start v. on_sort (after at start false) t (sort t) v refl
+      ∙ (o at start v ∙ ap (λ k. first_late (after k start false) v) (let e : suc at ≡ at + 1 = omega arith in e));
+}
 
 pub outer_one : (t : Token) (z : Sort) → sort t ≡ z → IsOuterSort z → IsOuter (t ∷ [])
 outer_one t z e o = outer_token t (subst (λ x. IsOuterSort x) (sym e) o)
@@ -198,18 +201,20 @@ bracket_count at o c u = bracket_sum at (length u) (length (u ++ c ∷ [])) (len
     bracket_sum at n m e = omega arith
 
 pub outer_square : (o c : Token) (u : List Token) → sort o ≡ s.LeftBracket → sort c ≡ s.RightBracket → IsInner u → IsOuter (o ∷ (u ++ c ∷ []))
-outer_square o c u e f inner = record
-  { passes = λ at start v.
+outer_square o c u e f inner = record {
+  passes = λ at start v.
       ap (λ z. first_late (after at start false) (o ∷ z)) (append_assoc u (c ∷ []) v)
       ∙ (brackets_outside o c s.LeftBracket s.RightBracket false u v at start e f opens_square closes_square inner
-      ∙ ap (λ k. first_late (after k start false) v) (bracket_count at o c u)) }
+      ∙ ap (λ k. first_late (after k start false) v) (bracket_count at o c u));
+}
 
 pub outer_braces : (o c : Token) (u : List Token) → sort o ≡ s.LeftBrace → sort c ≡ s.RightBrace → IsInner u → IsOuter (o ∷ (u ++ c ∷ []))
-outer_braces o c u e f inner = record
-  { passes = λ at start v.
+outer_braces o c u e f inner = record {
+  passes = λ at start v.
       ap (λ z. first_late (after at start false) (o ∷ z)) (append_assoc u (c ∷ []) v)
       ∙ (brackets_outside o c s.LeftBrace s.RightBrace false u v at start e f opens_brace closes_brace inner
-      ∙ ap (λ k. first_late (after k start false) v) (bracket_count at o c u)) }
+      ∙ ap (λ k. first_late (after k start false) v) (bracket_count at o c u));
+}
 
 -- ---- parts of declarations
 

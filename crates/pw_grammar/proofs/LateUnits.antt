@@ -1,6 +1,6 @@
 -- Where a unit's functions are too long: what the walk over its tokens finds is what its derivation says; and what the
 -- walk finds depends on no later token.
-use Rattle.std.proofs.Common.{◌≡◌, refl, sym, ◌∙◌, ap, subst, ℕ, suc, ◌+◌, ◌<◌, ◌≤◌, List, [], ◌∷◌, ◌++◌, length, ◌⊎◌, inl, inr, Bool, true, false, if◌then◌else◌, Option, Some, None, arith}
+use Rattle.std.proofs.Common.{◌≡◌, refl, sym, ◌∙◌, ap, subst, ℕ, suc, ◌+◌, ◌<◌, ◌≤◌, List, [], ◌∷◌, ◌++◌, length, ◌⊎◌, inl, inr, Bool, true, false, if◌then◌else◌, Option, Some, arith}
 use Rattle.std.proofs.lemmas.List.{append_assoc, length-append, take-append-drop, length-take-le}
 use Rattle.std.specs.Prelude.{max, take, drop}
 use Rattle.pw_grammar.specs.declared.sort.Sort.TheVariants as s
@@ -8,7 +8,7 @@ use Rattle.pw_grammar.specs.Terminals.{sort}
 use Rattle.pw_grammar.specs.Statements.{spelled_type, spelled_statements}
 use Rattle.pw_grammar.specs.Declarations.{Declaration, prototype, function, variable, spelled_declaration, IsDeclaration, spelled_storage, spelled_result, spelled_parameters, spelled_variable, UnitPhrase, spelled_unit, IsUnit}
 use Rattle.pw_grammar.specs.declared.error.SyntaxError.TheVariants.{TooLong}
-use Rattle.pw_grammar.specs.Faults.{before_body, IsLate, StandsLate, Begins, GoesOnTooLong, IsFault}
+use Rattle.pw_grammar.specs.Faults.{before_body, IsLate, StandsLate, Begins, IsFault}
 use Rattle.pw_grammar.specs.Limits.{Walk, anew, onward, step, is_late, is_last, first_late}
 use Rattle.pw_grammar.proofs.Lawful.{near_or_far}
 use Rattle.pw_grammar.proofs.Late.{IsInner}
@@ -109,11 +109,12 @@ passes_function h ps body v o c b e at p short =
     ap (λ z. first_late (anew at) (h ++ z)) (rest_splits ps body v o c b e)
     ∙ (passes_head h ps (b ∷ (body ++ e ∷ v)) o c at at p.outer p.o_is p.list p.c_is
     ∙ (passes_body b e body v (at + (length h + length ps + 2)) at p.b_is p.inner p.e_is
-        (fits at (length h) (length ps) (length body) _ (rest_length ps body o c b e) short)
+    (fits at (length h) (length ps) (length body) _ (rest_length ps body o c b e) short)
     ∙ ap (λ k. first_late (anew k) v) (sum at (length h) (length ps) (length body) _ (rest_length ps body o c b e))))
   where
     sum : (at n m l k : ℕ) → k ≡ m + l + 4 → suc (suc (at + (n + m + 2)) + l) ≡ at + (n + k)
     sum at n m l k e = omega arith
+
     fits : (at n m l k : ℕ) → k ≡ m + l + 4 → n + k ≤ 8192 → suc (suc (at + (n + m + 2)) + l) ≤ at + 8192
     fits at n m l k e f = omega arith
 
@@ -124,11 +125,12 @@ finds_function h ps body v o c b e at p long =
     ap (λ z. first_late (anew at) (h ++ z)) (rest_splits ps body v o c b e)
     ∙ (passes_head h ps (b ∷ (body ++ e ∷ v)) o c at at p.outer p.o_is p.list p.c_is
     ∙ (finds_body b e body v (at + (length h + length ps + 2)) at p.b_is p.inner p.e_is
-        (exceeds at (length h) (length ps) (length body) _ (rest_length ps body o c b e) long)
+    (exceeds at (length h) (length ps) (length body) _ (rest_length ps body o c b e) long)
     ∙ ap Some (shift at (length h + length ps + 2))))
   where
     shift : (at n : ℕ) → max (at + n) (at + 8192) ≡ at + max n 8192
     shift at n = omega arith
+
     exceeds : (at n m l k : ℕ) → k ≡ m + l + 4 → 8192 < n + k → at + 8192 < suc (suc (at + (n + m + 2)) + l)
     exceeds at n m l k e f = omega arith
 
@@ -137,65 +139,74 @@ finds_function h ps body v o c b e at p long =
 walk_function : (g r ps body : List Token) (x o c b e : Token) (w : Declaration) → spelled_declaration w ≡ g ++ (r ++ x ∷ rest_of_function ps body o c b e)
     → before_body w ≡ Some (length g + length r + length ps + 3)
     → HasBody (head g r x) ps body o c b e → (length (spelled_declaration w) ≤ 8192) ⊎ (8192 < length (spelled_declaration w)) → Passes w ⊎ Catches w
-walk_function g r ps body x o c b e w spells brace p (inl short) = inl (record
-  { early = λ t late. too_late t late
-  ; passes = λ at v.
+walk_function g r ps body x o c b e w spells brace p (inl short) = inl (record {
+  early = λ t late. too_late t late;
+  passes = λ at v.
       ap (λ u. first_late (anew at) (u ++ v)) spells
       ∙ (ap (λ u. first_late (anew at) u) (front g r (rest_of_function ps body o c b e) v x)
       ∙ (passes_function (head g r x) ps body v o c b e at p (subst (λ n. n ≤ 8192) counts short)
-      ∙ ap (λ n. first_late (anew (at + n)) v) (sym counts))) })
+      ∙ ap (λ n. first_late (anew (at + n)) v) (sym counts)));
+})
   where
     counts : length (spelled_declaration w) ≡ length (head g r x) + length (rest_of_function ps body o c b e)
     counts = ap length spells ∙ front_length g r (rest_of_function ps body o c b e) x
+
     short_of : (t n brace : ℕ) → n ≤ 8192 → (brace ≤ t) × (8192 ≤ t) × (t < n) → ⊥
     short_of t n brace e l = omega arith
+
     too_late : (t : ℕ) → IsLate w t (before_body w) → ⊥
     too_late t late = short_of t (length (spelled_declaration w)) (length g + length r + length ps + 3) short (subst (λ o. IsLate w t o) brace late)
-walk_function g r ps body x o c b e w spells brace p (inr long) = inr (record
-  { brace = length g + length r + length ps + 3
-  ; body = brace
-  ; inside = within_it (length g) (length r) (length ps) (length body) _ _ _ counts (rest_length ps body o c b e) (head_length g r x)
-  ; long = long
-  ; finds = λ at v.
+walk_function g r ps body x o c b e w spells brace p (inr long) = inr (record {
+  brace = length g + length r + length ps + 3;
+  body = brace;
+  inside = within_it (length g) (length r) (length ps) (length body) _ _ _ counts (rest_length ps body o c b e) (head_length g r x);
+  long = long;
+  finds = λ at v.
       ap (λ u. first_late (anew at) (u ++ v)) spells
       ∙ (ap (λ u. first_late (anew at) u) (front g r (rest_of_function ps body o c b e) v x)
       ∙ (finds_function (head g r x) ps body v o c b e at p (subst (λ n. 8192 < n) counts long)
-      ∙ ap (λ n. Some (at + max n 8192)) (same_brace (length g) (length r) (length ps) _ (head_length g r x)))) })
+      ∙ ap (λ n. Some (at + max n 8192)) (same_brace (length g) (length r) (length ps) _ (head_length g r x))));
+})
   where
     counts : length (spelled_declaration w) ≡ length (head g r x) + length (rest_of_function ps body o c b e)
     counts = ap length spells ∙ front_length g r (rest_of_function ps body o c b e) x
+
     within_it : (n m l i all rest top : ℕ) → all ≡ top + rest → rest ≡ l + i + 4 → top ≡ n + m + 1 → n + m + l + 3 < all
     within_it n m l i all rest top a b c = omega arith
+
     same_brace : (n m l top : ℕ) → top ≡ n + m + 1 → top + l + 2 ≡ n + m + l + 3
     same_brace n m l top e = omega arith
 
 -- a declaration is passed, or is too long
 pub walk_declaration : (c : Declaration) → IsDeclaration c → Passes c ⊎ Catches c
-walk_declaration (prototype g r x o ps c e) i = inl (record
-  { early = λ t late. late
-  ; passes = λ at v.
+walk_declaration (prototype g r x o ps c e) i = inl (record {
+  early = λ t late. late;
+  passes = λ at v.
       ap (λ u. first_late (anew at) u) (front (spelled_storage g) (spelled_result r) (o ∷ (spelled_parameters ps ++ c ∷ e ∷ [])) v x)
       ∙ (passes_prototype (head (spelled_storage g) (spelled_result r) x) (spelled_parameters ps) v o c e at
-          (outer_head (spelled_storage g) (spelled_result r) x (outer_storage g i.0) (outer_result r i.1) i.2) i.3 (inner_parameters ps i.4) i.5 i.6
-      ∙ ap (λ n. first_late (anew (at + n)) v) (sym (front_length (spelled_storage g) (spelled_result r) (o ∷ (spelled_parameters ps ++ c ∷ e ∷ [])) x))) })
+      (outer_head (spelled_storage g) (spelled_result r) x (outer_storage g i.0) (outer_result r i.1) i.2) i.3 (inner_parameters ps i.4) i.5 i.6
+      ∙ ap (λ n. first_late (anew (at + n)) v) (sym (front_length (spelled_storage g) (spelled_result r) (o ∷ (spelled_parameters ps ++ c ∷ e ∷ [])) x)));
+})
 walk_declaration (function g r x o ps c b body e) i =
     walk_function (spelled_storage g) (spelled_result r) (spelled_parameters ps) (spelled_statements body) x o c b e (function g r x o ps c b body e) refl refl
-    (record
-      { outer = outer_head (spelled_storage g) (spelled_result r) x (outer_storage g (defining_storage g i.0)) (outer_result r i.1) i.2
-      ; o_is = i.3
-      ; list = inner_parameters ps i.4
-      ; c_is = i.6
-      ; b_is = i.7
-      ; inner = inner_statements body i.8
-      ; e_is = i.9 })
+    (record {
+      outer = outer_head (spelled_storage g) (spelled_result r) x (outer_storage g (defining_storage g i.0)) (outer_result r i.1) i.2;
+      o_is = i.3;
+      list = inner_parameters ps i.4;
+      c_is = i.6;
+      b_is = i.7;
+      inner = inner_statements body i.8;
+      e_is = i.9;
+    })
     (near_or_far (length (spelled_declaration (function g r x o ps c b body e))) 8192)
-walk_declaration (variable g ty x u e) i = inl (record
-  { early = λ t late. late
-  ; passes = λ at v.
+walk_declaration (variable g ty x u e) i = inl (record {
+  early = λ t late. late;
+  passes = λ at v.
       ap (λ z. first_late (anew at) z) (front (spelled_storage g) (spelled_type ty) (spelled_variable u ++ e ∷ []) v x)
       ∙ (passes_variable (head (spelled_storage g) (spelled_type ty) x) (spelled_variable u) v e at
-          (outer_head (spelled_storage g) (spelled_type ty) x (outer_storage g (variable_storage g u i.3)) (outer_type ty i.0) i.1) (outer_variable u i.2) i.4
-      ∙ ap (λ n. first_late (anew (at + n)) v) (sym (front_length (spelled_storage g) (spelled_type ty) (spelled_variable u ++ e ∷ []) x))) })
+      (outer_head (spelled_storage g) (spelled_type ty) x (outer_storage g (variable_storage g u i.3)) (outer_type ty i.0) i.1) (outer_variable u i.2) i.4
+      ∙ ap (λ n. first_late (anew (at + n)) v) (sym (front_length (spelled_storage g) (spelled_type ty) (spelled_variable u ++ e ∷ []) x)));
+})
 
 -- ---- units
 
@@ -261,6 +272,7 @@ late_first_with c cs at t others (inr p) (inr later) =
   where
     behind : (brace n before : ℕ) → t ≡ n + before → brace < n → brace ≤ t
     behind brace n before e f = omega arith
+
     far : (n before : ℕ) → t ≡ n + before → 8192 < n → 8192 ≤ t
     far n before e f = omega arith
 
@@ -338,6 +350,7 @@ too_long_found ts found e b =
   where
     short : found < length ts
     short = let z : found < 0 + length ts = (late_below (anew 0) ts found e).1 in omega (arith, z)
+
     at_front : first_late (anew 0) (take (suc found) ts) ≡ Some found
     at_front = late_shared (anew 0) (take (suc found) ts) (drop (suc found) ts) found
         (ap (λ u. first_late (anew 0) u) (take-append-drop (suc found) ts) ∙ e) (among found found ts short (omega arith))
@@ -346,11 +359,13 @@ too_long_found ts found e b =
 pub too_long_first : (ts : List Token) (t : ℕ) → IsFault ts (TooLong t) → (found : ℕ) × (first_late (anew 0) ts ≡ Some found) × (found ≤ t)
 too_long_first ts t fault =
     let g = fault.1 in
-    let f = late_first g.phrase g.is 0 t g.late in
-    (f.0, ap (λ u. first_late (anew 0) u) (sym (take-append-drop (suc t) ts))
-      ∙ late_prefix (anew 0) (take (suc t) ts) (drop (suc t) ts) f.0
+    let f = late_first g.phrase g.is 0 t g.late in (
+      f.0,
+      ap (λ u. first_late (anew 0) u) (sym (take-append-drop (suc t) ts))
+          ∙ late_prefix (anew 0) (take (suc t) ts) (drop (suc t) ts) f.0
           (late_shared (anew 0) (take (suc t) ts) g.rest f.0 (sym (ap (λ u. first_late (anew 0) u) g.spells) ∙ f.1) (among f.0 t ts fault.0 (low f.0 f.2))),
-      low f.0 f.2)
+      low f.0 f.2,
+    )
   where
     low : (found : ℕ) → found ≤ 0 + t → found ≤ t
     low found e = omega arith

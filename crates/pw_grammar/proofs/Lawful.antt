@@ -1,16 +1,16 @@
 -- What every reader of this grammar keeps: enough turns are enough; what was read is a phrase, and where it stops a
 -- phrase goes on; and its answer at a token depends on no later token. Each is kept by doing one reader after another.
-use Rattle.std.proofs.Common.{◌≡◌, ◌≢◌, refl, sym, ◌∙◌, ap, subst, ℕ, zero, suc, ◌+◌, ◌<◌, ◌≤◌, List, [], ◌∷◌, ◌++◌, length, ◌⊎◌, inl, inr, Result, Ok, Err, Bool, true, false, if◌then◌else◌, arith}
-use Rattle.std.proofs.lemmas.List.{append_assoc, append-nil, length-append}
+use Rattle.std.proofs.Common.{◌≡◌, ◌≢◌, refl, sym, ◌∙◌, ap, subst, ℕ, zero, suc, ◌+◌, ◌<◌, ◌≤◌, List, [], ◌∷◌, ◌++◌, length, ◌⊎◌, inl, inr, Ok, Err, arith}
+use Rattle.std.proofs.lemmas.List.{append_assoc, length-append}
 use Rattle.std.specs.Bool.{⊤}
 use Rattle.std.proofs.Math.Nat.{add_assoc}
 use Rattle.pw_grammar.specs.declared.sort.Sort.{Sort}
 use Rattle.pw_grammar.specs.declared.sort.Sort.TheVariants as s
 use Rattle.pw_grammar.specs.declared.error.SyntaxError.{SyntaxError}
-use Rattle.pw_grammar.specs.declared.error.SyntaxError.TheVariants.{At, NoMemory}
-use Rattle.pw_grammar.specs.Terminals.{sort, first_sort, is_same}
+use Rattle.pw_grammar.specs.declared.error.SyntaxError.TheVariants.{At}
+use Rattle.pw_grammar.specs.Terminals.{sort, first_sort}
 use Rattle.pw_grammar.specs.Faults.{token_of}
-use Rattle.pw_grammar.specs.Steps.{Place, Outcome, Parser, and_then, ◌>>=◌, pure, next_sort, sees, take, take_from, skip, expect}
+use Rattle.pw_grammar.specs.Steps.{Place, Outcome, Parser, and_then, ◌>>=◌, pure, next_sort}
 use Rattle.pw_lex.specs.declared.token.Token.{Token}
 
 -- A language: the values that own tokens have, from the first one's number on and before a token of a sort.
@@ -92,30 +92,33 @@ abbrev pub Lax : {A : Type 0} → Language A → Type 0
 Lax {A} L = (at : ℕ) (a : A) (u : List Token) (x y : Sort) → L at a u x → y ≢ s.Else → L at a u y
 
 pub goes_on_within : {A : Type 0} {L M : Language A} {at : ℕ} {u : List Token} → Within L M → GoesOn L at u → GoesOn M at u
-goes_on_within {A} {L} {M} {at} {u} w g = record
-  { rest = g.rest
-  ; value = g.value
-  ; reads = λ x o. w at g.value (u ++ g.rest) x (g.reads x o)
-  ; starts = g.starts }
+goes_on_within {A} {L} {M} {at} {u} w g = record {
+  rest = g.rest;
+  value = g.value;
+  reads = λ x o. w at g.value (u ++ g.rest) x (g.reads x o);
+  starts = g.starts;
+}
 
 pub says_within : {A : Type 0} {L M : Language A} → Within L M → (i : Place) (o : Outcome A) → Says L i o → Says M i o
 says_within w i (Ok p) r = record { tokens = r.tokens; leads = r.leads; reads = w i.at p.0 r.tokens (next_sort p.1) r.reads }
 says_within w i (Err e) r = record { tokens = r.tokens; place = r.place; leads = r.leads; is = r.is; goes_on = goes_on_within w r.goes_on }
 
 pub within : {A : Type 0} {n : ℕ} {L M : Language A} {p q : Parser A} → Within L M → Lawful n L p q → Lawful n M p q
-within {A} {n} {L} {M} {p} {q} w l = record
-  { settled = l.settled
-  ; says = λ i. says_within w i (p i) (l.says i)
-  ; steady = l.steady
-  ; can = λ at. goes_on_within w (l.can at) }
+within {A} {n} {L} {M} {p} {q} w l = record {
+  settled = l.settled;
+  says = λ i. says_within w i (p i) (l.says i);
+  steady = l.steady;
+  can = λ at. goes_on_within w (l.can at);
+}
 
 -- fewer turns
 pub fewer : {A : Type 0} {n : ℕ} {L : Language A} {p q : Parser A} → Lawful (suc n) L p q → Lawful n L p q
-fewer {A} {n} {L} {p} {q} l = record
-  { settled = λ i short. l.settled i (let e : length i.rest < suc n = omega arith in e)
-  ; says = l.says
-  ; steady = l.steady
-  ; can = l.can }
+fewer {A} {n} {L} {p} {q} l = record {
+  settled = λ i short. l.settled i (let e : length i.rest < suc n = omega arith in e);
+  says = l.says;
+  steady = l.steady;
+  can = l.can;
+}
 
 -- ---- a value, and no token
 
@@ -130,12 +133,13 @@ pub leads_nowhere : (i : Place) → Leads i [] i
 leads_nowhere i = record { rest = refl; at = omega arith }
 
 pub lawful_pure : {A : Type 0} (n : ℕ) (a : A) → Lawful n (Pure a) (pure a) (pure a)
-lawful_pure n a = record
-  { settled = λ i short. refl
-  ; says = λ i. record { tokens = []; leads = leads_nowhere i; reads = record { is = refl; empty = refl } }
-  ; steady = λ k i j same near. record { place = j; is = refl; agree = same }
-  ; can = λ at. record
-      { rest = []; value = a; reads = λ x o. record { is = refl; empty = refl }; starts = λ e x o. o } }
+lawful_pure n a = record {
+  settled = λ i short. refl;
+  says = λ i. record { tokens = []; leads = leads_nowhere i; reads = record { is = refl; empty = refl } };
+  steady = λ k i j same near. record { place = j; is = refl; agree = same };
+  can = λ at. record
+      { rest = []; value = a; reads = λ x o. record { is = refl; empty = refl }; starts = λ e x o. o };
+}
 
 -- ---- one reader after another
 
@@ -162,17 +166,19 @@ both_empty (t ∷ u) v e = absurd (no_cons t (u ++ v) e)
 -- where the first part stops
 pub stops_first : {A B : Type 0} (L : Language A) (M : A → Language B) (at : ℕ) (u : List Token)
     → (g : GoesOn L at u) → GoesOn (M g.value) (at + length (u ++ g.rest)) [] → GoesOn (Seq L M) at u
-stops_first L M at u g h = record
-  { rest = g.rest ++ h.rest
-  ; value = h.value
-  ; reads = λ x o. record
-      { value = g.value
-      ; front = u ++ g.rest
-      ; back = h.rest
-      ; splits = sym (append_assoc u g.rest h.rest)
-      ; first = g.reads (sort_before h.rest x) (h.starts refl x o)
-      ; second = h.reads x o }
-  ; starts = λ e x o. subst (λ y. y ≢ s.Else) (sym (sort_before_append g.rest h.rest x)) (g.starts e (sort_before h.rest x) (h.starts refl x o)) }
+stops_first L M at u g h = record {
+  rest = g.rest ++ h.rest;
+  value = h.value;
+  reads = λ x o. record {
+    value = g.value;
+    front = u ++ g.rest;
+    back = h.rest;
+    splits = sym (append_assoc u g.rest h.rest);
+    first = g.reads (sort_before h.rest x) (h.starts refl x o);
+    second = h.reads x o;
+  };
+  starts = λ e x o. subst (λ y. y ≢ s.Else) (sym (sort_before_append g.rest h.rest x)) (g.starts e (sort_before h.rest x) (h.starts refl x o));
+}
 
 -- what the first part was read before, where the second stops
 first_reads : {A : Type 0} (L : Language A) (lax : Lax L) (at : ℕ) (a : A) (u v : List Token) (j : Place) (w rest : List Token) (x : Sort)
@@ -182,25 +188,28 @@ first_reads L lax at a u (t ∷ v) j w rest x e r fresh = subst (λ ts. L at a u
 
 stops_second : {A B : Type 0} (L : Language A) (M : A → Language B) (lax : Lax L) (i j : Place) (a : A) (u v : List Token) (k : Place)
     → Leads i u j → L i.at a u (next_sort j) → Leads j v k → GoesOn (M a) j.at v → GoesOn (Seq L M) i.at (u ++ v)
-stops_second L M lax i j a u v k first r second g = record
-  { rest = g.rest
-  ; value = g.value
-  ; reads = λ x o. record
-      { value = a
-      ; front = u
-      ; back = v ++ g.rest
-      ; splits = append_assoc u v g.rest
-      ; first = first_reads L lax i.at a u v j k.rest g.rest x second.rest r (λ e. g.starts e x o)
-      ; second = subst (λ at. M a at g.value (v ++ g.rest) x) first.at (g.reads x o) }
-  ; starts = λ e x o. g.starts (both_empty u v e).1 x o }
+stops_second L M lax i j a u v k first r second g = record {
+  rest = g.rest;
+  value = g.value;
+  reads = λ x o. record {
+    value = a;
+    front = u;
+    back = v ++ g.rest;
+    splits = append_assoc u v g.rest;
+    first = first_reads L lax i.at a u v j k.rest g.rest x second.rest r (λ e. g.starts e x o);
+    second = subst (λ at. M a at g.value (v ++ g.rest) x) first.at (g.reads x o);
+  };
+  starts = λ e x o. g.starts (both_empty u v e).1 x o;
+}
 
 count_on : (at : ℕ) (u v : List Token) → at + length u + length v ≡ at + length (u ++ v)
 count_on at u v = add_assoc at (length u) (length v) ∙ ap (λ n. at + n) (sym (length-append u v))
 
 leads_on : (i j k : Place) (u v : List Token) → Leads i u j → Leads j v k → Leads i (u ++ v) k
-leads_on i j k u v first second = record
-  { rest = first.rest ∙ (ap (λ ts. u ++ ts) second.rest ∙ sym (append_assoc u v k.rest))
-  ; at = second.at ∙ (ap (λ n. n + length v) first.at ∙ count_on i.at u v) }
+leads_on i j k u v first second = record {
+  rest = first.rest ∙ (ap (λ ts. u ++ ts) second.rest ∙ sym (append_assoc u v k.rest));
+  at = second.at ∙ (ap (λ n. n + length v) first.at ∙ count_on i.at u v);
+}
 
 read_before : {A : Type 0} (L : Language A) (at : ℕ) (a : A) (u : List Token) (j : Place) (v : List Token) (k : Place)
     → j.rest ≡ v ++ k.rest → L at a u (next_sort j) → L at a u (sort_before v (next_sort k))
@@ -209,33 +218,37 @@ read_before L at a u j (t ∷ v) k e r = subst (λ ts. L at a u (first_sort ts))
 
 says_second : {A B : Type 0} (L : Language A) (M : A → Language B) (lax : Lax L) (i j : Place) (a : A) → HasRead L i a j
     → (o : Outcome B) → Says (M a) j o → Says (Seq L M) i o
-says_second L M lax i j a r (Ok p) q = record
-  { tokens = r.tokens ++ q.tokens
-  ; leads = leads_on i j p.1 r.tokens q.tokens r.leads q.leads
-  ; reads = record
-      { value = a
-      ; front = r.tokens
-      ; back = q.tokens
-      ; splits = refl
-      ; first = read_before L i.at a r.tokens j q.tokens p.1 q.leads.rest r.reads
-      ; second = subst (λ at. M a at p.0 q.tokens (next_sort p.1)) r.leads.at q.reads } }
-says_second L M lax i j a r (Err e) q = record
-  { tokens = r.tokens ++ q.tokens
-  ; place = q.place
-  ; leads = leads_on i j q.place r.tokens q.tokens r.leads q.leads
-  ; is = q.is
-  ; goes_on = stops_second L M lax i j a r.tokens q.tokens q.place r.leads r.reads q.leads q.goes_on }
+says_second L M lax i j a r (Ok p) q = record {
+  tokens = r.tokens ++ q.tokens;
+  leads = leads_on i j p.1 r.tokens q.tokens r.leads q.leads;
+  reads = record {
+    value = a;
+    front = r.tokens;
+    back = q.tokens;
+    splits = refl;
+    first = read_before L i.at a r.tokens j q.tokens p.1 q.leads.rest r.reads;
+    second = subst (λ at. M a at p.0 q.tokens (next_sort p.1)) r.leads.at q.reads;
+  };
+}
+says_second L M lax i j a r (Err e) q = record {
+  tokens = r.tokens ++ q.tokens;
+  place = q.place;
+  leads = leads_on i j q.place r.tokens q.tokens r.leads q.leads;
+  is = q.is;
+  goes_on = stops_second L M lax i j a r.tokens q.tokens q.place r.leads r.reads q.leads q.goes_on;
+}
 
 pub says_both : {A B : Type 0} (L : Language A) (M : A → Language B) (lax : Lax L) (f : A → Parser B)
     → ((a : A) (j : Place) → Says (M a) j (f a j)) → ((a : A) (at : ℕ) → GoesOn (M a) at [])
     → (i : Place) (o : Outcome A) → Says L i o → Says (Seq L M) i (and_then o f)
 says_both L M lax f says can i (Ok p) r = says_second L M lax i p.1 p.0 r (f p.0 p.1) (says p.0 p.1)
-says_both L M lax f says can i (Err e) r = record
-  { tokens = r.tokens
-  ; place = r.place
-  ; leads = r.leads
-  ; is = r.is
-  ; goes_on = stops_first L M i.at r.tokens r.goes_on (can r.goes_on.value (i.at + length (r.tokens ++ r.goes_on.rest))) }
+says_both L M lax f says can i (Err e) r = record {
+  tokens = r.tokens;
+  place = r.place;
+  leads = r.leads;
+  is = r.is;
+  goes_on = stops_first L M i.at r.tokens r.goes_on (can r.goes_on.value (i.at + length (r.tokens ++ r.goes_on.rest)));
+}
 
 -- ---- the second outcome is the first
 
@@ -292,11 +305,12 @@ Shrinks m n p = (i : Place) → length i.rest < m → Leaves n (p i)
 
 pub bind_from : {A B : Type 0} (m n : ℕ) (L : Language A) (M : A → Language B) (p q : Parser A) (f g : A → Parser B)
     → Lax L → Lawful m L p q → ((a : A) → Lawful n (M a) (f a) (g a)) → Shrinks m n p → Lawful m (Seq L M) (p >>= f) (q >>= g)
-bind_from m n L M p q f g lax first second shrinks = record
-  { settled = λ i short. settled_both f g n (p i) (λ a j left. (second a).settled j left) (shrinks i short) ∙ ap (λ o. and_then o g) (first.settled i short)
-  ; says = λ i. says_both L M lax f (λ a j. (second a).says j) (λ a at. (second a).can at) i (p i) (first.says i)
-  ; steady = λ k i j same. same_both L M f k (p i) (p j) (λ a l. (second a).says l) (λ a l o. (second a).steady k l o) (first.steady k i j same)
-  ; can = λ at. stops_first L M at [] (first.can at) ((second (first.can at).value).can (at + length (first.can at).rest)) }
+bind_from m n L M p q f g lax first second shrinks = record {
+  settled = λ i short. settled_both f g n (p i) (λ a j left. (second a).settled j left) (shrinks i short) ∙ ap (λ o. and_then o g) (first.settled i short);
+  says = λ i. says_both L M lax f (λ a j. (second a).says j) (λ a at. (second a).can at) i (p i) (first.says i);
+  steady = λ k i j same. same_both L M f k (p i) (p j) (λ a l. (second a).says l) (λ a l o. (second a).steady k l o) (first.steady k i j same);
+  can = λ at. stops_first L M at [] (first.can at) ((second (first.can at).value).can (at + length (first.can at).rest));
+}
 
 shorter : (n a b m : ℕ) → n ≡ a + b → n < m → b < m
 shorter n a b m e short = omega arith

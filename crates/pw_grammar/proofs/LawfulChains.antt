@@ -35,7 +35,7 @@ node_then first line kind M at b u x y = subst (λ a. M a at b u x) y.first.is
 lawful_node : {B : Type 0} (n first line : ℕ) (kind : ExprKind) (M : Expr → Language B) (f g : Expr → Parser B)
     → ((a : Expr) → Lawful n (M a) (f a) (g a))
     → Lawful n (λ at b u x. M (roll-Expr (record { first = first; last = at - 1; line = line; kind = kind })) at b u x)
-        (finish first line kind >>= f) (finish first line kind >>= g)
+    (finish first line kind >>= f) (finish first line kind >>= g)
 lawful_node n first line kind M f g l = within (node_then first line kind M)
     (bind n (ANode first line kind) M _ _ f g (λ at a u x y o z. o) (lawful_finish n first line kind) l)
 
@@ -63,25 +63,28 @@ count_binary first at u v t e = omega (arith, e, length-append u (t ∷ v))
 -- an operator and its right operand behind a phrase, and what stands behind those
 binary_is : (level tighter first : ℕ) (left : Expr) (op : Bin) → level ≡ suc tighter
     → Within (Then (λ x. r.at_level level (binary_of x) ≡ Some op) (λ line. WithExpression tighter (λ right.
-        (λ at b u x. Onward level level first (roll-Expr (record { first = first; last = at - 1; line = line; kind = e.Binary op left right })) at b u))))
-        (AnOnward level level first left)
+    (λ at b u x. Onward level level first (roll-Expr (record { first = first; last = at - 1; line = line; kind = e.Binary op left right })) at b u))))
+    (AnOnward level level first left)
 unfolding spelled IsAt tree_of
-binary_is level tighter first left op is_next at a u x y = record { onward = λ c is tree at_is.
-    let b = y.second in
-    let o : (binary_of (sort y.token) ≡ Some op) × (level_of op ≡ level) = of_level level (binary_of (sort y.token)) op y.sort_is in
-    let z = b.second.onward (g.binary c y.token b.phrase)
-          (tighter, omega arith, subst (λ n. IsAt n c) is_next is, (op, o.0, o.1 ∙ is_next), b.is)
-          (same_node first _ _ y.token.line _ _ (count_binary first at (spelled c) (spelled b.phrase) y.token at_is)
-              (ap (λ v. e.Binary op v (tree_of (suc at) b.phrase)) tree
-              ∙ (ap (λ n. e.Binary op (tree_of first c) (tree_of (suc n) b.phrase)) at_is
-              ∙ ap (λ v. e.Binary v (tree_of first c) (tree_of (suc (first + length (spelled c))) b.phrase)) (sym (ap binary_or o.0)))))
-          (count_binary first at (spelled c) (spelled b.phrase) y.token at_is) in
-    record
-      { phrase = z.phrase
-      ; is = z.is
-      ; spells = ap (λ v. spelled c ++ v) (y.splits ∙ ap (λ v. y.token ∷ v) b.splits)
-          ∙ (sym (append_assoc (spelled c) (y.token ∷ spelled b.phrase) b.behind) ∙ z.spells)
-      ; tree = z.tree } }
+binary_is level tighter first left op is_next at a u x y = record {
+  onward = λ c is tree at_is.
+      let b = y.second in
+      let o : (binary_of (sort y.token) ≡ Some op) × (level_of op ≡ level) = of_level level (binary_of (sort y.token)) op y.sort_is in
+      let z = b.second.onward (g.binary c y.token b.phrase)
+      (tighter, omega arith, subst (λ n. IsAt n c) is_next is, (op, o.0, o.1 ∙ is_next), b.is)
+      (same_node first _ _ y.token.line _ _ (count_binary first at (spelled c) (spelled b.phrase) y.token at_is)
+      (ap (λ v. e.Binary op v (tree_of (suc at) b.phrase)) tree
+      ∙ (ap (λ n. e.Binary op (tree_of first c) (tree_of (suc n) b.phrase)) at_is
+      ∙ ap (λ v. e.Binary v (tree_of first c) (tree_of (suc (first + length (spelled c))) b.phrase)) (sym (ap binary_or o.0)))))
+      (count_binary first at (spelled c) (spelled b.phrase) y.token at_is) in
+      record {
+        phrase = z.phrase;
+        is = z.is;
+        spells = ap (λ v. spelled c ++ v) (y.splits ∙ ap (λ v. y.token ∷ v) b.splits)
+            ∙ (sym (append_assoc (spelled c) (y.token ∷ spelled b.phrase) b.behind) ∙ z.spells);
+        tree = z.tree;
+      };
+}
 
 end_has_no_operator : (level : ℕ) (op : Bin) → r.at_level level (binary_of s.End) ≡ Some op → ⊥
 end_has_no_operator level op e = cc
@@ -94,7 +97,7 @@ chain_at level operand m first left (Some op) = skip >>= (λ line. operand >>= (
 
 chain_by : (level : ℕ) (operand : Parser Expr) (m first : ℕ) (left : Expr) (b : Option Bin) (i : Place)
     → and_then (r.binary_by b i) (λ x. on_option x (pure left) (λ op. operand >>= (λ right.
-        finish first op.1 (e.Binary op.0 left right) >>= r.chain level operand m first))) ≡ chain_at level operand m first left b i
+    finish first op.1 (e.Binary op.0 left right) >>= r.chain level operand m first))) ≡ chain_at level operand m first left b i
 unfolding chain_at
 chain_by level operand m first left None i = refl
 chain_by level operand m first left (Some op) i = then_option (skip i) op (pure left) _
@@ -113,12 +116,12 @@ lawful_chain n zero level tighter first p q left is_next less l =
 lawful_chain n (suc m) level tighter first p q left is_next less l =
     lawful_equal (suc m) (AnOnward level level first left) _ _ _ _ (chain_is level p m first left) (chain_is level q (suc m) first left)
     (lawful_option (λ x. r.at_level level (binary_of x)) (suc m) (AnOnward level level first left) (chain_at level p m first left) (chain_at level q (suc m) first left)
-        (keeps _ (suc m) (AnOnward level level first left) _ _ (lawful_stays (suc m) level level first left (omega arith)))
-        (λ op. keeps_within (λ x. r.at_level level (binary_of x) ≡ Some op) (suc m) _ _ _ _ (binary_is level tighter first left op is_next)
-            (keeps_then (λ x. r.at_level level (binary_of x) ≡ Some op) m _ _ _ (end_has_no_operator level op) (λ line.
-            lawful_with m tighter _ p q _ _ (lawful_fewer (suc n) m (AnExpression tighter) p q (omega arith) l) (λ right.
-            lawful_node m first line (e.Binary op left right) _ _ _ (λ whole. lawful_chain n m level tighter first p q whole is_next (omega arith) l)))))
-        (λ at. onward_goes_on level level first left at (omega arith)))
+    (keeps _ (suc m) (AnOnward level level first left) _ _ (lawful_stays (suc m) level level first left (omega arith)))
+    (λ op. keeps_within (λ x. r.at_level level (binary_of x) ≡ Some op) (suc m) _ _ _ _ (binary_is level tighter first left op is_next)
+    (keeps_then (λ x. r.at_level level (binary_of x) ≡ Some op) m _ _ _ (end_has_no_operator level op) (λ line.
+    lawful_with m tighter _ p q _ _ (lawful_fewer (suc n) m (AnExpression tighter) p q (omega arith) l) (λ right.
+    lawful_node m first line (e.Binary op left right) _ _ _ (λ whole. lawful_chain n m level tighter first p q whole is_next (omega arith) l)))))
+    (λ at. onward_goes_on level level first left at (omega arith)))
 
 -- an expression of the level k + 2
 lawful_level : (n k : ℕ) (p q : Parser Expr) → Lawful n (AnExpression 13) p q
@@ -151,15 +154,18 @@ branches_are first test at value u x y =
     let a = y.second in
     let o = a.second in
     let b = o.second in
-    record { onward = λ c is tree at_is. record
-      { phrase = g.choice c y.token a.phrase o.token b.phrase
-      ; is = (omega arith, is, same_sorts (sort y.token) s.Question y.sort_is, a.is, o.sort_is, b.is)
-      ; spells = ap (λ v. spelled c ++ v) (y.splits ∙ ap (λ v. y.token ∷ v) (a.splits ∙ ap (λ v. spelled a.phrase ++ v)
-          (o.splits ∙ ap (λ v. o.token ∷ v) (b.splits ∙ (ap (λ v. spelled b.phrase ++ v) b.second.empty ∙ append-nil (spelled b.phrase))))))
-      ; tree = b.second.is ∙ same_node first _ _ y.token.line _ _
-          (count_choice first at (spelled c) (spelled a.phrase) (spelled b.phrase) y.token o.token at_is)
-          (ap (λ v. e.Cond v (tree_of (suc at) a.phrase) (tree_of (suc (suc at + length (spelled a.phrase))) b.phrase)) tree
-          ∙ ap (λ n. e.Cond (tree_of first c) (tree_of (suc n) a.phrase) (tree_of (suc (suc n + length (spelled a.phrase))) b.phrase)) at_is) } }
+    record {
+      onward = λ c is tree at_is. record {
+        phrase = g.choice c y.token a.phrase o.token b.phrase;
+        is = (omega arith, is, same_sorts (sort y.token) s.Question y.sort_is, a.is, o.sort_is, b.is);
+        spells = ap (λ v. spelled c ++ v) (y.splits ∙ ap (λ v. y.token ∷ v) (a.splits ∙ ap (λ v. spelled a.phrase ++ v)
+            (o.splits ∙ ap (λ v. o.token ∷ v) (b.splits ∙ (ap (λ v. spelled b.phrase ++ v) b.second.empty ∙ append-nil (spelled b.phrase))))));
+        tree = b.second.is ∙ same_node first _ _ y.token.line _ _
+            (count_choice first at (spelled c) (spelled a.phrase) (spelled b.phrase) y.token o.token at_is)
+            (ap (λ v. e.Cond v (tree_of (suc at) a.phrase) (tree_of (suc (suc at + length (spelled a.phrase))) b.phrase)) tree
+            ∙ ap (λ n. e.Cond (tree_of first c) (tree_of (suc n) a.phrase) (tree_of (suc (suc n + length (spelled a.phrase))) b.phrase)) at_is);
+      };
+    }
 
 lawful_choice : (n : ℕ) (p q : Parser Expr) → Lawful n (AnExpression 13) p q
     → Lawful (suc n) (AnExpression 13) (r.choice p (suc n)) (r.choice q (suc (suc n)))
@@ -167,19 +173,20 @@ unfolding r.choice r.branches sees
 lawful_choice n p q l = lawful_onward (suc n) 12 13 _ _ _ _ (lawful_level n 10 p q l)
     (λ first test. lawful_test (λ x. is_same x s.Question) (suc n) (AnOnward 12 13 first test) _ _ _ _
     (keeps_within (λ x. is_same x s.Question ≡ true) (suc n) _ _ _ _ (branches_are first test)
-        (keeps_then (λ x. is_same x s.Question ≡ true) n _ _ _ (is_no_end s.Question (λ z. cc)) (λ line. lawful_with n 13 _ p q _ _ l
-        (λ a. lawful_then n s.Colon _ _ _ colon (λ o. lawful_with n 13 _ p q _ _ l (λ b. lawful_finish n first line (e.Cond test a b)))))))
+    (keeps_then (λ x. is_same x s.Question ≡ true) n _ _ _ (is_no_end s.Question (λ z. cc)) (λ line. lawful_with n 13 _ p q _ _ l
+    (λ a. lawful_then n s.Colon _ _ _ colon (λ o. lawful_with n 13 _ p q _ _ l (λ b. lawful_finish n first line (e.Cond test a b)))))))
     (keeps _ (suc n) (AnOnward 12 13 first test) _ _ (lawful_stays (suc n) 12 13 first test (omega arith)))
     (λ at. onward_goes_on 12 13 first test at (omega arith)))
 
 -- ---- expressions
 
 refuse_stops : {A : Type 0} (L : Language A) → ((at : ℕ) → GoesOn L at []) → (q : Parser A) → Lawful 0 L refuse q
-refuse_stops L can q = record
-  { settled = λ i short. absurd (let none : length i.rest < 0 = short in omega arith)
-  ; says = λ i. record { tokens = []; place = i; leads = leads_nowhere i; is = refl; goes_on = can i.at }
-  ; steady = λ k i j same m is near. ap (λ at. Err (At at)) (sym same.at)
-  ; can = can }
+refuse_stops L can q = record {
+  settled = λ i short. absurd (let none : length i.rest < 0 = short in omega arith);
+  says = λ i. record { tokens = []; place = i; leads = leads_nowhere i; is = refl; goes_on = can i.at };
+  steady = λ k i j same m is near. ap (λ at. Err (At at)) (sym same.at);
+  can = can;
+}
 
 pub lawful_expression : (n : ℕ) → Lawful n (AnExpression 13) (r.expression n) (r.expression (suc n))
 unfolding r.expression

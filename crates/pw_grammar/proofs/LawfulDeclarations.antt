@@ -82,14 +82,16 @@ ADecl first name_at line linkage x p = λ at a u y. IsDecl first name_at line li
 
 lawful_finish_declaration : (n first name_at line : ℕ) (linkage : Linkage) (x : List ℕ) (p : ℕ × DeclKind)
     → Lawful n (ADecl first name_at line linkage x p) (r.finish_declaration first name_at line linkage x p) (r.finish_declaration first name_at line linkage x p)
-lawful_finish_declaration n first name_at line linkage x p = record
-  { settled = λ i short. refl
-  ; says = λ i. record { tokens = []; leads = leads_nowhere i; reads = record { is = refl; empty = refl } }
-  ; steady = λ k i j same near. record
-      { place = j
-      ; is = ap (λ at. Ok (record { first = first; name_at = name_at; declarator = p.0; last = at - 1; line = line; linkage = linkage; name = x; kind = p.1 }, j)) (sym same.at)
-      ; agree = same }
-  ; can = λ at. record { rest = []; value = _; reads = λ x o. record { is = refl; empty = refl }; starts = λ e x o. o } }
+lawful_finish_declaration n first name_at line linkage x p = record {
+  settled = λ i short. refl;
+  says = λ i. record { tokens = []; leads = leads_nowhere i; reads = record { is = refl; empty = refl } };
+  steady = λ k i j same near. record {
+    place = j;
+    is = ap (λ at. Ok (record { first = first; name_at = name_at; declarator = p.0; last = at - 1; line = line; linkage = linkage; name = x; kind = p.1 }, j)) (sym same.at);
+    agree = same;
+  };
+  can = λ at. record { rest = []; value = _; reads = λ x o. record { is = refl; empty = refl }; starts = λ e x o. o };
+}
 
 abbrev pub ADeclaration : Language Decl
 ADeclaration = APhrase g.IsDeclaration g.spelled_declaration g.tree_of_declaration
@@ -113,27 +115,29 @@ declaration_by : (at : ℕ) (a : Decl) (u : List Token) (t : Option Token) (z : 
     → g.IsStorage t → g.IsResult z → sort x ≡ s.Name → IsPart (g.linkage_of t) (g.result_in z) part
     → u ≡ g.spelled_storage t ++ (g.spelled_result z ++ x ∷ spelled_part part)
     → a ≡ with_last at (g.name_at at t (g.spelled_result z)) x.line (g.linkage_of t) (name_in x.kind)
-        (part_at (g.result_in z) (suc (g.name_at at t (g.spelled_result z))) part)
-        (suc (g.name_at at t (g.spelled_result z)) + length (spelled_part part) - 1)
+    (part_at (g.result_in z) (suc (g.name_at at t (g.spelled_result z))) part)
+    (suc (g.name_at at t (g.spelled_result z)) + length (spelled_part part) - 1)
     → Phrased g.IsDeclaration g.spelled_declaration g.tree_of_declaration at a u
-declaration_by at a u t z x (function (prototyped o ps c e)) t_is z_is x_is is f y = record
-  { phrase = g.prototype t z x o ps c e
-  ; is = (t_is, z_is, x_is, is.0, is.1, is.2, is.3)
-  ; spells = f
-  ; value_is = y ∙ ap (λ last. with_last at (g.name_at at t (g.spelled_result z)) x.line (g.linkage_of t) (name_in x.kind)
+declaration_by at a u t z x (function (prototyped o ps c e)) t_is z_is x_is is f y = record {
+  phrase = g.prototype t z x o ps c e;
+  is = (t_is, z_is, x_is, is.0, is.1, is.2, is.3);
+  spells = f;
+  value_is = y ∙ ap (λ last. with_last at (g.name_at at t (g.spelled_result z)) x.line (g.linkage_of t) (name_in x.kind)
       (part_at (g.result_in z) (suc (g.name_at at t (g.spelled_result z))) (function (prototyped o ps c e))) last)
-      (count (g.name_at at t (g.spelled_result z)) (length (g.spelled_parameters ps)) _ (length-append (g.spelled_parameters ps) (c ∷ e ∷ []))) }
+      (count (g.name_at at t (g.spelled_result z)) (length (g.spelled_parameters ps)) _ (length-append (g.spelled_parameters ps) (c ∷ e ∷ [])));
+}
   where
     count : (n p m : ℕ) → m ≡ p + 2 → suc n + suc m - 1 ≡ suc (suc (suc n) + p)
     count n p m e = omega arith
-declaration_by at a u t z x (function (defined o ps c b body e)) t_is z_is x_is is f y = record
-  { phrase = g.function t z x o ps c b body e
-  ; is = (defining t t_is is.0, z_is, x_is, is.1, is.2, is.3, is.4, is.5, is.6, is.7)
-  ; spells = f
-  ; value_is = y ∙ ap (λ last. with_last at (g.name_at at t (g.spelled_result z)) x.line (g.linkage_of t) (name_in x.kind)
+declaration_by at a u t z x (function (defined o ps c b body e)) t_is z_is x_is is f y = record {
+  phrase = g.function t z x o ps c b body e;
+  is = (defining t t_is is.0, z_is, x_is, is.1, is.2, is.3, is.4, is.5, is.6, is.7);
+  spells = f;
+  value_is = y ∙ ap (λ last. with_last at (g.name_at at t (g.spelled_result z)) x.line (g.linkage_of t) (name_in x.kind)
       (part_at (g.result_in z) (suc (g.name_at at t (g.spelled_result z))) (function (defined o ps c b body e))) last)
       (count (g.name_at at t (g.spelled_result z)) (length (g.spelled_parameters ps)) (length (spelled_statements body)) _ _
-      (length-append (g.spelled_parameters ps) (c ∷ b ∷ (spelled_statements body ++ e ∷ []))) (length-append (spelled_statements body) (e ∷ []))) }
+      (length-append (g.spelled_parameters ps) (c ∷ b ∷ (spelled_statements body ++ e ∷ []))) (length-append (spelled_statements body) (e ∷ [])));
+}
   where
     count : (n p l m k : ℕ) → m ≡ p + suc (suc k) → k ≡ l + 1 → suc n + suc m - 1 ≡ suc (suc (suc (suc n) + p)) + l
     count n p l m k e f = omega arith
@@ -141,19 +145,21 @@ declaration_by at a u t (g.nothing k) x (variable v) t_is z_is x_is is f y = abs
   where
     never : true ≡ false → ⊥
     never e = cc
-declaration_by at a u t (g.value ty) x (variable v) t_is z_is x_is is f y = record
-  { phrase = g.variable t ty x v.0 v.1
-  ; is = (z_is, x_is, is.1.0, may_have t v.0 t_is is.1.1, is.1.2)
-  ; spells = f
-  ; value_is = y ∙ (ap (λ last. with_last at (g.name_at at t (spelled_type ty)) x.line (g.linkage_of t) (name_in x.kind)
+declaration_by at a u t (g.value ty) x (variable v) t_is z_is x_is is f y = record {
+  phrase = g.variable t ty x v.0 v.1;
+  is = (z_is, x_is, is.1.0, may_have t v.0 t_is is.1.1, is.1.2);
+  spells = f;
+  value_is = y ∙ (ap (λ last. with_last at (g.name_at at t (spelled_type ty)) x.line (g.linkage_of t) (name_in x.kind)
       (part_at (type_in ty) (suc (g.name_at at t (spelled_type ty))) (variable v)) last)
       (count (g.name_at at t (spelled_type ty)) (length (g.spelled_variable v.0)) _ (length-append (g.spelled_variable v.0) (v.1 ∷ [])))
       ∙ ap (λ d. with_last at (g.name_at at t (spelled_type ty)) x.line (g.linkage_of t) (name_in x.kind)
-          (d, (part_at (type_in ty) (suc (g.name_at at t (spelled_type ty))) (variable v)).1) (suc (g.name_at at t (spelled_type ty)) + length (g.spelled_variable v.0)))
-          (before (g.name_at at t (spelled_type ty)) (g.extent v.0))) }
+      (d, (part_at (type_in ty) (suc (g.name_at at t (spelled_type ty))) (variable v)).1) (suc (g.name_at at t (spelled_type ty)) + length (g.spelled_variable v.0)))
+      (before (g.name_at at t (spelled_type ty)) (g.extent v.0)));
+}
   where
     count : (n p m : ℕ) → m ≡ p + 1 → suc n + m - 1 ≡ suc n + p
     count n p m e = omega arith
+
     before : (n k : ℕ) → suc n + k - 1 ≡ n + k
     before n k = omega arith
 
@@ -169,10 +175,10 @@ declaration_is at a u x t =
     let p = n.second in
     declaration_by at a u t.phrase z.phrase n.token p.phrase t.is z.is n.sort_is p.is
     (t.splits ∙ ap (λ v. g.spelled_storage t.phrase ++ v) (z.splits ∙ ap (λ v. g.spelled_result z.phrase ++ v) (n.splits ∙ ap (λ v. n.token ∷ v)
-        (p.splits ∙ (ap (λ v. spelled_part p.phrase ++ v) p.second.empty ∙ append-nil (spelled_part p.phrase))))))
+    (p.splits ∙ (ap (λ v. spelled_part p.phrase ++ v) p.second.empty ∙ append-nil (spelled_part p.phrase))))))
     (p.second.is ∙ ap (λ u. with_last at (g.name_at at t.phrase (g.spelled_result z.phrase)) (first_line u) (g.linkage_of t.phrase) (name_in n.token.kind)
-        (part_at (g.result_in z.phrase) (suc (g.name_at at t.phrase (g.spelled_result z.phrase))) p.phrase)
-        (suc (g.name_at at t.phrase (g.spelled_result z.phrase)) + length (spelled_part p.phrase) - 1)) n.splits)
+    (part_at (g.result_in z.phrase) (suc (g.name_at at t.phrase (g.spelled_result z.phrase))) p.phrase)
+    (suc (g.name_at at t.phrase (g.spelled_result z.phrase)) + length (spelled_part p.phrase) - 1)) n.splits)
 
 behind_is_full : (first at : ℕ) (linkage : Linkage) (ty : Ty) (line : ℕ) → Full (Behind first at linkage ty line)
 behind_is_full first name_at linkage ty line at a x y = no_cons y.token y.behind y.splits
@@ -181,16 +187,24 @@ behind_is_full first name_at linkage ty line at a x y = no_cons y.token y.behind
     no_cons t u e = cc
 
 behind_goes_on : (first name_at : ℕ) (linkage : Linkage) (ty : Ty) (at : ℕ) → GoesOn (Lined (λ line. Behind first name_at linkage ty line)) at []
-behind_goes_on first name_at linkage ty at = record
-  { rest = a_name.token ∷ left_paren.token ∷ void.token ∷ right_paren.token ∷ semicolon.token ∷ []
-  ; value = _
-  ; reads = λ x o. record
-      { token = a_name.token; behind = left_paren.token ∷ void.token ∷ right_paren.token ∷ semicolon.token ∷ []; sort_is = a_name.sort_is; splits = refl
-      ; second = record
-          { phrase = function (prototyped left_paren.token (g.none void.token) right_paren.token semicolon.token); behind = []
-          ; is = (left_paren.sort_is, void.sort_is, right_paren.sort_is, semicolon.sort_is); splits = refl
-          ; second = record { is = refl; empty = refl } } }
-  ; starts = λ e x o. subst (λ z. z ≢ s.Else) (sym a_name.sort_is) a_name.no_else }
+behind_goes_on first name_at linkage ty at = record {
+  rest = a_name.token ∷ left_paren.token ∷ void.token ∷ right_paren.token ∷ semicolon.token ∷ [];
+  value = _;
+  reads = λ x o. record {
+    token = a_name.token;
+    behind = left_paren.token ∷ void.token ∷ right_paren.token ∷ semicolon.token ∷ [];
+    sort_is = a_name.sort_is;
+    splits = refl;
+    second = record {
+      phrase = function (prototyped left_paren.token (g.none void.token) right_paren.token semicolon.token);
+      behind = [];
+      is = (left_paren.sort_is, void.sort_is, right_paren.sort_is, semicolon.sort_is);
+      splits = refl;
+      second = record { is = refl; empty = refl };
+    };
+  };
+  starts = λ e x o. subst (λ z. z ≢ s.Else) (sym a_name.sort_is) a_name.no_else;
+}
 
 pub lawful_declaration : (m n : ℕ) → n ≤ m → (p q : Parser Expr) (v w : Parser Stmt) → Lawful n (AnExpression 13) p q → Lawful n (AStatement false) v w
     → Lawful n ADeclaration (r.declaration p v m) (r.declaration q w (suc m))
@@ -200,7 +214,7 @@ lawful_declaration m n small p q v w l h = within declaration_is (lawful_from n 
     (λ linkage. lawful_with_phrase n g.IsResult g.spelled_result result_at _ _ _ _ _ (lawful_result n)
     (λ ty. lawful_from n _ _ _
     (λ at. lawful_line n (λ line. Behind first at linkage ty line) _ _
-        (λ line. lawful_with_name n _ _ _
-        (λ x. lawful_with_phrase n (IsPart linkage ty) spelled_part (part_at ty) _ _ _ _ _ (lawful_part m n small p q v w l h linkage ty)
-        (λ d. lawful_finish_declaration n first at line linkage x d)))
-        (λ line. behind_is_full first at linkage ty line) (λ a. behind_goes_on first at linkage ty a))))))
+    (λ line. lawful_with_name n _ _ _
+    (λ x. lawful_with_phrase n (IsPart linkage ty) spelled_part (part_at ty) _ _ _ _ _ (lawful_part m n small p q v w l h linkage ty)
+    (λ d. lawful_finish_declaration n first at line linkage x d)))
+    (λ line. behind_is_full first at linkage ty line) (λ a. behind_goes_on first at linkage ty a))))))

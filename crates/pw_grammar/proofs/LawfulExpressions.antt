@@ -37,11 +37,12 @@ unfolding spelled IsAt tree_of
 bracketed_is n at a u x o =
     let b = o.second in
     let c = b.second in
-    record
-      { phrase = bracketed o.token b.phrase c.token
-      ; is = (same_sorts (sort o.token) s.LeftParen o.sort_is, b.is, c.sort_is)
-      ; spells = o.splits ∙ ap (λ v. o.token ∷ v) (b.splits ∙ ap (λ v. spelled b.phrase ++ v) (c.splits ∙ ap (λ v. c.token ∷ v) c.second.empty))
-      ; tree = c.second.is }
+    record {
+      phrase = bracketed o.token b.phrase c.token;
+      is = (same_sorts (sort o.token) s.LeftParen o.sort_is, b.is, c.sort_is);
+      spells = o.splits ∙ ap (λ v. o.token ∷ v) (b.splits ∙ ap (λ v. spelled b.phrase ++ v) (c.splits ∙ ap (λ v. c.token ∷ v) c.second.empty));
+      tree = c.second.is;
+    }
 
 lawful_bracketed : (n m : ℕ) (p q : Parser Expr) → Lawful n (AnExpression 13) p q
     → Keeps (λ x. is_same x s.LeftParen ≡ true) (suc n) (AnExpression m) (r.bracketed p) (r.bracketed q)
@@ -58,12 +59,13 @@ output_is n at a u x k =
     let o = k.second in
     let b = o.second in
     let c = b.second in
-    record
-      { phrase = output k.token o.token b.phrase c.token
-      ; is = (same_sorts (sort k.token) s.Output k.sort_is, o.sort_is, b.is, c.sort_is)
-      ; spells = k.splits ∙ ap (λ v. k.token ∷ v) (o.splits ∙ ap (λ v. o.token ∷ v) (b.splits ∙ ap (λ v. spelled b.phrase ++ v) (c.splits ∙ ap (λ v. c.token ∷ v) c.second.empty)))
-      ; tree = c.second.is ∙ ap (λ n. roll-Expr (record { first = at; last = n - 1; line = k.token.line; kind = e.Output (tree_of (suc (suc at)) b.phrase) }))
-          (count_output at (length (spelled b.phrase)) _ (length-append (spelled b.phrase) (c.token ∷ []))) }
+    record {
+      phrase = output k.token o.token b.phrase c.token;
+      is = (same_sorts (sort k.token) s.Output k.sort_is, o.sort_is, b.is, c.sort_is);
+      spells = k.splits ∙ ap (λ v. k.token ∷ v) (o.splits ∙ ap (λ v. o.token ∷ v) (b.splits ∙ ap (λ v. spelled b.phrase ++ v) (c.splits ∙ ap (λ v. c.token ∷ v) c.second.empty)));
+      tree = c.second.is ∙ ap (λ n. roll-Expr (record { first = at; last = n - 1; line = k.token.line; kind = e.Output (tree_of (suc (suc at)) b.phrase) }))
+          (count_output at (length (spelled b.phrase)) _ (length-append (spelled b.phrase) (c.token ∷ [])));
+    }
 
 lawful_output : (n m : ℕ) (p q : Parser Expr) → Lawful n (AnExpression 13) p q
     → Keeps (λ x. is_same x s.Output ≡ true) (suc n) (AnExpression m) (r.output p) (r.output q)
@@ -77,12 +79,13 @@ lawful_output n m p q l = keeps_within (λ x. is_same x s.Output ≡ true) (suc 
 identifier_is : (m : ℕ) (c : Sort → Type 0) → ((x : Sort) → c x → x ≡ s.Name)
     → Within (Here (λ first. Seq (AToken c) (λ t. ANode first t.line (e.Word (name_in t.kind))))) (AnExpression m)
 unfolding spelled IsAt tree_of
-identifier_is m c named at a u x y = record
-  { phrase = identifier y.value
-  ; is = named (sort y.value) y.first.sort_is
-  ; spells = y.splits ∙ (ap (λ v. y.front ++ v) y.second.empty ∙ (append-nil y.front ∙ y.first.is))
-  ; tree = y.second.is ∙ ap (λ n. roll-Expr (record { first = at; last = n - 1; line = y.value.line; kind = e.Word (name_in y.value.kind) }))
-      (ap (λ v. at + length v) y.first.is) }
+identifier_is m c named at a u x y = record {
+  phrase = identifier y.value;
+  is = named (sort y.value) y.first.sort_is;
+  spells = y.splits ∙ (ap (λ v. y.front ++ v) y.second.empty ∙ (append-nil y.front ∙ y.first.is));
+  tree = y.second.is ∙ ap (λ n. roll-Expr (record { first = at; last = n - 1; line = y.value.line; kind = e.Word (name_in y.value.kind) }))
+      (ap (λ v. at + length v) y.first.is);
+}
 
 lawful_identifier : (n m : ℕ) (c : Sort → Type 0) → ((x : Sort) → c x → x ≡ s.Name) → (c s.End → ⊥)
     → Keeps c (suc n) (AnExpression m) r.identifier r.identifier
@@ -95,12 +98,13 @@ lawful_identifier n m c named ends = keeps_within c (suc n) _ _ _ _ (identifier_
 constant_is : (m : ℕ) (c : Sort → Type 0) → ((x : Sort) → c x → IsConstant x)
     → Within (Here (λ first. Seq (AToken c) (λ t. ANode first t.line (e.Num (value_in t.kind) (is_unsigned t.kind))))) (AnExpression m)
 unfolding spelled IsAt tree_of
-constant_is m c named at a u x y = record
-  { phrase = constant y.value
-  ; is = named (sort y.value) y.first.sort_is
-  ; spells = y.splits ∙ (ap (λ v. y.front ++ v) y.second.empty ∙ (append-nil y.front ∙ y.first.is))
-  ; tree = y.second.is ∙ ap (λ n. roll-Expr (record { first = at; last = n - 1; line = y.value.line; kind = e.Num (value_in y.value.kind) (is_unsigned y.value.kind) }))
-      (ap (λ v. at + length v) y.first.is) }
+constant_is m c named at a u x y = record {
+  phrase = constant y.value;
+  is = named (sort y.value) y.first.sort_is;
+  spells = y.splits ∙ (ap (λ v. y.front ++ v) y.second.empty ∙ (append-nil y.front ∙ y.first.is));
+  tree = y.second.is ∙ ap (λ n. roll-Expr (record { first = at; last = n - 1; line = y.value.line; kind = e.Num (value_in y.value.kind) (is_unsigned y.value.kind) }))
+      (ap (λ v. at + length v) y.first.is);
+}
 
 lawful_constant : (n m : ℕ) (c : Sort → Type 0) → ((x : Sort) → c x → IsConstant x) → (c s.End → ⊥)
     → Keeps c (suc n) (AnExpression m) r.constant r.constant
@@ -116,11 +120,12 @@ unfolding spelled IsAt tree_of
 input_is n at a u x k =
     let o = k.second in
     let c = o.second in
-    record
-      { phrase = input k.token o.token c.token
-      ; is = (same_sorts (sort k.token) s.Input k.sort_is, o.sort_is, c.sort_is)
-      ; spells = k.splits ∙ ap (λ v. k.token ∷ v) (o.splits ∙ ap (λ v. o.token ∷ v) (c.splits ∙ ap (λ v. c.token ∷ v) c.second.empty))
-      ; tree = c.second.is ∙ ap (λ n. roll-Expr (record { first = at; last = n - 1; line = k.token.line; kind = e.Input })) (omega arith) }
+    record {
+      phrase = input k.token o.token c.token;
+      is = (same_sorts (sort k.token) s.Input k.sort_is, o.sort_is, c.sort_is);
+      spells = k.splits ∙ ap (λ v. k.token ∷ v) (o.splits ∙ ap (λ v. o.token ∷ v) (c.splits ∙ ap (λ v. c.token ∷ v) c.second.empty));
+      tree = c.second.is ∙ ap (λ n. roll-Expr (record { first = at; last = n - 1; line = k.token.line; kind = e.Input })) (omega arith);
+    }
 
 lawful_input : (n m : ℕ) → Keeps (λ x. is_same x s.Input ≡ true) (suc n) (AnExpression m) r.input r.input
 unfolding r.input
@@ -148,28 +153,30 @@ primary_is_tests p _ = refl
 -- the laws of readers that give the same outcomes
 pub lawful_equal : {A : Type 0} (n : ℕ) (L : Language A) (p q p' q' : Parser A) → ((i : Place) → p i ≡ p' i) → ((i : Place) → q i ≡ q' i)
     → Lawful n L p' q' → Lawful n L p q
-lawful_equal n L p q p' q' left right l = record
-  { settled = λ i short. left i ∙ (l.settled i short ∙ sym (right i))
-  ; says = λ i. subst (λ o. Says L i o) (sym (left i)) (l.says i)
-  ; steady = λ k i j same. subst (λ o. Same k o (p j)) (sym (left i)) (subst (λ o. Same k (p' i) o) (sym (left j)) (l.steady k i j same))
-  ; can = l.can }
+lawful_equal n L p q p' q' left right l = record {
+  settled = λ i short. left i ∙ (l.settled i short ∙ sym (right i));
+  says = λ i. subst (λ o. Says L i o) (sym (left i)) (l.says i);
+  steady = λ k i j same. subst (λ o. Same k o (p j)) (sym (left i)) (subst (λ o. Same k (p' i) o) (sym (left j)) (l.steady k i j same));
+  can = l.can;
+}
 
 pub lawful_primary : (n m : ℕ) (p q : Parser Expr) → Lawful n (AnExpression 13) p q → Lawful (suc n) (AnExpression m) (r.primary p) (r.primary q)
 unfolding r.primary primary_tests
 lawful_primary n m p q l = lawful_equal (suc n) (AnExpression m) _ _ (λ i. primary_tests p (next_sort i) i) (λ i. primary_tests q (next_sort i) i)
     (λ i. ap (λ f. f i) (primary_is_tests p (next_sort i))) (λ i. ap (λ f. f i) (primary_is_tests q (next_sort i)))
     (lawful_test (λ x. is_same x s.Name) (suc n) L _ _ _ _
-        (lawful_identifier n m (λ x. is_same x s.Name ≡ true) (λ x e. same_sorts x s.Name e) (is_no_end s.Name (λ z. cc))) (keeps _ (suc n) L _ _
+    (lawful_identifier n m (λ x. is_same x s.Name ≡ true) (λ x e. same_sorts x s.Name e) (is_no_end s.Name (λ z. cc))) (keeps _ (suc n) L _ _
     (lawful_test (λ x. is_same x s.Number) (suc n) L _ _ _ _
-        (lawful_constant n m (λ x. is_same x s.Number ≡ true) (λ x e. inl (same_sorts x s.Number e)) (is_no_end s.Number (λ z. cc))) (keeps _ (suc n) L _ _
+    (lawful_constant n m (λ x. is_same x s.Number ≡ true) (λ x e. inl (same_sorts x s.Number e)) (is_no_end s.Number (λ z. cc))) (keeps _ (suc n) L _ _
     (lawful_test (λ x. is_same x s.Character) (suc n) L _ _ _ _
-        (lawful_constant n m (λ x. is_same x s.Character ≡ true) (λ x e. inr (same_sorts x s.Character e)) (is_no_end s.Character (λ z. cc))) (keeps _ (suc n) L _ _
+    (lawful_constant n m (λ x. is_same x s.Character ≡ true) (λ x e. inr (same_sorts x s.Character e)) (is_no_end s.Character (λ z. cc))) (keeps _ (suc n) L _ _
     (lawful_test (λ x. is_same x s.LeftParen) (suc n) L _ _ _ _ (lawful_bracketed n m p q l) (keeps _ (suc n) L _ _
     (lawful_test (λ x. is_same x s.Input) (suc n) L _ _ _ _ (lawful_input n m) (keeps _ (suc n) L _ _
     (lawful_test (λ x. is_same x s.Output) (suc n) L _ _ _ _ (lawful_output n m p q l)
-        (keeps_refuse (λ x. is_same x s.Output ≡ false) (suc n) L can) can)) can)) can)) can)) can)) can)
+    (keeps_refuse (λ x. is_same x s.Output ≡ false) (suc n) L can) can)) can)) can)) can)) can)) can)
   where
     L : Language Expr
     L = AnExpression m
+
     can : (at : ℕ) → GoesOn (AnExpression m) at []
     can at = expression_goes_on m at

@@ -39,11 +39,12 @@ a_form_is_lax at kind u x y r o = record { phrase = r.phrase; is = r.is; spells 
 
 pub form_goes_on : (at : ℕ) → GoesOn AForm at []
 unfolding spelled_statement IsStatement open_ended
-form_goes_on at = record
-  { rest = semicolon.token ∷ []
-  ; value = kind_of at (empty semicolon.token)
-  ; reads = λ x o. record { phrase = empty semicolon.token; is = semicolon.sort_is; spells = refl; kind_is = refl; closed = λ e. o }
-  ; starts = λ e x o. subst (λ z. z ≢ s.Else) (sym semicolon.sort_is) semicolon.no_else }
+form_goes_on at = record {
+  rest = semicolon.token ∷ [];
+  value = kind_of at (empty semicolon.token);
+  reads = λ x o. record { phrase = empty semicolon.token; is = semicolon.sort_is; spells = refl; kind_is = refl; closed = λ e. o };
+  starts = λ e x o. subst (λ z. z ≢ s.Else) (sym semicolon.sort_is) semicolon.no_else;
+}
 
 -- a token of the sort was seen, and the form begins with it
 abbrev pub Form : Sort → ℕ → Parser StmtKind → Parser StmtKind → Type 0
@@ -53,12 +54,13 @@ Form z n p q = Keeps (Is z) n AForm p q
 
 empty_is : Within (Then (Is s.Semicolon) (λ e. Pure k.Empty)) AForm
 unfolding spelled_statement IsStatement open_ended kind_of
-empty_is at a u x y = record
-  { phrase = empty y.token
-  ; is = same_sorts (sort y.token) s.Semicolon y.sort_is
-  ; spells = y.splits ∙ ap (λ v. y.token ∷ v) y.second.empty
-  ; kind_is = y.second.is
-  ; closed = λ e. absurd cc }
+empty_is at a u x y = record {
+  phrase = empty y.token;
+  is = same_sorts (sort y.token) s.Semicolon y.sort_is;
+  spells = y.splits ∙ ap (λ v. y.token ∷ v) y.second.empty;
+  kind_is = y.second.is;
+  closed = λ e. absurd cc;
+}
 
 pub lawful_empty : (n : ℕ) → Form s.Semicolon (suc n) r.empty r.empty
 unfolding r.empty
@@ -73,12 +75,13 @@ unfolding spelled_statement IsStatement open_ended kind_of
 block_is at a u x o =
     let b = o.second in
     let c = b.second in
-    record
-      { phrase = block o.token b.phrase c.token
-      ; is = (same_sorts (sort o.token) s.LeftBrace o.sort_is, b.is, c.sort_is)
-      ; spells = o.splits ∙ ap (λ v. o.token ∷ v) (b.splits ∙ ap (λ v. spelled_statements b.phrase ++ v) (c.splits ∙ ap (λ v. c.token ∷ v) c.second.empty))
-      ; kind_is = c.second.is
-      ; closed = λ e. absurd cc }
+    record {
+      phrase = block o.token b.phrase c.token;
+      is = (same_sorts (sort o.token) s.LeftBrace o.sort_is, b.is, c.sort_is);
+      spells = o.splits ∙ ap (λ v. o.token ∷ v) (b.splits ∙ ap (λ v. spelled_statements b.phrase ++ v) (c.splits ∙ ap (λ v. c.token ∷ v) c.second.empty));
+      kind_is = c.second.is;
+      closed = λ e. absurd cc;
+    }
 
 pub lawful_block : (m n : ℕ) → n ≤ m → (p q : Parser Expr) (v w : Parser Stmt) → Lawful n (AnExpression 13) p q → Lawful n (AStatement false) v w
     → Form s.LeftBrace (suc n) (r.block p v m) (r.block q w (suc m))
@@ -100,9 +103,13 @@ AnElse = λ at y u x. IsElse at y u x
 
 an_else_is_lax : Lax AnElse
 an_else_is_lax at None u x y r o = (r.0, o)
-an_else_is_lax at (Some z) u x y r o = record
-  { token = r.token; behind = r.behind; splits = r.splits; sort_is = r.sort_is
-  ; second = a_statement_is_lax false (suc at) z r.behind x y r.second o }
+an_else_is_lax at (Some z) u x y r o = record {
+  token = r.token;
+  behind = r.behind;
+  splits = r.splits;
+  sort_is = r.sort_is;
+  second = a_statement_is_lax false (suc at) z r.behind x y r.second o;
+}
 
 else_goes_on : (at : ℕ) → GoesOn AnElse at []
 else_goes_on at = record { rest = []; value = None; reads = λ x o. (refl, o); starts = λ e x o. o }
@@ -117,11 +124,19 @@ last_spells u v w e f = e ∙ (ap (λ w. v ++ w) f ∙ append-nil v)
 else_is : Within (Then (Is s.Else) (λ o. WithStatement false (λ y. Pure (Some y)))) AnElse
 else_is at z u x o =
     let y = o.second in
-    subst (λ z. IsElse at z u x) (sym y.second.is) (record
-      { token = o.token; behind = o.behind; splits = o.splits; sort_is = o.sort_is
-      ; second = record
-          { phrase = y.phrase; is = y.is; spells = last_spells _ _ _ y.splits y.second.empty; tree = refl
-          ; closed = before_end y.behind x y.phrase y.second.empty y.closed } })
+    subst (λ z. IsElse at z u x) (sym y.second.is) (record {
+      token = o.token;
+      behind = o.behind;
+      splits = o.splits;
+      sort_is = o.sort_is;
+      second = record {
+        phrase = y.phrase;
+        is = y.is;
+        spells = last_spells _ _ _ y.splits y.second.empty;
+        tree = refl;
+        closed = before_end y.behind x y.phrase y.second.empty y.closed;
+      };
+    })
 
 lawful_else : (n : ℕ) (v w : Parser Stmt) → Lawful n (AStatement false) v w → Lawful n AnElse (r.maybe_else v) (r.maybe_else w)
 unfolding r.maybe_else r.alternative sees
@@ -147,20 +162,29 @@ conditional_by : (at : ℕ) (kind : StmtKind) (u : List Token) (x : Sort) (t o :
     → IsElse (behind_test at a + length (spelled_statement y)) n v x → kind ≡ k.If (tree_of (suc (suc at)) a) (tree_of_statement (behind_test at a) y) n
     → IsForm at kind u x
 unfolding spelled_statement IsStatement open_ended kind_of
-conditional_by at kind u x t o a c y None v h e closed z f = record
-  { phrase = if_only t o a c y
-  ; is = (h.word_is, h.left_is, h.test_is, h.right_is, h.body_is)
-  ; spells = e ∙ ap (λ v. t ∷ o ∷ (spelled a ++ c ∷ v)) (last_spells (spelled_statement y ++ v) (spelled_statement y) v refl z.0)
-  ; kind_is = f
-  ; closed = λ e. z.1 }
-conditional_by at kind u x t o a c y (Some n) v h e closed z f = record
-  { phrase = if_else t o a c y z.token z.second.phrase
-  ; is = (h.word_is, h.left_is, h.test_is, h.right_is, h.body_is,
-      not_open (open_ended y) (sort_before v x) closed (ap (λ v. sort_before v x) z.splits ∙ same_sorts (sort z.token) s.Else z.sort_is),
-      same_sorts (sort z.token) s.Else z.sort_is, z.second.is)
-  ; spells = e ∙ ap (λ v. t ∷ o ∷ (spelled a ++ c ∷ (spelled_statement y ++ v))) (z.splits ∙ ap (λ v. z.token ∷ v) z.second.spells)
-  ; kind_is = f ∙ ap (λ n. k.If (tree_of (suc (suc at)) a) (tree_of_statement (behind_test at a) y) (Some n)) z.second.tree
-  ; closed = z.second.closed }
+conditional_by at kind u x t o a c y None v h e closed z f = record {
+  phrase = if_only t o a c y;
+  is = (h.word_is, h.left_is, h.test_is, h.right_is, h.body_is);
+  spells = e ∙ ap (λ v. t ∷ o ∷ (spelled a ++ c ∷ v)) (last_spells (spelled_statement y ++ v) (spelled_statement y) v refl z.0);
+  kind_is = f;
+  closed = λ e. z.1;
+}
+conditional_by at kind u x t o a c y (Some n) v h e closed z f = record {
+  phrase = if_else t o a c y z.token z.second.phrase;
+  is = (
+    h.word_is,
+    h.left_is,
+    h.test_is,
+    h.right_is,
+    h.body_is,
+    not_open (open_ended y) (sort_before v x) closed (ap (λ v. sort_before v x) z.splits ∙ same_sorts (sort z.token) s.Else z.sort_is),
+    same_sorts (sort z.token) s.Else z.sort_is,
+    z.second.is,
+  );
+  spells = e ∙ ap (λ v. t ∷ o ∷ (spelled a ++ c ∷ (spelled_statement y ++ v))) (z.splits ∙ ap (λ v. z.token ∷ v) z.second.spells);
+  kind_is = f ∙ ap (λ n. k.If (tree_of (suc (suc at)) a) (tree_of_statement (behind_test at a) y) (Some n)) z.second.tree;
+  closed = z.second.closed;
+}
 
 conditional_is : Within (Then (Is s.If) (λ o. Tested (λ a. WithStatement false (λ y. Seq AnElse (λ n. Pure (k.If a y n)))))) AForm
 conditional_is at kind u x t =
@@ -189,12 +213,13 @@ unfolding spelled_statement IsStatement open_ended kind_of
 while_is at kind u x t =
     let a = t.second in
     let y = a.second in
-    record
-      { phrase = while_do t.token a.left a.phrase a.right y.phrase
-      ; is = (same_sorts (sort t.token) s.While t.sort_is, a.left_is, a.is, a.right_is, y.is)
-      ; spells = t.splits ∙ ap (λ v. t.token ∷ v) (a.splits ∙ ap (λ v. a.left ∷ (spelled a.phrase ++ a.right ∷ v)) (last_spells _ _ _ y.splits y.second.empty))
-      ; kind_is = y.second.is
-      ; closed = before_end y.behind x y.phrase y.second.empty y.closed }
+    record {
+      phrase = while_do t.token a.left a.phrase a.right y.phrase;
+      is = (same_sorts (sort t.token) s.While t.sort_is, a.left_is, a.is, a.right_is, y.is);
+      spells = t.splits ∙ ap (λ v. t.token ∷ v) (a.splits ∙ ap (λ v. a.left ∷ (spelled a.phrase ++ a.right ∷ v)) (last_spells _ _ _ y.splits y.second.empty));
+      kind_is = y.second.is;
+      closed = before_end y.behind x y.phrase y.second.empty y.closed;
+    }
 
 pub lawful_while : (n : ℕ) (p q : Parser Expr) (v w : Parser Stmt) → Lawful n (AnExpression 13) p q → Lawful n (AStatement false) v w
     → Form s.While (suc n) (r.while_loop p v) (r.while_loop q w)
@@ -210,13 +235,14 @@ do_is at kind u x t =
     let w = y.second in
     let a = w.second in
     let e = a.second in
-    record
-      { phrase = do_while t.token y.phrase w.token a.left a.phrase a.right e.token
-      ; is = (same_sorts (sort t.token) s.Do t.sort_is, y.is, w.sort_is, a.left_is, a.is, a.right_is, e.sort_is)
-      ; spells = t.splits ∙ ap (λ v. t.token ∷ v) (y.splits ∙ ap (λ v. spelled_statement y.phrase ++ v) (w.splits ∙ ap (λ v. w.token ∷ v)
-          (a.splits ∙ ap (λ v. a.left ∷ (spelled a.phrase ++ a.right ∷ v)) (e.splits ∙ ap (λ v. e.token ∷ v) e.second.empty))))
-      ; kind_is = e.second.is
-      ; closed = λ e. absurd cc }
+    record {
+      phrase = do_while t.token y.phrase w.token a.left a.phrase a.right e.token;
+      is = (same_sorts (sort t.token) s.Do t.sort_is, y.is, w.sort_is, a.left_is, a.is, a.right_is, e.sort_is);
+      spells = t.splits ∙ ap (λ v. t.token ∷ v) (y.splits ∙ ap (λ v. spelled_statement y.phrase ++ v) (w.splits ∙ ap (λ v. w.token ∷ v)
+          (a.splits ∙ ap (λ v. a.left ∷ (spelled a.phrase ++ a.right ∷ v)) (e.splits ∙ ap (λ v. e.token ∷ v) e.second.empty))));
+      kind_is = e.second.is;
+      closed = λ e. absurd cc;
+    }
 
 pub lawful_do : (n : ℕ) (p q : Parser Expr) (v w : Parser Stmt) → Lawful n (AnExpression 13) p q → Lawful n (AStatement false) v w
     → Form s.Do (suc n) (r.do_loop p v) (r.do_loop q w)
@@ -237,14 +263,15 @@ for_is at kind u x t =
     let l = e.second in
     let c = l.second in
     let y = c.second in
-    record
-      { phrase = for_do t.token o.token b.phrase a.phrase e.token l.phrase c.token y.phrase
-      ; is = (same_sorts (sort t.token) s.For t.sort_is, o.sort_is, b.is, a.is, e.sort_is, l.is, c.sort_is, y.is)
-      ; spells = t.splits ∙ ap (λ v. t.token ∷ v) (o.splits ∙ ap (λ v. o.token ∷ v) (b.splits ∙ ap (λ v. spelled_start b.phrase ++ v)
+    record {
+      phrase = for_do t.token o.token b.phrase a.phrase e.token l.phrase c.token y.phrase;
+      is = (same_sorts (sort t.token) s.For t.sort_is, o.sort_is, b.is, a.is, e.sort_is, l.is, c.sort_is, y.is);
+      spells = t.splits ∙ ap (λ v. t.token ∷ v) (o.splits ∙ ap (λ v. o.token ∷ v) (b.splits ∙ ap (λ v. spelled_start b.phrase ++ v)
           (a.splits ∙ ap (λ v. spelled_maybe a.phrase ++ v) (e.splits ∙ ap (λ v. e.token ∷ v) (l.splits ∙ ap (λ v. spelled_step l.phrase ++ v)
-          (c.splits ∙ ap (λ v. c.token ∷ v) (last_spells _ _ _ y.splits y.second.empty)))))))
-      ; kind_is = y.second.is
-      ; closed = before_end y.behind x y.phrase y.second.empty y.closed }
+          (c.splits ∙ ap (λ v. c.token ∷ v) (last_spells _ _ _ y.splits y.second.empty)))))));
+      kind_is = y.second.is;
+      closed = before_end y.behind x y.phrase y.second.empty y.closed;
+    }
 
 pub lawful_for : (n : ℕ) (p q : Parser Expr) (v w : Parser Stmt) → Lawful n (AnExpression 13) p q → Lawful n (AStatement false) v w
     → Form s.For (suc n) (r.for_loop p v) (r.for_loop q w)
@@ -265,12 +292,13 @@ unfolding spelled_statement IsStatement open_ended kind_of
 leave_is at kind u x t =
     let a = t.second in
     let e = a.second in
-    record
-      { phrase = leave t.token a.phrase e.token
-      ; is = (same_sorts (sort t.token) s.Return t.sort_is, a.is, e.sort_is)
-      ; spells = t.splits ∙ ap (λ v. t.token ∷ v) (a.splits ∙ ap (λ v. spelled_maybe a.phrase ++ v) (e.splits ∙ ap (λ v. e.token ∷ v) e.second.empty))
-      ; kind_is = e.second.is
-      ; closed = λ e. absurd cc }
+    record {
+      phrase = leave t.token a.phrase e.token;
+      is = (same_sorts (sort t.token) s.Return t.sort_is, a.is, e.sort_is);
+      spells = t.splits ∙ ap (λ v. t.token ∷ v) (a.splits ∙ ap (λ v. spelled_maybe a.phrase ++ v) (e.splits ∙ ap (λ v. e.token ∷ v) e.second.empty));
+      kind_is = e.second.is;
+      closed = λ e. absurd cc;
+    }
 
 pub lawful_leave : (n : ℕ) (p q : Parser Expr) → Lawful n (AnExpression 13) p q → Form s.Return (suc n) (r.leave p) (r.leave q)
 unfolding r.leave
@@ -283,12 +311,13 @@ unfolding spelled_statement IsStatement open_ended kind_of
 jump_is z which at kind u x t =
     let e = t.second in
     let same : sort t.token ≡ z = same_sorts (sort t.token) z t.sort_is in
-    record
-      { phrase = jump t.token e.token
-      ; is = (subst (λ z. (z ≡ s.Break) ⊎ (z ≡ s.Continue)) (sym same) which, e.sort_is)
-      ; spells = t.splits ∙ ap (λ v. t.token ∷ v) (e.splits ∙ ap (λ v. e.token ∷ v) e.second.empty)
-      ; kind_is = e.second.is ∙ ap jump_of (sym same)
-      ; closed = λ e. absurd cc }
+    record {
+      phrase = jump t.token e.token;
+      is = (subst (λ z. (z ≡ s.Break) ⊎ (z ≡ s.Continue)) (sym same) which, e.sort_is);
+      spells = t.splits ∙ ap (λ v. t.token ∷ v) (e.splits ∙ ap (λ v. e.token ∷ v) e.second.empty);
+      kind_is = e.second.is ∙ ap jump_of (sym same);
+      closed = λ e. absurd cc;
+    }
 
 pub lawful_jump : (n : ℕ) (z : Sort) → (z ≡ s.Break) ⊎ (z ≡ s.Continue) → s.End ≢ z → Form z (suc n) (r.jump (jump_of z)) (r.jump (jump_of z))
 unfolding r.jump
@@ -299,12 +328,13 @@ evaluated_is : Within (WithPhrase IsSimple spelled_simple kind_of_simple (λ a. 
 unfolding spelled_statement IsStatement open_ended kind_of
 evaluated_is at kind u x y =
     let e = y.second in
-    record
-      { phrase = simple y.phrase e.token
-      ; is = (y.is, e.sort_is)
-      ; spells = y.splits ∙ ap (λ v. spelled_simple y.phrase ++ v) (e.splits ∙ ap (λ v. e.token ∷ v) e.second.empty)
-      ; kind_is = e.second.is
-      ; closed = λ e. absurd cc }
+    record {
+      phrase = simple y.phrase e.token;
+      is = (y.is, e.sort_is);
+      spells = y.splits ∙ ap (λ v. spelled_simple y.phrase ++ v) (e.splits ∙ ap (λ v. e.token ∷ v) e.second.empty);
+      kind_is = e.second.is;
+      closed = λ e. absurd cc;
+    }
 
 pub lawful_evaluated : (n : ℕ) (p q : Parser Expr) → Lawful n (AnExpression 13) p q → Lawful n AForm (r.evaluated p) (r.evaluated q)
 unfolding r.evaluated

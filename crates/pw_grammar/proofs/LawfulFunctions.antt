@@ -49,25 +49,28 @@ AnEnd linkage ty ps = APhrase (IsEnd linkage ps) spelled_end (end_at ty ps)
 
 closed_is : (linkage : Linkage) (ty : Ty) (ps : List Param) → Within (Then (λ x. x ≡ s.Semicolon) (λ e. Pure (d.Proto ty ps))) (AnEnd linkage ty ps)
 closed_is linkage ty ps at a u x e = record
-  { phrase = closed e.token; is = e.sort_is; spells = e.splits ∙ ap (λ v. e.token ∷ v) e.second.empty; value_is = e.second.is }
+    { phrase = closed e.token; is = e.sort_is; spells = e.splits ∙ ap (λ v. e.token ∷ v) e.second.empty; value_is = e.second.is }
 
 bodied_is : (linkage : Linkage) (ty : Ty) (ps : List Param) → r.may_define linkage ps ≡ true
     → Within (Then (λ x. x ≡ s.LeftBrace) (λ o. WithPhrase AreStatements spelled_statements (λ at ys. [] ++ trees_of_statements at ys) (λ ys.
-        Then (λ x. x ≡ s.RightBrace) (λ c. Pure (d.Fun ty ps ys))))) (AnEnd linkage ty ps)
+    Then (λ x. x ≡ s.RightBrace) (λ c. Pure (d.Fun ty ps ys))))) (AnEnd linkage ty ps)
 bodied_is linkage ty ps may at a u x b =
     let y = b.second in
     let e = y.second in
-    record
-      { phrase = bodied b.token y.phrase e.token
-      ; is = (may, b.sort_is, y.is, e.sort_is)
-      ; spells = b.splits ∙ ap (λ v. b.token ∷ v) (y.splits ∙ ap (λ v. spelled_statements y.phrase ++ v) (e.splits ∙ ap (λ v. e.token ∷ v) e.second.empty))
-      ; value_is = e.second.is }
+    record {
+      phrase = bodied b.token y.phrase e.token;
+      is = (may, b.sort_is, y.is, e.sort_is);
+      spells = b.splits ∙ ap (λ v. b.token ∷ v) (y.splits ∙ ap (λ v. spelled_statements y.phrase ++ v) (e.splits ∙ ap (λ v. e.token ∷ v) e.second.empty));
+      value_is = e.second.is;
+    }
 
 end_goes_on : (linkage : Linkage) (ty : Ty) (ps : List Param) (at : ℕ) → GoesOn (AnEnd linkage ty ps) at []
-end_goes_on linkage ty ps at = record
-  { rest = semicolon.token ∷ []; value = d.Proto ty ps
-  ; reads = λ x o. record { phrase = closed semicolon.token; is = semicolon.sort_is; spells = refl; value_is = refl }
-  ; starts = λ e x o. subst (λ z. z ≢ s.Else) (sym semicolon.sort_is) semicolon.no_else }
+end_goes_on linkage ty ps at = record {
+  rest = semicolon.token ∷ [];
+  value = d.Proto ty ps;
+  reads = λ x o. record { phrase = closed semicolon.token; is = semicolon.sort_is; spells = refl; value_is = refl };
+  starts = λ e x o. subst (λ z. z ≢ s.Else) (sym semicolon.sort_is) semicolon.no_else;
+}
 
 lawful_prototype : (n : ℕ) (linkage : Linkage) (ty : Ty) (ps : List Param) → Lawful n (AnEnd linkage ty ps) (r.prototype ty ps) (r.prototype ty ps)
 unfolding r.prototype
@@ -87,10 +90,11 @@ keeps_body : (m n : ℕ) → n ≤ m → (p q : Parser Expr) (v w : Parser Stmt)
     → Keeps (λ x. (is_same x s.Semicolon || not may) ≡ false) n (AnEnd linkage ty ps) (r.body p v m ty ps) (r.body q w (suc m) ty ps)
 keeps_body m n small p q v w l h linkage ty ps true may =
     keeps (λ x. (is_same x s.Semicolon || not true) ≡ false) n (AnEnd linkage ty ps) _ _ (lawful_body m n small p q v w l h linkage ty ps may)
-keeps_body m n small p q v w l h linkage ty ps false may = record
-  { settled = λ i c short. absurd (never (is_same (next_sort i) s.Semicolon) c)
-  ; says = λ i c. absurd (never (is_same (next_sort i) s.Semicolon) c)
-  ; steady = λ k i j c same. absurd (never (is_same (next_sort i) s.Semicolon) c) }
+keeps_body m n small p q v w l h linkage ty ps false may = record {
+  settled = λ i c short. absurd (never (is_same (next_sort i) s.Semicolon) c);
+  says = λ i c. absurd (never (is_same (next_sort i) s.Semicolon) c);
+  steady = λ k i j c same. absurd (never (is_same (next_sort i) s.Semicolon) c);
+}
   where
     never : (b : Bool) → (b || not false) ≡ false → ⊥
     never true e = cc
@@ -151,9 +155,10 @@ spelled_function (defined o ps c b body e) = o ∷ (g.spelled_parameters ps ++ c
 
 abbrev pub function_at : Ty → ℕ → FunctionPart → ℕ × DeclKind
 function_at ty at (prototyped o ps c e) = (suc at + length (g.spelled_parameters ps), d.Proto ty (g.parameters_of (suc at) ps))
-function_at ty at (defined o ps c b body e) =
-    (suc at + length (g.spelled_parameters ps),
-    d.Fun ty (g.parameters_of (suc at) ps) (trees_of_statements (suc (suc (suc at + length (g.spelled_parameters ps)))) body))
+function_at ty at (defined o ps c b body e) = (
+  suc at + length (g.spelled_parameters ps),
+  d.Fun ty (g.parameters_of (suc at) ps) (trees_of_statements (suc (suc (suc at + length (g.spelled_parameters ps)))) body),
+)
 
 abbrev pub AFunction : Linkage → Ty → Language (ℕ × DeclKind)
 AFunction linkage ty = APhrase (IsFunction linkage) spelled_function (function_at ty)
@@ -164,14 +169,15 @@ function_by : (linkage : Linkage) (ty : Ty) (at : ℕ) (a : ℕ × DeclKind) (u 
     → a ≡ (suc at + length (g.spelled_parameters ps), end_at ty (g.parameters_of (suc at) ps) (suc (suc at + length (g.spelled_parameters ps))) z)
     → Phrased (IsFunction linkage) spelled_function (function_at ty) at a u
 function_by linkage ty at a u o ps c (closed e) o_is ps_are c_is z_is f y = record
-  { phrase = prototyped o ps c e; is = (o_is, ps_are, c_is, z_is); spells = f; value_is = y }
+    { phrase = prototyped o ps c e; is = (o_is, ps_are, c_is, z_is); spells = f; value_is = y }
 function_by linkage ty at a u o ps c (bodied b body e) o_is ps_are c_is z_is f y =
     let may = defines linkage (suc at) ps z_is.0 in
-    record
-      { phrase = defined o ps c b body e
-      ; is = (may.not_extern, o_is, ps_are, may.names, c_is, z_is.1, z_is.2, z_is.3)
-      ; spells = f
-      ; value_is = y }
+    record {
+      phrase = defined o ps c b body e;
+      is = (may.not_extern, o_is, ps_are, may.names, c_is, z_is.1, z_is.2, z_is.3);
+      spells = f;
+      value_is = y;
+    }
 
 function_is : (linkage : Linkage) (ty : Ty) → Within (Then (Is s.LeftParen) (λ o. WithPhrase g.AreParameters g.spelled_parameters g.parameters_of (λ ps. Here (λ at.
     Then (λ x. x ≡ s.RightParen) (λ c. WithPhrase (IsEnd linkage ps) spelled_end (end_at ty ps) (λ kind. Pure (at, kind))))))) (AFunction linkage ty)
@@ -181,18 +187,22 @@ function_is linkage ty at a u x o =
     let z = c.second in
     function_by linkage ty at a u o.token ps.phrase c.token z.phrase (same_sorts (sort o.token) s.LeftParen o.sort_is) ps.is c.sort_is z.is
     (o.splits ∙ ap (λ v. o.token ∷ v) (ps.splits ∙ ap (λ v. g.spelled_parameters ps.phrase ++ v) (c.splits ∙ ap (λ v. c.token ∷ v)
-        (z.splits ∙ (ap (λ v. spelled_end z.phrase ++ v) z.second.empty ∙ append-nil (spelled_end z.phrase))))))
+    (z.splits ∙ (ap (λ v. spelled_end z.phrase ++ v) z.second.empty ∙ append-nil (spelled_end z.phrase))))))
     z.second.is
 
 -- `( void ) ;`
 pub function_goes_on : (linkage : Linkage) (ty : Ty) (at : ℕ) → GoesOn (AFunction linkage ty) at []
-function_goes_on linkage ty at = record
-  { rest = left_paren.token ∷ void.token ∷ right_paren.token ∷ semicolon.token ∷ []
-  ; value = _
-  ; reads = λ x o. record
-      { phrase = prototyped left_paren.token (g.none void.token) right_paren.token semicolon.token
-      ; is = (left_paren.sort_is, void.sort_is, right_paren.sort_is, semicolon.sort_is); spells = refl; value_is = refl }
-  ; starts = λ e x o. subst (λ z. z ≢ s.Else) (sym left_paren.sort_is) left_paren.no_else }
+function_goes_on linkage ty at = record {
+  rest = left_paren.token ∷ void.token ∷ right_paren.token ∷ semicolon.token ∷ [];
+  value = _;
+  reads = λ x o. record {
+    phrase = prototyped left_paren.token (g.none void.token) right_paren.token semicolon.token;
+    is = (left_paren.sort_is, void.sort_is, right_paren.sort_is, semicolon.sort_is);
+    spells = refl;
+    value_is = refl;
+  };
+  starts = λ e x o. subst (λ z. z ≢ s.Else) (sym left_paren.sort_is) left_paren.no_else;
+}
 
 pub lawful_function : (m n : ℕ) → n ≤ m → (p q : Parser Expr) (v w : Parser Stmt) → Lawful n (AnExpression 13) p q → Lawful n (AStatement false) v w
     → (linkage : Linkage) (ty : Ty)
@@ -204,5 +214,5 @@ lawful_function m n small p q v w l h linkage ty = keeps_within (Is s.LeftParen)
     (λ ps. lawful_from (n - 1) _ _ _
     (λ at. lawful_then (n - 1) s.RightParen _ _ _ right_paren
     (λ c. lawful_with_phrase (n - 1) (IsEnd linkage ps) spelled_end (end_at ty ps) _ _ _ _ _
-        (lawful_end m (n - 1) (omega arith) p q v w (fewer_than (n - 1) n (omega arith) l) (fewer_than (n - 1) n (omega arith) h) linkage ty ps)
+    (lawful_end m (n - 1) (omega arith) p q v w (fewer_than (n - 1) n (omega arith) l) (fewer_than (n - 1) n (omega arith) h) linkage ty ps)
     (λ kind. lawful_pure (n - 1) (at, kind)))))))

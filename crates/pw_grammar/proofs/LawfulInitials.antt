@@ -41,10 +41,12 @@ unfolding is_same
 end_is_no_constant e = cc
 
 constant_goes_on : (at : ℕ) → GoesOn AConstant at []
-constant_goes_on at = record
-  { rest = a_number.token ∷ []; value = value_of a_number.token
-  ; reads = λ x o. record { phrase = a_number.token; is = inl a_number.sort_is; spells = refl; value_is = refl }
-  ; starts = λ e x o. number_starts x }
+constant_goes_on at = record {
+  rest = a_number.token ∷ [];
+  value = value_of a_number.token;
+  reads = λ x o. record { phrase = a_number.token; is = inl a_number.sort_is; spells = refl; value_is = refl };
+  starts = λ e x o. number_starts x;
+}
 
 lawful_constant : (n : ℕ) → Lawful n AConstant r.constant_value r.constant_value
 unfolding r.constant_value sees
@@ -60,29 +62,32 @@ AKind = APhrase g.IsElement g.spelled_element kind_at
 
 word_is : Within (WithName (λ x. Pure (i.Word x))) AKind
 word_is at a u x y = record
-  { phrase = g.Element.word y.token; is = y.sort_is; spells = y.splits ∙ ap (λ v. y.token ∷ v) y.second.empty; value_is = y.second.is }
+    { phrase = g.Element.word y.token; is = y.sort_is; spells = y.splits ∙ ap (λ v. y.token ∷ v) y.second.empty; value_is = y.second.is }
 
 abbrev WithConstant : (ℕ → Language InitKind) → Language InitKind
 WithConstant M = WithPhrase (λ (t : Token). IsConstant (sort t)) (λ t. t ∷ []) (λ at t. value_of t) M
 
 positive_is : Within (WithConstant (λ n. Pure (i.Num n))) AKind
 positive_is at a u x y = record
-  { phrase = g.positive y.phrase; is = y.is; spells = y.splits ∙ ap (λ v. y.phrase ∷ v) y.second.empty; value_is = y.second.is }
+    { phrase = g.positive y.phrase; is = y.is; spells = y.splits ∙ ap (λ v. y.phrase ∷ v) y.second.empty; value_is = y.second.is }
 
 negative_is : Within (Then (Is s.Minus) (λ o. WithConstant (λ n. Pure (i.Num (g.negated n))))) AKind
 negative_is at a u x o =
     let y = o.second in
-    record
-      { phrase = g.negative o.token y.phrase
-      ; is = (same_sorts (sort o.token) s.Minus o.sort_is, y.is)
-      ; spells = o.splits ∙ ap (λ v. o.token ∷ v) (y.splits ∙ ap (λ v. y.phrase ∷ v) y.second.empty)
-      ; value_is = y.second.is }
+    record {
+      phrase = g.negative o.token y.phrase;
+      is = (same_sorts (sort o.token) s.Minus o.sort_is, y.is);
+      spells = o.splits ∙ ap (λ v. o.token ∷ v) (y.splits ∙ ap (λ v. y.phrase ∷ v) y.second.empty);
+      value_is = y.second.is;
+    }
 
 kind_goes_on : (at : ℕ) → GoesOn AKind at []
-kind_goes_on at = record
-  { rest = a_number.token ∷ []; value = _
-  ; reads = λ x o. record { phrase = g.positive a_number.token; is = inl a_number.sort_is; spells = refl; value_is = refl }
-  ; starts = λ e x o. number_starts x }
+kind_goes_on at = record {
+  rest = a_number.token ∷ [];
+  value = _;
+  reads = λ x o. record { phrase = g.positive a_number.token; is = inl a_number.sort_is; spells = refl; value_is = refl };
+  starts = λ e x o. number_starts x;
+}
 
 lawful_signed : (n : ℕ) → Lawful n AKind (either s.Minus r.element_negative r.element_positive) (either s.Minus r.element_negative r.element_positive)
 unfolding r.element_negative r.element_positive sees
@@ -108,12 +113,13 @@ abbrev AnItem : ℕ → ℕ → InitKind → Language InitItem
 AnItem first line kind = λ at a u x. IsItem first line kind at a u
 
 lawful_finish_element : (n first line : ℕ) (kind : InitKind) → Lawful n (AnItem first line kind) (r.finish_element first line kind) (r.finish_element first line kind)
-lawful_finish_element n first line kind = record
-  { settled = λ i short. refl
-  ; says = λ i. record { tokens = []; leads = leads_nowhere i; reads = record { is = refl; empty = refl } }
-  ; steady = λ k i j same near. record
-      { place = j; is = ap (λ at. Ok (record { first = first; last = at - 1; line = line; kind = kind }, j)) (sym same.at); agree = same }
-  ; can = λ at. record { rest = []; value = _; reads = λ x o. record { is = refl; empty = refl }; starts = λ e x o. o } }
+lawful_finish_element n first line kind = record {
+  settled = λ i short. refl;
+  says = λ i. record { tokens = []; leads = leads_nowhere i; reads = record { is = refl; empty = refl } };
+  steady = λ k i j same near. record
+      { place = j; is = ap (λ at. Ok (record { first = first; last = at - 1; line = line; kind = kind }, j)) (sym same.at); agree = same };
+  can = λ at. record { rest = []; value = _; reads = λ x o. record { is = refl; empty = refl }; starts = λ e x o. o };
+}
 
 abbrev pub AnElement : Language InitItem
 AnElement = APhrase g.IsElement g.spelled_element g.element_of
@@ -129,19 +135,22 @@ ItemNode first line = WithPhrase g.IsElement g.spelled_element kind_at (λ kind.
 element_is : Within (Here (λ first. Lined (λ line. ItemNode first line))) AnElement
 element_is at a u x y =
     let whole : u ≡ g.spelled_element y.phrase = y.splits ∙ (ap (λ v. g.spelled_element y.phrase ++ v) y.second.empty ∙ append-nil (g.spelled_element y.phrase)) in
-    record
-      { phrase = y.phrase
-      ; is = y.is
-      ; spells = whole
-      ; value_is = y.second.is ∙ ap (λ u. record
-          { first = at; last = at + length (g.spelled_element y.phrase) - 1; line = first_line u; kind = g.kind_of_element y.phrase }) whole }
+    record {
+      phrase = y.phrase;
+      is = y.is;
+      spells = whole;
+      value_is = y.second.is ∙ ap (λ u. record
+          { first = at; last = at + length (g.spelled_element y.phrase) - 1; line = first_line u; kind = g.kind_of_element y.phrase }) whole;
+    }
 
 item_node_goes_on : (first at : ℕ) → GoesOn (Lined (λ line. ItemNode first line)) at []
-item_node_goes_on first at = record
-  { rest = a_number.token ∷ []; value = _
-  ; reads = λ x o. record
-      { phrase = g.positive a_number.token; behind = []; is = inl a_number.sort_is; splits = refl; second = record { is = refl; empty = refl } }
-  ; starts = λ e x o. number_starts x }
+item_node_goes_on first at = record {
+  rest = a_number.token ∷ [];
+  value = _;
+  reads = λ x o. record
+      { phrase = g.positive a_number.token; behind = []; is = inl a_number.sort_is; splits = refl; second = record { is = refl; empty = refl } };
+  starts = λ e x o. number_starts x;
+}
 
 pub lawful_initial : (n : ℕ) → Lawful n AnElement r.initial r.initial
 unfolding r.initial
@@ -178,15 +187,16 @@ abbrev ANext : List InitItem → Language (List InitItem)
 ANext found = APhrase IsNext spelled_next (items_of_next found)
 
 some_next_is : (found : List InitItem) → Within (WithPhrase g.IsElement g.spelled_element g.element_of (λ x. MoreItems (found ++ x ∷ []))) (ANext found)
-some_next_is found at a u x y = record
-  { phrase = Some (y.phrase, y.second.phrase)
-  ; is = (y.is, y.second.is)
-  ; spells = y.splits ∙ ap (λ v. g.spelled_element y.phrase ++ v) y.second.spells
-  ; value_is = y.second.value_is ∙ append_assoc found (g.element_of at y.phrase ∷ []) _ }
+some_next_is found at a u x y = record {
+  phrase = Some (y.phrase, y.second.phrase);
+  is = (y.is, y.second.is);
+  spells = y.splits ∙ ap (λ v. g.spelled_element y.phrase ++ v) y.second.spells;
+  value_is = y.second.value_is ∙ append_assoc found (g.element_of at y.phrase ∷ []) _;
+}
 
 next_goes_on : (found : List InitItem) (at : ℕ) → GoesOn (ANext found) at []
 next_goes_on found at = record
-  { rest = []; value = found; reads = λ x o. record { phrase = None; is = tt; spells = refl; value_is = refl }; starts = λ e x o. o }
+    { rest = []; value = found; reads = λ x o. record { phrase = None; is = tt; spells = refl; value_is = refl }; starts = λ e x o. o }
 
 comma_by : (found : List InitItem) (at : ℕ) (a : List InitItem) (u : List Token) (o : Token) (next : Next) → sort o ≡ s.Comma → IsNext next
     → u ≡ o ∷ spelled_next next → a ≡ items_of_next found (suc at) next
@@ -202,24 +212,25 @@ comma_is found at a u x o =
 
 more_go_on : (found : List InitItem) (at : ℕ) → GoesOn (MoreItems found) at []
 more_go_on found at = record
-  { rest = []; value = found; reads = λ x o. no_more found at found [] x (record { is = refl; empty = refl }); starts = λ e x o. o }
+    { rest = []; value = found; reads = λ x o. no_more found at found [] x (record { is = refl; empty = refl }); starts = λ e x o. o }
 
 pub lawful_items : (m n : ℕ) → n ≤ m → (found : List InitItem) → Lawful n (MoreItems found) (r.more_initials m found) (r.more_initials (suc m) found)
 unfolding r.more_initials sees
 lawful_items zero n small found =
     let none = within (no_more found) (lawful_pure n found) in
-    record
-      { settled = λ i short. absurd (let e : length i.rest < n = short in omega arith)
-      ; says = none.says
-      ; steady = none.steady
-      ; can = none.can }
+    record {
+      settled = λ i short. absurd (let e : length i.rest < n = short in omega arith);
+      says = none.says;
+      steady = none.steady;
+      can = none.can;
+    }
 lawful_items (suc m) n small found = lawful_test (λ x. is_same x s.Comma) n (MoreItems found) _ _ _ _
     (keeps_within (Is s.Comma) n _ (MoreItems found) _ _ (comma_is found) (keeps_then_fewer (Is s.Comma) n _ _ _ (no_end s.Comma (λ z. cc))
     (λ o. lawful_test (λ x. is_same x s.RightBrace) (n - 1) (ANext found) _ _ _ _
-        (keeps_pure (Is s.RightBrace) (n - 1) (ANext found) found (λ at x h. record { phrase = None; is = tt; spells = refl; value_is = refl }))
-        (keeps (λ x. is_same x s.RightBrace ≡ false) (n - 1) (ANext found) _ _ (within (some_next_is found)
-        (lawful_with_phrase (n - 1) g.IsElement g.spelled_element g.element_of _ _ _ _ _ (lawful_initial (n - 1))
-        (λ x. lawful_items m (n - 1) (omega arith) (found ++ x ∷ [])))))
-        (next_goes_on found))))
+    (keeps_pure (Is s.RightBrace) (n - 1) (ANext found) found (λ at x h. record { phrase = None; is = tt; spells = refl; value_is = refl }))
+    (keeps (λ x. is_same x s.RightBrace ≡ false) (n - 1) (ANext found) _ _ (within (some_next_is found)
+    (lawful_with_phrase (n - 1) g.IsElement g.spelled_element g.element_of _ _ _ _ _ (lawful_initial (n - 1))
+    (λ x. lawful_items m (n - 1) (omega arith) (found ++ x ∷ [])))))
+    (next_goes_on found))))
     (keeps (λ x. is_same x s.Comma ≡ false) n (MoreItems found) _ _ (within (no_more found) (lawful_pure n found)))
     (more_go_on found)

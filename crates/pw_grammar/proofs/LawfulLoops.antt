@@ -32,7 +32,7 @@ AStatement declares = λ at a u x. IsStatementAt declares at a u x
 
 pub a_statement_is_lax : (declares : Bool) → Lax (AStatement declares)
 a_statement_is_lax declares at a u x y r o = record
-  { phrase = r.phrase; is = r.is; spells = r.spells; tree = r.tree; closed = λ e. o }
+    { phrase = r.phrase; is = r.is; spells = r.spells; tree = r.tree; closed = λ e. o }
 
 -- a statement, and what comes behind it
 pub record WithStatement {B : Type 0} (declares : Bool) (M : Stmt → Language B) (at : ℕ) (b : B) (u : List Token) (x : Sort) : Type 0 where
@@ -44,14 +44,15 @@ pub record WithStatement {B : Type 0} (declares : Bool) (M : Stmt → Language B
   pub second : M (tree_of_statement at phrase) (at + length (spelled_statement phrase)) b behind x
 
 statement_then : {B : Type 0} (declares : Bool) (M : Stmt → Language B) → Within (Seq (AStatement declares) M) (WithStatement declares M)
-statement_then declares M at b u x y = record
-  { phrase = y.first.phrase
-  ; behind = y.back
-  ; is = y.first.is
-  ; splits = y.splits ∙ ap (λ v. v ++ y.back) y.first.spells
-  ; closed = y.first.closed
-  ; second = subst (λ a. M a (at + length (spelled_statement y.first.phrase)) b y.back x) y.first.tree
-      (subst (λ v. M y.value (at + length v) b y.back x) y.first.spells y.second) }
+statement_then declares M at b u x y = record {
+  phrase = y.first.phrase;
+  behind = y.back;
+  is = y.first.is;
+  splits = y.splits ∙ ap (λ v. v ++ y.back) y.first.spells;
+  closed = y.first.closed;
+  second = subst (λ a. M a (at + length (spelled_statement y.first.phrase)) b y.back x) y.first.tree
+      (subst (λ v. M y.value (at + length v) b y.back x) y.first.spells y.second);
+}
 
 pub lawful_with_statement : {B : Type 0} (n : ℕ) (declares : Bool) (M : Stmt → Language B) (p q : Parser Stmt) (f g : Stmt → Parser B)
     → Lawful n (AStatement declares) p q → ((a : Stmt) → Lawful n (M a) (f a) (g a)) → Lawful n (WithStatement declares M) (p >>= f) (q >>= g)
@@ -61,11 +62,12 @@ lawful_with_statement n declares M p q f g l k =
 -- `;` is a statement
 pub statement_goes_on : (declares : Bool) (at : ℕ) → GoesOn (AStatement declares) at []
 unfolding spelled_statement IsStatement open_ended
-statement_goes_on declares at = record
-  { rest = semicolon.token ∷ []
-  ; value = tree_of_statement at (empty semicolon.token)
-  ; reads = λ x o. record { phrase = empty semicolon.token; is = semicolon.sort_is; spells = refl; tree = refl; closed = λ e. o }
-  ; starts = λ e x o. subst (λ z. z ≢ s.Else) (sym semicolon.sort_is) semicolon.no_else }
+statement_goes_on declares at = record {
+  rest = semicolon.token ∷ [];
+  value = tree_of_statement at (empty semicolon.token);
+  reads = λ x o. record { phrase = empty semicolon.token; is = semicolon.sort_is; spells = refl; tree = refl; closed = λ e. o };
+  starts = λ e x o. subst (λ z. z ≢ s.Else) (sym semicolon.sort_is) semicolon.no_else;
+}
 
 -- ---- a statement has a token
 
@@ -108,12 +110,12 @@ may_declare (jump t e) i = i
 
 statement_in_block : Within (AStatement false) (AStatement true)
 statement_in_block at a u x y = record
-  { phrase = y.phrase; is = may_declare y.phrase y.is; spells = y.spells; tree = y.tree; closed = y.closed }
+    { phrase = y.phrase; is = may_declare y.phrase y.is; spells = y.spells; tree = y.tree; closed = y.closed }
 
 local_in_block : Within ALocal (AStatement true)
 unfolding spelled_statement IsStatement open_ended kind_of
 local_in_block at a u x y = record
-  { phrase = declare y.phrase; is = (refl, y.is); spells = y.spells; tree = y.value_is; closed = λ e. absurd cc }
+    { phrase = declare y.phrase; is = (refl, y.is); spells = y.spells; tree = y.value_is; closed = λ e. absurd cc }
 
 lawful_element : (n : ℕ) (p q : Parser Expr) (v w : Parser Stmt) → Lawful n (AnExpression 13) p q → Lawful n (AStatement false) v w
     → Lawful n (AStatement true) (r.element p v) (r.element q w)
@@ -133,15 +135,16 @@ no_more found at a u x y = record { phrase = nil; is = tt; spells = y.empty; val
 
 one_more : (found : List Stmt) → Within (WithStatement true (λ y. Elements (found ++ y ∷ []))) (Elements found)
 unfolding spelled_statements AreStatements trees_of_statements
-one_more found at a u x y = record
-  { phrase = cons y.phrase y.second.phrase
-  ; is = (y.is, y.second.is)
-  ; spells = y.splits ∙ ap (λ v. spelled_statement y.phrase ++ v) y.second.spells
-  ; value_is = y.second.value_is ∙ append_assoc found (tree_of_statement at y.phrase ∷ []) _ }
+one_more found at a u x y = record {
+  phrase = cons y.phrase y.second.phrase;
+  is = (y.is, y.second.is);
+  spells = y.splits ∙ ap (λ v. spelled_statement y.phrase ++ v) y.second.spells;
+  value_is = y.second.value_is ∙ append_assoc found (tree_of_statement at y.phrase ∷ []) _;
+}
 
 elements_go_on : (found : List Stmt) (at : ℕ) → GoesOn (Elements found) at []
 elements_go_on found at = record
-  { rest = []; value = found; reads = λ x o. no_more found at found [] x (record { is = refl; empty = refl }); starts = λ e x o. o }
+    { rest = []; value = found; reads = λ x o. no_more found at found [] x (record { is = refl; empty = refl }); starts = λ e x o. o }
 
 -- m turns, where fewer than m tokens are left
 pub lawful_elements : (m n : ℕ) → n ≤ m → (p q : Parser Expr) (v w : Parser Stmt) → Lawful n (AnExpression 13) p q → Lawful n (AStatement false) v w
@@ -149,11 +152,12 @@ pub lawful_elements : (m n : ℕ) → n ≤ m → (p q : Parser Expr) (v w : Par
 unfolding r.elements sees
 lawful_elements zero n small p q v w l k found =
     let none = within (no_more found) (lawful_pure n found) in
-    record
-      { settled = λ i short. absurd (let e : length i.rest < n = short in omega arith)
-      ; says = none.says
-      ; steady = none.steady
-      ; can = none.can }
+    record {
+      settled = λ i short. absurd (let e : length i.rest < n = short in omega arith);
+      says = none.says;
+      steady = none.steady;
+      can = none.can;
+    }
 lawful_elements (suc m) n small p q v w l k found = lawful_test (λ x. is_same x s.RightBrace) n (Elements found) _ _ _ _
     (keeps (Is s.RightBrace) n (Elements found) _ _ (within (no_more found) (lawful_pure n found)))
     (keeps (λ x. is_same x s.RightBrace ≡ false) n (Elements found) _ _ (within (one_more found) (within (statement_then true _)

@@ -22,19 +22,21 @@ use Rattle.pw_lex.specs.declared.token.TokenKind.TheVariants as t
 -- ---- fewer turns
 
 pub lawful_fewer : {A : Type 0} (m n : ℕ) (L : Language A) (p q : Parser A) → n ≤ m → Lawful m L p q → Lawful n L p q
-lawful_fewer m n L p q less l = record
-  { settled = λ i short. l.settled i (let longer : length i.rest < m = omega arith in longer)
-  ; says = l.says
-  ; steady = l.steady
-  ; can = l.can }
+lawful_fewer m n L p q less l = record {
+  settled = λ i short. l.settled i (let longer : length i.rest < m = omega arith in longer);
+  says = l.says;
+  steady = l.steady;
+  can = l.can;
+}
 
 -- no turns are more than the tokens
 pub lawful_none : {A : Type 0} (n : ℕ) (L : Language A) (p p' q : Parser A) → Lawful n L p p' → Lawful 0 L p q
-lawful_none n L p p' q l = record
-  { settled = λ i short. absurd (let none : length i.rest < 0 = short in omega arith)
-  ; says = l.says
-  ; steady = l.steady
-  ; can = l.can }
+lawful_none n L p p' q l = record {
+  settled = λ i short. absurd (let none : length i.rest < 0 = short in omega arith);
+  says = l.says;
+  steady = l.steady;
+  can = l.can;
+}
 
 leaves_both : {A B : Type 0} (n : ℕ) (M : A → Language B) (f : A → Parser B) → ((a : A) (j : Place) → Says (M a) j (f a j))
     → (o : Outcome A) → Leaves n o → Leaves n (and_then o f)
@@ -83,11 +85,11 @@ an_onward_is_lax m n first left = λ at a u x y r o. r
 -- no token
 pub onward_stays : (m n first : ℕ) (left : Expr) (at : ℕ) → m ≤ n → Onward m n first left at left []
 onward_stays m n first left at less = record
-  { onward = λ c is tree at_is. record { phrase = c; is = looser m n c less is; spells = append-nil (spelled c); tree = tree } }
+    { onward = λ c is tree at_is. record { phrase = c; is = looser m n c less is; spells = append-nil (spelled c); tree = tree } }
 
 pub onward_goes_on : (m n first : ℕ) (left : Expr) (at : ℕ) → m ≤ n → GoesOn (AnOnward m n first left) at []
 onward_goes_on m n first left at less = record
-  { rest = []; value = left; reads = λ x o. onward_stays m n first left at less; starts = λ e x o. o }
+    { rest = []; value = left; reads = λ x o. onward_stays m n first left at less; starts = λ e x o. o }
 
 pub lawful_stays : (k m n first : ℕ) (left : Expr) → m ≤ n → Lawful k (AnOnward m n first left) (pure left) (pure left)
 lawful_stays k m n first left less = within inside (lawful_pure k left)
@@ -98,14 +100,17 @@ lawful_stays k m n first left less = within inside (lawful_pure k left)
 
 -- once more
 pub onward_again : (k m n first : ℕ) (left : Expr) → Within (Seq (AnOnward k m first left) (λ a. AnOnward m n first a)) (AnOnward k n first left)
-onward_again k m n first left at a u x y = record { onward = λ c is tree at_is.
-    let d = y.first.onward c is tree at_is in
-    let z = y.second.onward d.phrase d.is d.tree (count first at (spelled c) y.front (spelled d.phrase) at_is d.spells) in
-    record
-      { phrase = z.phrase
-      ; is = z.is
-      ; spells = ap (λ v. spelled c ++ v) y.splits ∙ (sym (append_assoc (spelled c) y.front y.back) ∙ (ap (λ v. v ++ y.back) d.spells ∙ z.spells))
-      ; tree = z.tree } }
+onward_again k m n first left at a u x y = record {
+  onward = λ c is tree at_is.
+      let d = y.first.onward c is tree at_is in
+      let z = y.second.onward d.phrase d.is d.tree (count first at (spelled c) y.front (spelled d.phrase) at_is d.spells) in
+      record {
+        phrase = z.phrase;
+        is = z.is;
+        spells = ap (λ v. spelled c ++ v) y.splits ∙ (sym (append_assoc (spelled c) y.front y.back) ∙ (ap (λ v. v ++ y.back) d.spells ∙ z.spells));
+        tree = z.tree;
+      };
+}
   where
     count : (first at : ℕ) (u v w : List Token) → at ≡ first + length u → u ++ v ≡ w → at + length v ≡ first + length w
     count first at u v w e f = omega (arith, e, ap length f, length-append u v)
@@ -155,11 +160,12 @@ unfolding spelled_more AreMore trees_of_more
 one_more found at a u x y =
     let b = y.second in
     let z = b.second in
-    record
-      { list = g.more y.token b.phrase z.list
-      ; are = (same_sorts (sort y.token) s.Comma y.sort_is, b.is, z.are)
-      ; spells = y.splits ∙ ap (λ v. y.token ∷ v) (b.splits ∙ ap (λ v. spelled b.phrase ++ v) z.spells)
-      ; trees = z.trees ∙ append_assoc found (tree_of (suc at) b.phrase ∷ []) _ }
+    record {
+      list = g.more y.token b.phrase z.list;
+      are = (same_sorts (sort y.token) s.Comma y.sort_is, b.is, z.are);
+      spells = y.splits ∙ ap (λ v. y.token ∷ v) (b.splits ∙ ap (λ v. spelled b.phrase ++ v) z.spells);
+      trees = z.trees ∙ append_assoc found (tree_of (suc at) b.phrase ∷ []) _;
+    }
 
 lawful_more : (n m : ℕ) (p q : Parser Expr) (found : List Expr) → m ≤ suc n → Lawful n (AnExpression 13) p q
     → Lawful m (SomeMore found) (r.more_arguments p m found) (r.more_arguments q (suc m) found)
@@ -178,11 +184,12 @@ some_are : Within (WithExpression 13 (λ a. SomeMore (a ∷ []))) SomeArguments
 unfolding spelled_arguments AreArguments trees_of
 some_are at a u x y =
     let z = y.second in
-    record
-      { list = g.arguments y.phrase z.list
-      ; are = (y.is, z.are)
-      ; spells = y.splits ∙ ap (λ v. spelled y.phrase ++ v) z.spells
-      ; trees = z.trees }
+    record {
+      list = g.arguments y.phrase z.list;
+      are = (y.is, z.are);
+      spells = y.splits ∙ ap (λ v. spelled y.phrase ++ v) z.spells;
+      trees = z.trees;
+    }
 
 no_arguments : (at : ℕ) → HasArguments at [] []
 unfolding spelled_arguments AreArguments trees_of
@@ -219,15 +226,18 @@ unfolding spelled IsAt tree_of
 call_is first left at a u x y =
     let xs = y.second in
     let c = xs.second in
-    record { onward = λ f is tree at_is. record
-      { phrase = g.call f y.token xs.first.list c.token
-      ; is = (omega arith, is, same_sorts (sort y.token) s.LeftParen y.sort_is, xs.first.are, c.sort_is)
-      ; spells = ap (λ v. spelled f ++ v) (y.splits ∙ ap (λ v. y.token ∷ v) (xs.splits ∙ (ap (λ v. v ++ xs.back) xs.first.spells
-          ∙ ap (λ v. spelled_arguments xs.first.list ++ v) (c.splits ∙ ap (λ v. c.token ∷ v) c.second.empty))))
-      ; tree = c.second.is ∙ same_node first _ _ y.token.line _ _
-          (count_suffix first at (spelled f) (spelled_arguments xs.first.list) xs.front y.token c.token at_is xs.first.spells)
-          (ap (λ b. e.Call b xs.value) tree ∙ ap (λ v. e.Call (tree_of first f) v)
-          (xs.first.trees ∙ ap (λ n. trees_of (suc n) xs.first.list) at_is)) } }
+    record {
+      onward = λ f is tree at_is. record {
+        phrase = g.call f y.token xs.first.list c.token;
+        is = (omega arith, is, same_sorts (sort y.token) s.LeftParen y.sort_is, xs.first.are, c.sort_is);
+        spells = ap (λ v. spelled f ++ v) (y.splits ∙ ap (λ v. y.token ∷ v) (xs.splits ∙ (ap (λ v. v ++ xs.back) xs.first.spells
+            ∙ ap (λ v. spelled_arguments xs.first.list ++ v) (c.splits ∙ ap (λ v. c.token ∷ v) c.second.empty))));
+        tree = c.second.is ∙ same_node first _ _ y.token.line _ _
+            (count_suffix first at (spelled f) (spelled_arguments xs.first.list) xs.front y.token c.token at_is xs.first.spells)
+            (ap (λ b. e.Call b xs.value) tree ∙ ap (λ v. e.Call (tree_of first f) v)
+            (xs.first.trees ∙ ap (λ n. trees_of (suc n) xs.first.list) at_is));
+      };
+    }
 
 -- `[ i ]` behind a phrase
 index_is : (first : ℕ) (left : Expr) → Within (Then (λ x. is_same x s.LeftBracket ≡ true) (λ line. WithExpression 13 (λ i.
@@ -236,14 +246,17 @@ unfolding spelled IsAt tree_of
 index_is first left at a u x y =
     let b = y.second in
     let c = b.second in
-    record { onward = λ f is tree at_is. record
-      { phrase = g.index f y.token b.phrase c.token
-      ; is = (omega arith, is, same_sorts (sort y.token) s.LeftBracket y.sort_is, b.is, c.sort_is)
-      ; spells = ap (λ v. spelled f ++ v) (y.splits ∙ ap (λ v. y.token ∷ v) (b.splits
-          ∙ ap (λ v. spelled b.phrase ++ v) (c.splits ∙ ap (λ v. c.token ∷ v) c.second.empty)))
-      ; tree = c.second.is ∙ same_node first _ _ y.token.line _ _
-          (count_suffix first at (spelled f) (spelled b.phrase) (spelled b.phrase) y.token c.token at_is refl)
-          (ap (λ l. e.Index l (tree_of (suc at) b.phrase)) tree ∙ ap (λ n. e.Index (tree_of first f) (tree_of (suc n) b.phrase)) at_is) } }
+    record {
+      onward = λ f is tree at_is. record {
+        phrase = g.index f y.token b.phrase c.token;
+        is = (omega arith, is, same_sorts (sort y.token) s.LeftBracket y.sort_is, b.is, c.sort_is);
+        spells = ap (λ v. spelled f ++ v) (y.splits ∙ ap (λ v. y.token ∷ v) (b.splits
+            ∙ ap (λ v. spelled b.phrase ++ v) (c.splits ∙ ap (λ v. c.token ∷ v) c.second.empty)));
+        tree = c.second.is ∙ same_node first _ _ y.token.line _ _
+            (count_suffix first at (spelled f) (spelled b.phrase) (spelled b.phrase) y.token c.token at_is refl)
+            (ap (λ l. e.Index l (tree_of (suc at) b.phrase)) tree ∙ ap (λ n. e.Index (tree_of first f) (tree_of (suc n) b.phrase)) at_is);
+      };
+    }
 
 pub bracket : Sample s.RightBracket
 unfolding sort_of
@@ -258,21 +271,22 @@ lawful_suffixes n zero p q k k' first left less l xs =
     lawful_none 0 (AnOnward 1 1 first left) _ _ _ (lawful_stays 0 1 1 first left (omega arith))
 lawful_suffixes n (suc m) p q k k' first left less l xs = lawful_test (λ x. is_same x s.LeftParen) (suc m) L _ _ _ _
     (keeps_within (λ x. is_same x s.LeftParen ≡ true) (suc m) _ _ _ _ (onward_again 1 1 1 first left)
-        (keeps_then_on (λ x. is_same x s.LeftParen ≡ true) m _ L _ _ _ _ _ (is_no_end s.LeftParen (λ z. cc)) (an_onward_is_lax 1 1 first left) (call_is first left)
-        (λ line. bind m SomeArguments _ _ _ _ _ (λ at a u x y o z. o) (lawful_fewer n m SomeArguments _ _ (omega arith) xs)
-            (λ a. lawful_then m s.RightParen _ _ _ paren (λ c. lawful_finish m first line (e.Call left a))))
-        (λ a. lawful_suffixes n m p q k k' first a (omega arith) l xs)))
+    (keeps_then_on (λ x. is_same x s.LeftParen ≡ true) m _ L _ _ _ _ _ (is_no_end s.LeftParen (λ z. cc)) (an_onward_is_lax 1 1 first left) (call_is first left)
+    (λ line. bind m SomeArguments _ _ _ _ _ (λ at a u x y o z. o) (lawful_fewer n m SomeArguments _ _ (omega arith) xs)
+    (λ a. lawful_then m s.RightParen _ _ _ paren (λ c. lawful_finish m first line (e.Call left a))))
+    (λ a. lawful_suffixes n m p q k k' first a (omega arith) l xs)))
     (keeps (λ x. is_same x s.LeftParen ≡ false) (suc m) L _ _ (lawful_test (λ x. is_same x s.LeftBracket) (suc m) L _ _ _ _
     (keeps_within (λ x. is_same x s.LeftBracket ≡ true) (suc m) _ _ _ _ (onward_again 1 1 1 first left)
-        (keeps_then_on (λ x. is_same x s.LeftBracket ≡ true) m _ L _ _ _ _ _ (is_no_end s.LeftBracket (λ z. cc)) (an_onward_is_lax 1 1 first left) (index_is first left)
-        (λ line. lawful_with m 13 _ p q _ _ (lawful_fewer n m (AnExpression 13) p q (omega arith) l)
-            (λ a. lawful_then m s.RightBracket _ _ _ bracket (λ c. lawful_finish m first line (e.Index left a))))
-        (λ a. lawful_suffixes n m p q k k' first a (omega arith) l xs)))
+    (keeps_then_on (λ x. is_same x s.LeftBracket ≡ true) m _ L _ _ _ _ _ (is_no_end s.LeftBracket (λ z. cc)) (an_onward_is_lax 1 1 first left) (index_is first left)
+    (λ line. lawful_with m 13 _ p q _ _ (lawful_fewer n m (AnExpression 13) p q (omega arith) l)
+    (λ a. lawful_then m s.RightBracket _ _ _ bracket (λ c. lawful_finish m first line (e.Index left a))))
+    (λ a. lawful_suffixes n m p q k k' first a (omega arith) l xs)))
     (keeps (λ x. is_same x s.LeftBracket ≡ false) (suc m) L _ _ (lawful_stays (suc m) 1 1 first left (omega arith)))
     can)) can
   where
     L : Language Expr
     L = AnOnward 1 1 first left
+
     can : (at : ℕ) → GoesOn (AnOnward 1 1 first left) at []
     can at = onward_goes_on 1 1 first left at (omega arith)
 

@@ -28,11 +28,12 @@ given_is : {A : Type 0} (z : Sort) (a : A) {P : Type 0} (C : P → Type 0) (spel
     → Within (Then (Is z) (λ o. Pure a)) (APhrase C spell tree)
 given_is z a C spell tree make is spells value at b u x y =
     let same : sort y.token ≡ z = same_sorts (sort y.token) z y.sort_is in
-    record
-      { phrase = make y.token
-      ; is = is y.token same
-      ; spells = y.splits ∙ (ap (λ v. y.token ∷ v) y.second.empty ∙ sym (spells y.token))
-      ; value_is = y.second.is ∙ sym (value at y.token same) }
+    record {
+      phrase = make y.token;
+      is = is y.token same;
+      spells = y.splits ∙ (ap (λ v. y.token ∷ v) y.second.empty ∙ sym (spells y.token));
+      value_is = y.second.is ∙ sym (value at y.token same);
+    }
 
 pub keeps_given : {A : Type 0} (n : ℕ) (z : Sort) → s.End ≢ z → (a : A) {P : Type 0} (C : P → Type 0) (spell : P → List Token) (tree : ℕ → P → A) (make : Token → P)
     → ((t : Token) → sort t ≡ z → C (make t)) → ((t : Token) → spell (make t) ≡ t ∷ []) → ((at : ℕ) (t : Token) → sort t ≡ z → tree at (make t) ≡ a)
@@ -51,7 +52,7 @@ AStorage = APhrase g.IsStorage g.spelled_storage linkage_at
 
 storage_goes_on : (at : ℕ) → GoesOn AStorage at []
 storage_goes_on at = record
-  { rest = []; value = linkage.Plain; reads = λ x o. record { phrase = None; is = tt; spells = refl; value_is = refl }; starts = λ e x o. o }
+    { rest = []; value = linkage.Plain; reads = λ x o. record { phrase = None; is = tt; spells = refl; value_is = refl }; starts = λ e x o. o }
 
 lawful_static : (n : ℕ) → Lawful n AStorage (either s.Static (r.given linkage.Static) (pure linkage.Plain)) (either s.Static (r.given linkage.Static) (pure linkage.Plain))
 unfolding sees
@@ -76,10 +77,12 @@ abbrev pub AResult : Language Ty
 AResult = APhrase g.IsResult g.spelled_result result_at
 
 result_goes_on : (at : ℕ) → GoesOn AResult at []
-result_goes_on at = record
-  { rest = void.token ∷ []; value = Void
-  ; reads = λ x o. record { phrase = g.nothing void.token; is = void.sort_is; spells = refl; value_is = refl }
-  ; starts = λ e x o. subst (λ z. z ≢ s.Else) (sym void.sort_is) void.no_else }
+result_goes_on at = record {
+  rest = void.token ∷ [];
+  value = Void;
+  reads = λ x o. record { phrase = g.nothing void.token; is = void.sort_is; spells = refl; value_is = refl };
+  starts = λ e x o. subst (λ z. z ≢ s.Else) (sym void.sort_is) void.no_else;
+}
 
 type_result_is : Within AType AResult
 type_result_is at a u x y = record { phrase = g.value y.phrase; is = y.is; spells = y.spells; value_is = y.value_is }
@@ -101,11 +104,11 @@ AMaybeName = APhrase g.IsNamed g.spelled_name named_at
 
 some_name_is : Within (WithName (λ x. Pure (Some x))) AMaybeName
 some_name_is at a u x y = record
-  { phrase = Some y.token; is = y.sort_is; spells = y.splits ∙ ap (λ v. y.token ∷ v) y.second.empty; value_is = y.second.is }
+    { phrase = Some y.token; is = y.sort_is; spells = y.splits ∙ ap (λ v. y.token ∷ v) y.second.empty; value_is = y.second.is }
 
 maybe_name_goes_on : (at : ℕ) → GoesOn AMaybeName at []
 maybe_name_goes_on at = record
-  { rest = []; value = None; reads = λ x o. record { phrase = None; is = tt; spells = refl; value_is = refl }; starts = λ e x o. o }
+    { rest = []; value = None; reads = λ x o. record { phrase = None; is = tt; spells = refl; value_is = refl }; starts = λ e x o. o }
 
 lawful_maybe_name : (n : ℕ) → Lawful n AMaybeName r.maybe_name r.maybe_name
 unfolding r.maybe_name some sees
@@ -122,12 +125,13 @@ abbrev AParam : ℕ → Ty → Option (List ℕ) → Language Param
 AParam first ty x = λ at a u y. IsParam first ty x at a u
 
 lawful_finish_parameter : (n first : ℕ) (ty : Ty) (x : Option (List ℕ)) → Lawful n (AParam first ty x) (r.finish_parameter first ty x) (r.finish_parameter first ty x)
-lawful_finish_parameter n first ty x = record
-  { settled = λ i short. refl
-  ; says = λ i. record { tokens = []; leads = leads_nowhere i; reads = record { is = refl; empty = refl } }
-  ; steady = λ k i j same near. record
-      { place = j; is = ap (λ at. Ok (record { ty = ty; name = x; first = first; last = at - 1 }, j)) (sym same.at); agree = same }
-  ; can = λ at. record { rest = []; value = _; reads = λ x o. record { is = refl; empty = refl }; starts = λ e x o. o } }
+lawful_finish_parameter n first ty x = record {
+  settled = λ i short. refl;
+  says = λ i. record { tokens = []; leads = leads_nowhere i; reads = record { is = refl; empty = refl } };
+  steady = λ k i j same near. record
+      { place = j; is = ap (λ at. Ok (record { ty = ty; name = x; first = first; last = at - 1 }, j)) (sym same.at); agree = same };
+  can = λ at. record { rest = []; value = _; reads = λ x o. record { is = refl; empty = refl }; starts = λ e x o. o };
+}
 
 abbrev pub AParameter : Language Param
 AParameter = APhrase g.IsParameter g.spelled_parameter g.parameter_of
@@ -135,12 +139,13 @@ AParameter = APhrase g.IsParameter g.spelled_parameter g.parameter_of
 parameter_is : Within (Here (λ first. WithPhrase IsType spelled_type (λ at p. type_in p) (λ ty. WithPhrase g.IsNamed g.spelled_name named_at (λ x. AParam first ty x)))) AParameter
 parameter_is at a u x y =
     let n = y.second in
-    record
-      { phrase = record { ty = y.phrase; name = n.phrase }
-      ; is = (y.is, n.is)
-      ; spells = y.splits ∙ ap (λ v. spelled_type y.phrase ++ v) (n.splits ∙ (ap (λ v. g.spelled_name n.phrase ++ v) n.second.empty ∙ append-nil (g.spelled_name n.phrase)))
-      ; value_is = n.second.is ∙ ap (λ m. record { ty = type_in y.phrase; name = g.named n.phrase; first = at; last = m - 1 })
-          (count at (length (spelled_type y.phrase)) _ _ (length-append (spelled_type y.phrase) (g.spelled_name n.phrase))) }
+    record {
+      phrase = record { ty = y.phrase; name = n.phrase };
+      is = (y.is, n.is);
+      spells = y.splits ∙ ap (λ v. spelled_type y.phrase ++ v) (n.splits ∙ (ap (λ v. g.spelled_name n.phrase ++ v) n.second.empty ∙ append-nil (g.spelled_name n.phrase)));
+      value_is = n.second.is ∙ ap (λ m. record { ty = type_in y.phrase; name = g.named n.phrase; first = at; last = m - 1 })
+          (count at (length (spelled_type y.phrase)) _ _ (length-append (spelled_type y.phrase) (g.spelled_name n.phrase)));
+    }
   where
     count : (at n m l : ℕ) → l ≡ n + m → at + n + m ≡ at + l
     count at n m l e = omega arith
@@ -163,25 +168,27 @@ one_more : (found : List Param) → Within (Then (Is s.Comma) (λ o. WithPhrase 
 unfolding g.spelled_more_parameters g.AreMoreParameters g.more_parameters_of
 one_more found at a u x o =
     let y = o.second in
-    record
-      { phrase = g.MoreParameters.more o.token y.phrase y.second.phrase
-      ; is = (same_sorts (sort o.token) s.Comma o.sort_is, y.is, y.second.is)
-      ; spells = o.splits ∙ ap (λ v. o.token ∷ v) (y.splits ∙ ap (λ v. g.spelled_parameter y.phrase ++ v) y.second.spells)
-      ; value_is = y.second.value_is ∙ append_assoc found (g.parameter_of (suc at) y.phrase ∷ []) _ }
+    record {
+      phrase = g.MoreParameters.more o.token y.phrase y.second.phrase;
+      is = (same_sorts (sort o.token) s.Comma o.sort_is, y.is, y.second.is);
+      spells = o.splits ∙ ap (λ v. o.token ∷ v) (y.splits ∙ ap (λ v. g.spelled_parameter y.phrase ++ v) y.second.spells);
+      value_is = y.second.value_is ∙ append_assoc found (g.parameter_of (suc at) y.phrase ∷ []) _;
+    }
 
 more_go_on : (found : List Param) (at : ℕ) → GoesOn (More found) at []
 more_go_on found at = record
-  { rest = []; value = found; reads = λ x o. no_more found at found [] x (record { is = refl; empty = refl }); starts = λ e x o. o }
+    { rest = []; value = found; reads = λ x o. no_more found at found [] x (record { is = refl; empty = refl }); starts = λ e x o. o }
 
 lawful_more : (m n : ℕ) → n ≤ m → (found : List Param) → Lawful n (More found) (r.more_parameters m found) (r.more_parameters (suc m) found)
 unfolding r.more_parameters sees
 lawful_more zero n small found =
     let none = within (no_more found) (lawful_pure n found) in
-    record
-      { settled = λ i short. absurd (let e : length i.rest < n = short in omega arith)
-      ; says = none.says
-      ; steady = none.steady
-      ; can = none.can }
+    record {
+      settled = λ i short. absurd (let e : length i.rest < n = short in omega arith);
+      says = none.says;
+      steady = none.steady;
+      can = none.can;
+    }
 lawful_more (suc m) n small found = lawful_test (λ x. is_same x s.Comma) n (More found) _ _ _ _
     (keeps_within (Is s.Comma) n _ (More found) _ _ (one_more found) (keeps_then_fewer (Is s.Comma) n _ _ _ (no_end s.Comma (λ z. cc))
     (λ o. lawful_with_phrase (n - 1) g.IsParameter g.spelled_parameter g.parameter_of _ _ _ _ _ (lawful_parameter (n - 1))
@@ -193,17 +200,20 @@ abbrev pub AParameters : Language (List Param)
 AParameters = APhrase g.AreParameters g.spelled_parameters g.parameters_of
 
 some_parameters_is : Within (WithPhrase g.IsParameter g.spelled_parameter g.parameter_of (λ p. More (p ∷ []))) AParameters
-some_parameters_is at a u x y = record
-  { phrase = g.some y.phrase y.second.phrase
-  ; is = (y.is, y.second.is)
-  ; spells = y.splits ∙ ap (λ v. g.spelled_parameter y.phrase ++ v) y.second.spells
-  ; value_is = y.second.value_is }
+some_parameters_is at a u x y = record {
+  phrase = g.some y.phrase y.second.phrase;
+  is = (y.is, y.second.is);
+  spells = y.splits ∙ ap (λ v. g.spelled_parameter y.phrase ++ v) y.second.spells;
+  value_is = y.second.value_is;
+}
 
 pub parameters_go_on : (at : ℕ) → GoesOn AParameters at []
-parameters_go_on at = record
-  { rest = void.token ∷ []; value = []
-  ; reads = λ x o. record { phrase = g.none void.token; is = void.sort_is; spells = refl; value_is = refl }
-  ; starts = λ e x o. subst (λ z. z ≢ s.Else) (sym void.sort_is) void.no_else }
+parameters_go_on at = record {
+  rest = void.token ∷ [];
+  value = [];
+  reads = λ x o. record { phrase = g.none void.token; is = void.sort_is; spells = refl; value_is = refl };
+  starts = λ e x o. subst (λ z. z ≢ s.Else) (sym void.sort_is) void.no_else;
+}
 
 pub lawful_parameters : (m n : ℕ) → n ≤ m → Lawful n AParameters (r.parameters m) (r.parameters (suc m))
 unfolding r.parameters r.some_parameters sees

@@ -54,10 +54,11 @@ operators_go_on found at = record { rest = []; value = found; reads = λ x o. no
 one_operator : (found : List (Un × ℕ)) (op : Un)
     → Within (Then (λ x. prefix_of x ≡ Some op) (λ line. SomeOperators (found ++ (op, line) ∷ []))) (SomeOperators found)
 unfolding ArePrefixes operators_in
-one_operator found op at a u x y = record
-  { are = subst ArePrefixes (sym y.splits) ((op, y.sort_is), y.second.are)
-  ; is = y.second.is ∙ (append_assoc found ((op, y.token.line) ∷ []) (operators_in y.behind)
-      ∙ ap (λ v. found ++ v) (ap (λ b. (b, y.token.line) ∷ operators_in y.behind) (sym (ap prefix_or y.sort_is)) ∙ ap operators_in (sym y.splits))) }
+one_operator found op at a u x y = record {
+  are = subst ArePrefixes (sym y.splits) ((op, y.sort_is), y.second.are);
+  is = y.second.is ∙ (append_assoc found ((op, y.token.line) ∷ []) (operators_in y.behind)
+      ∙ ap (λ v. found ++ v) (ap (λ b. (b, y.token.line) ∷ operators_in y.behind) (sym (ap prefix_or y.sort_is)) ∙ ap operators_in (sym y.splits)));
+}
 
 end_has_no_prefix : (op : Un) → prefix_of s.End ≡ Some op → ⊥
 end_has_no_prefix op e = cc
@@ -83,14 +84,15 @@ lawful_operators zero found = lawful_none 0 (SomeOperators found) _ (pure found)
   where
     inside : Within (Pure found) (SomeOperators found)
     inside at a u x y = subst (λ v. HasOperators found a v) (sym y.empty) (subst (λ b. HasOperators found b []) (sym y.is) (no_operators found))
+
     none_read : Lawful 0 (SomeOperators found) (r.operators 0 found) (pure found)
     none_read = within inside (lawful_pure 0 found)
 lawful_operators (suc m) found = lawful_equal (suc m) (SomeOperators found) _ _ _ _ (operators_are m found) (operators_are (suc m) found)
     (lawful_option prefix_of (suc m) (SomeOperators found) (operators_at m found) (operators_at (suc m) found)
-        (keeps_pure _ (suc m) (SomeOperators found) found (λ at x o. no_operators found))
-        (λ op. keeps_within (λ x. prefix_of x ≡ Some op) (suc m) _ _ _ _ (one_operator found op)
-            (keeps_then (λ x. prefix_of x ≡ Some op) m _ _ _ (end_has_no_prefix op) (λ line. lawful_operators m (found ++ (op, line) ∷ []))))
-        (operators_go_on found))
+    (keeps_pure _ (suc m) (SomeOperators found) found (λ at x o. no_operators found))
+    (λ op. keeps_within (λ x. prefix_of x ≡ Some op) (suc m) _ _ _ _ (one_operator found op)
+    (keeps_then (λ x. prefix_of x ≡ Some op) m _ _ _ (end_has_no_prefix op) (λ line. lawful_operators m (found ++ (op, line) ∷ []))))
+    (operators_go_on found))
 
 -- ---- the operand behind them
 
@@ -104,11 +106,12 @@ AWrapped first ops operand = λ at a u x. IsWrapped first ops operand at a u
 lawful_wrap : (n first : ℕ) (ops : List (Un × ℕ)) (operand : Expr)
     → Lawful n (AWrapped first ops operand) (r.wrap first ops operand) (r.wrap first ops operand)
 unfolding r.wrap
-lawful_wrap n first ops operand = record
-  { settled = λ i short. refl
-  ; says = λ i. record { tokens = []; leads = leads_nowhere i; reads = record { is = refl; empty = refl } }
-  ; steady = λ k i j same near. record { place = j; is = ap (λ at. Ok (r.wrapped first (at - 1) ops operand, j)) (sym same.at); agree = same }
-  ; can = λ at. record { rest = []; value = _; reads = λ x o. record { is = refl; empty = refl }; starts = λ e x o. o } }
+lawful_wrap n first ops operand = record {
+  settled = λ i short. refl;
+  says = λ i. record { tokens = []; leads = leads_nowhere i; reads = record { is = refl; empty = refl } };
+  steady = λ k i j same near. record { place = j; is = ap (λ at. Ok (r.wrapped first (at - 1) ops operand, j)) (sym same.at); agree = same };
+  can = λ at. record { rest = []; value = _; reads = λ x o. record { is = refl; empty = refl }; starts = λ e x o. o };
+}
 
 -- the phrase behind these operators
 prefixes : List Token → Phrase → Phrase
@@ -134,9 +137,9 @@ unfolding prefixes operators_in r.wrapped spelled tree_of
 prefixes_tree [] c at last last_is = ap (λ n. tree_of n c) (omega arith)
 prefixes_tree (t ∷ ts) c at last last_is =
     ap (λ l. roll-Expr (record { first = at; last = l; line = t.line; kind = e.Unary (prefix_in t) (r.wrapped (suc at) last (operators_in ts) (tree_of (at + suc (length ts)) c)) }))
-        (count_prefixes at last t ts (spelled c) (spelled (prefixes ts c)) (prefixes_spell ts c) last_is)
+    (count_prefixes at last t ts (spelled c) (spelled (prefixes ts c)) (prefixes_spell ts c) last_is)
     ∙ ap (λ a. roll-Expr (record { first = at; last = at + length (t ∷ spelled (prefixes ts c)) - 1; line = t.line; kind = e.Unary (prefix_in t) a }))
-        (ap (λ n. r.wrapped (suc at) last (operators_in ts) (tree_of n c)) (omega arith) ∙ prefixes_tree ts c (suc at) last (omega (arith, last_is)))
+    (ap (λ n. r.wrapped (suc at) last (operators_in ts) (tree_of n c)) (omega arith) ∙ prefixes_tree ts c (suc at) last (omega (arith, last_is)))
 
 count_operand : (at : ℕ) (u v : List Token) → at + length u + length v - 1 ≡ at + length (u ++ v) - 1
 count_operand at u v = omega (arith, length-append u v)
@@ -145,13 +148,14 @@ prefix_is : Within (Here (λ first. Seq (SomeOperators []) (λ ops. WithExpressi
 unfolding spelled
 prefix_is at a u x y =
     let b = y.second in
-    record
-      { phrase = prefixes y.front b.phrase
-      ; is = prefixes_are y.front b.phrase y.first.are (looser 1 2 b.phrase (omega arith) b.is)
-      ; spells = y.splits ∙ (ap (λ v. y.front ++ v) (b.splits ∙ (ap (λ v. spelled b.phrase ++ v) b.second.empty ∙ append-nil (spelled b.phrase)))
-          ∙ sym (prefixes_spell y.front b.phrase))
-      ; tree = b.second.is ∙ (ap (λ ops. r.wrapped at (at + length y.front + length (spelled b.phrase) - 1) ops (tree_of (at + length y.front) b.phrase)) y.first.is
-          ∙ prefixes_tree y.front b.phrase at _ (count_operand at y.front (spelled b.phrase))) }
+    record {
+      phrase = prefixes y.front b.phrase;
+      is = prefixes_are y.front b.phrase y.first.are (looser 1 2 b.phrase (omega arith) b.is);
+      spells = y.splits ∙ (ap (λ v. y.front ++ v) (b.splits ∙ (ap (λ v. spelled b.phrase ++ v) b.second.empty ∙ append-nil (spelled b.phrase)))
+          ∙ sym (prefixes_spell y.front b.phrase));
+      tree = b.second.is ∙ (ap (λ ops. r.wrapped at (at + length y.front + length (spelled b.phrase) - 1) ops (tree_of (at + length y.front) b.phrase)) y.first.is
+          ∙ prefixes_tree y.front b.phrase at _ (count_operand at y.front (spelled b.phrase)));
+    }
 
 pub lawful_prefix : (n : ℕ) (p q : Parser Expr) → Lawful n (AnExpression 13) p q
     → Lawful (suc n) (AnExpression 2) (r.prefix p (suc n)) (r.prefix q (suc (suc n)))

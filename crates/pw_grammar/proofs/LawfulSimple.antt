@@ -71,22 +71,25 @@ sets : (first : ℕ) (a : Expr) (at : ℕ) (kind : StmtKind) (v : List Token) (x
 sets first a at kind v x y =
     let o = y.2 in
     let b = o.second in
-    record
-      { token = o.token; right = b.phrase
-      ; sort_is = same_sorts (sort o.token) s.Assign o.sort_is
-      ; is = b.is
-      ; splits = o.splits ∙ ap (λ w. o.token ∷ w) (b.splits ∙ (ap (λ w. spelled b.phrase ++ w) b.second.empty ∙ append-nil (spelled b.phrase)))
-      ; kind_is = b.second.is }
+    record {
+      token = o.token;
+      right = b.phrase;
+      sort_is = same_sorts (sort o.token) s.Assign o.sort_is;
+      is = b.is;
+      splits = o.splits ∙ ap (λ w. o.token ∷ w) (b.splits ∙ (ap (λ w. spelled b.phrase ++ w) b.second.empty ∙ append-nil (spelled b.phrase)));
+      kind_is = b.second.is;
+    }
 
 word_set : (at : ℕ) (kind : StmtKind) (u v : List Token) (c : Phrase) (to : List ℕ × Option Expr) → IsWord c to → IsAt 13 c
     → u ≡ spelled c ++ v → Sets to (at + length (spelled c)) kind v → Phrased IsSimple spelled_simple kind_of_simple at kind u
 unfolding spelled IsAt
-word_set at kind u v c to i is e y = record
-  { phrase = assign i.token y.token y.right
-  ; is = (subst (λ c. IsAt 13 c) i.is is, y.sort_is, y.is)
-  ; spells = subst (λ c. u ≡ spelled c ++ v) i.is e ∙ ap (λ v. i.token ∷ v) y.splits
-  ; value_is = y.kind_is ∙ (ap (λ to. k.Set to.0 to.1 (tree_of (suc (at + length (spelled c))) y.right)) i.to_is
-      ∙ ap (λ m. k.Set (name_in i.token.kind) None (tree_of m y.right)) (ap (λ c. suc (at + length (spelled c))) i.is ∙ after_word at)) }
+word_set at kind u v c to i is e y = record {
+  phrase = assign i.token y.token y.right;
+  is = (subst (λ c. IsAt 13 c) i.is is, y.sort_is, y.is);
+  spells = subst (λ c. u ≡ spelled c ++ v) i.is e ∙ ap (λ v. i.token ∷ v) y.splits;
+  value_is = y.kind_is ∙ (ap (λ to. k.Set to.0 to.1 (tree_of (suc (at + length (spelled c))) y.right)) i.to_is
+      ∙ ap (λ m. k.Set (name_in i.token.kind) None (tree_of m y.right)) (ap (λ c. suc (at + length (spelled c))) i.is ∙ after_word at));
+}
   where
     after_word : (at : ℕ) → suc (at + 1) ≡ suc (suc at)
     after_word at = omega arith
@@ -99,19 +102,20 @@ element_set : (at : ℕ) (kind : StmtKind) (u v : List Token) (c : Phrase) (to :
 unfolding spelled IsAt
 element_set at kind u v c to i is e y =
     let there = subst (λ c. IsAt 13 c) i.is is in
-    record
-      { phrase = assign_element i.token i.left i.number i.right y.token y.right
-      ; is = (there.1, there.2, there.3, there.4, y.sort_is, y.is)
-      ; spells = subst (λ c. u ≡ spelled c ++ v) i.is e
-          ∙ ap (λ w. i.token ∷ i.left ∷ w) (append_assoc (spelled i.number) (i.right ∷ []) v ∙ ap (λ v. spelled i.number ++ i.right ∷ v) y.splits)
-      ; value_is = y.kind_is ∙ (ap (λ to. k.Set to.0 to.1 (tree_of (suc (at + length (spelled c))) y.right)) i.to_is
+    record {
+      phrase = assign_element i.token i.left i.number i.right y.token y.right;
+      is = (there.1, there.2, there.3, there.4, y.sort_is, y.is);
+      spells = subst (λ c. u ≡ spelled c ++ v) i.is e
+          ∙ ap (λ w. i.token ∷ i.left ∷ w) (append_assoc (spelled i.number) (i.right ∷ []) v ∙ ap (λ v. spelled i.number ++ i.right ∷ v) y.splits);
+      value_is = y.kind_is ∙ (ap (λ to. k.Set to.0 to.1 (tree_of (suc (at + length (spelled c))) y.right)) i.to_is
           ∙ ap (λ m. k.Set (name_in i.token.kind) (Some (tree_of (suc (suc at)) i.number)) (tree_of m y.right)) (ap (λ c. suc (at + length (spelled c))) i.is
-          ∙ after_element at (length (spelled i.number)) _ (length-append (spelled i.number) (i.right ∷ [])))) }
+          ∙ after_element at (length (spelled i.number)) _ (length-append (spelled i.number) (i.right ∷ []))));
+    }
 
 simple_by : (at : ℕ) (kind : StmtKind) (u v : List Token) (x : Sort) (c : Phrase) → IsAt 13 c → u ≡ spelled c ++ v
     → AfterExpression at (tree_of at c) (at + length (spelled c)) kind v x → Phrased IsSimple spelled_simple kind_of_simple at kind u
 simple_by at kind u v x c is e (inl y) = record
-  { phrase = evaluate c; is = is; spells = e ∙ (ap (λ v. spelled c ++ v) y.empty ∙ append-nil (spelled c)); value_is = y.is }
+    { phrase = evaluate c; is = is; spells = e ∙ (ap (λ v. spelled c ++ v) y.empty ∙ append-nil (spelled c)); value_is = y.is }
 simple_by at kind u v x c is e (inr y) = by_target (target_phrase at c y.0 y.1)
   where
     by_target : IsTarget at c y.0 → Phrased IsSimple spelled_simple kind_of_simple at kind u
@@ -137,12 +141,13 @@ AStatementNode first line kind = λ at a u x. IsStatementNode first line kind at
 
 pub lawful_finish_statement : (n first line : ℕ) (kind : StmtKind)
     → Lawful n (AStatementNode first line kind) (finish_statement first line kind) (finish_statement first line kind)
-lawful_finish_statement n first line kind = record
-  { settled = λ i short. refl
-  ; says = λ i. record { tokens = []; leads = leads_nowhere i; reads = record { is = refl; empty = refl } }
-  ; steady = λ k i j same near. record
-      { place = j; is = ap (λ at. Ok (roll-Stmt (record { first = first; last = at - 1; line = line; kind = kind }), j)) (sym same.at); agree = same }
-  ; can = λ at. record { rest = []; value = _; reads = λ x o. record { is = refl; empty = refl }; starts = λ e x o. o } }
+lawful_finish_statement n first line kind = record {
+  settled = λ i short. refl;
+  says = λ i. record { tokens = []; leads = leads_nowhere i; reads = record { is = refl; empty = refl } };
+  steady = λ k i j same near. record
+      { place = j; is = ap (λ at. Ok (roll-Stmt (record { first = first; last = at - 1; line = line; kind = kind }), j)) (sym same.at); agree = same };
+  can = λ at. record { rest = []; value = _; reads = λ x o. record { is = refl; empty = refl }; starts = λ e x o. o };
+}
 
 abbrev pub ASimpleStatement : Language Stmt
 ASimpleStatement = APhrase IsSimple spelled_simple (λ at c. statement_node at (spelled_simple c) (kind_of_simple at c))
@@ -199,24 +204,29 @@ SimpleNode first line = WithPhrase IsSimple spelled_simple kind_of_simple (λ ki
 simple_statement_is : Within (Here (λ first. Lined (λ line. SimpleNode first line))) ASimpleStatement
 simple_statement_is at a u x y =
     let whole : u ≡ spelled_simple y.phrase = y.splits ∙ (ap (λ v. spelled_simple y.phrase ++ v) y.second.empty ∙ append-nil (spelled_simple y.phrase)) in
-    record
-      { phrase = y.phrase
-      ; is = y.is
-      ; spells = whole
-      ; value_is = node_is at (at + length (spelled_simple y.phrase)) _ _ a u (spelled_simple y.phrase) whole refl refl y.second.is }
+    record {
+      phrase = y.phrase;
+      is = y.is;
+      spells = whole;
+      value_is = node_is at (at + length (spelled_simple y.phrase)) _ _ a u (spelled_simple y.phrase) whole refl refl y.second.is;
+    }
 
 simple_node_is_full : (first line : ℕ) → Full (SimpleNode first line)
 simple_node_is_full first line = λ at a x y. full_simple y.phrase (no_front _ _ y.splits)
 
 simple_node_goes_on : (first at : ℕ) → GoesOn (Lined (λ line. SimpleNode first line)) at []
-simple_node_goes_on first at = record
-  { rest = a_number.token ∷ []
-  ; value = _
-  ; reads = λ x o. record
-      { phrase = evaluate one; behind = []; is = one_is
-      ; splits = sym (ap (λ v. v ++ []) one_spells)
-      ; second = record { is = refl; empty = refl } }
-  ; starts = λ e x o. number_starts x }
+simple_node_goes_on first at = record {
+  rest = a_number.token ∷ [];
+  value = _;
+  reads = λ x o. record {
+    phrase = evaluate one;
+    behind = [];
+    is = one_is;
+    splits = sym (ap (λ v. v ++ []) one_spells);
+    second = record { is = refl; empty = refl };
+  };
+  starts = λ e x o. number_starts x;
+}
 
 pub lawful_simple_statement : (n : ℕ) (p q : Parser Expr) → Lawful n (AnExpression 13) p q
     → Lawful n ASimpleStatement (r.simple_statement p) (r.simple_statement q)
@@ -249,15 +259,16 @@ AValue = APhrase IsValue spelled_value tree_of_value
 value_is : Within (Then (Is s.Assign) (λ o. WithExpression 13 (λ a. Pure (Some a)))) AValue
 value_is at a u x y =
     let b = y.second in
-    record
-      { phrase = Some (y.token, b.phrase)
-      ; is = (same_sorts (sort y.token) s.Assign y.sort_is, b.is)
-      ; spells = y.splits ∙ ap (λ v. y.token ∷ v) (b.splits ∙ (ap (λ v. spelled b.phrase ++ v) b.second.empty ∙ append-nil (spelled b.phrase)))
-      ; value_is = b.second.is }
+    record {
+      phrase = Some (y.token, b.phrase);
+      is = (same_sorts (sort y.token) s.Assign y.sort_is, b.is);
+      spells = y.splits ∙ ap (λ v. y.token ∷ v) (b.splits ∙ (ap (λ v. spelled b.phrase ++ v) b.second.empty ∙ append-nil (spelled b.phrase)));
+      value_is = b.second.is;
+    }
 
 value_goes_on : (at : ℕ) → GoesOn AValue at []
 value_goes_on at = record
-  { rest = []; value = None; reads = λ x o. record { phrase = None; is = tt; spells = refl; value_is = refl }; starts = λ e x o. o }
+    { rest = []; value = None; reads = λ x o. record { phrase = None; is = tt; spells = refl; value_is = refl }; starts = λ e x o. o }
 
 lawful_value : (n : ℕ) (p q : Parser Expr) → Lawful n (AnExpression 13) p q → Lawful n AValue (r.maybe_value p) (r.maybe_value q)
 unfolding r.maybe_value r.value sees
@@ -275,23 +286,29 @@ ALocal = APhrase IsLocal spelled_local tree_of_local
 
 local_by : (at : ℕ) (a : Stmt) (u : List Token) (ty : TypePhrase) (x e : Token) (v : Value) → IsType ty → sort x ≡ s.Name → IsValue v → sort e ≡ s.Semicolon
     → u ≡ spelled_type ty ++ x ∷ (spelled_value v ++ e ∷ [])
-    → a ≡ roll-Stmt (record { first = at; last = suc (suc (at + length (spelled_type ty)) + length (spelled_value v)) - 1; line = first_line u;
-          kind = k.Local (type_in ty) (name_in x.kind) (tree_of_value (suc (at + length (spelled_type ty))) v) })
+    → a ≡ roll-Stmt (record {
+      first = at;
+      last = suc (suc (at + length (spelled_type ty)) + length (spelled_value v)) - 1;
+      line = first_line u;
+      kind = k.Local (type_in ty) (name_in x.kind) (tree_of_value (suc (at + length (spelled_type ty))) v);
+    })
     → Phrased IsLocal spelled_local tree_of_local at a u
-local_by at a u ty x e None is name_is value_is end_is f y = record
-  { phrase = plain ty x e
-  ; is = (is, name_is, end_is)
-  ; spells = f
-  ; value_is = node_is at _ _ _ a u (spelled_local (plain ty x e)) f (count at (length (spelled_type ty)) _ (length-append (spelled_type ty) (x ∷ e ∷ []))) refl y }
+local_by at a u ty x e None is name_is value_is end_is f y = record {
+  phrase = plain ty x e;
+  is = (is, name_is, end_is);
+  spells = f;
+  value_is = node_is at _ _ _ a u (spelled_local (plain ty x e)) f (count at (length (spelled_type ty)) _ (length-append (spelled_type ty) (x ∷ e ∷ []))) refl y;
+}
   where
     count : (at n m : ℕ) → m ≡ n + 2 → suc (suc (at + n) + 0) ≡ at + m
     count at n m e = omega arith
-local_by at a u ty x e (Some p) is name_is value_is end_is f y = record
-  { phrase = set ty x p.0 p.1 e
-  ; is = (is, name_is, value_is.0, value_is.1, end_is)
-  ; spells = f
-  ; value_is = node_is at _ _ _ a u (spelled_local (set ty x p.0 p.1 e)) f (count at (length (spelled_type ty)) (length (spelled p.1)) _ _
-      (length-append (spelled_type ty) (x ∷ p.0 ∷ (spelled p.1 ++ e ∷ []))) (length-append (spelled p.1) (e ∷ []))) refl y }
+local_by at a u ty x e (Some p) is name_is value_is end_is f y = record {
+  phrase = set ty x p.0 p.1 e;
+  is = (is, name_is, value_is.0, value_is.1, end_is);
+  spells = f;
+  value_is = node_is at _ _ _ a u (spelled_local (set ty x p.0 p.1 e)) f (count at (length (spelled_type ty)) (length (spelled p.1)) _ _
+      (length-append (spelled_type ty) (x ∷ p.0 ∷ (spelled p.1 ++ e ∷ []))) (length-append (spelled p.1) (e ∷ []))) refl y;
+}
   where
     count : (at n b m l : ℕ) → m ≡ n + suc (suc l) → l ≡ b + 1 → suc (suc (at + n) + suc b) ≡ at + m
     count at n b m l e f = omega arith
@@ -318,19 +335,36 @@ local_node_is_full : (first line : ℕ) → Full (LocalNode first line)
 local_node_is_full first line = λ at a x y. full_type y.phrase (no_front _ _ y.splits)
 
 local_node_goes_on : (first at : ℕ) → GoesOn (Lined (λ line. LocalNode first line)) at []
-local_node_goes_on first at = record
-  { rest = long.token ∷ a_name.token ∷ semicolon.token ∷ []
-  ; value = _
-  ; reads = λ x o. record
-      { phrase = word long.token; behind = a_name.token ∷ semicolon.token ∷ []; is = (Long, ap type_of long.sort_is); splits = refl
-      ; second = record
-          { token = a_name.token; behind = semicolon.token ∷ []; sort_is = a_name.sort_is; splits = refl
-          ; second = record
-              { phrase = None; behind = semicolon.token ∷ []; is = tt; splits = refl
-              ; second = record
-                  { token = semicolon.token; behind = []; splits = refl; sort_is = semicolon.sort_is
-                  ; second = record { is = refl; empty = refl } } } } }
-  ; starts = λ e x o. subst (λ z. z ≢ s.Else) (sym long.sort_is) long.no_else }
+local_node_goes_on first at = record {
+  rest = long.token ∷ a_name.token ∷ semicolon.token ∷ [];
+  value = _;
+  reads = λ x o. record {
+    phrase = word long.token;
+    behind = a_name.token ∷ semicolon.token ∷ [];
+    is = (Long, ap type_of long.sort_is);
+    splits = refl;
+    second = record {
+      token = a_name.token;
+      behind = semicolon.token ∷ [];
+      sort_is = a_name.sort_is;
+      splits = refl;
+      second = record {
+        phrase = None;
+        behind = semicolon.token ∷ [];
+        is = tt;
+        splits = refl;
+        second = record {
+          token = semicolon.token;
+          behind = [];
+          splits = refl;
+          sort_is = semicolon.sort_is;
+          second = record { is = refl; empty = refl };
+        };
+      };
+    };
+  };
+  starts = λ e x o. subst (λ z. z ≢ s.Else) (sym long.sort_is) long.no_else;
+}
 
 pub lawful_local : (n : ℕ) (p q : Parser Expr) → Lawful n (AnExpression 13) p q → Lawful n ALocal (r.local p) (r.local q)
 unfolding r.local

@@ -27,15 +27,16 @@ abbrev pub AMaybe : Language (Option Expr)
 AMaybe = APhrase IsMaybe spelled_maybe tree_of_maybe
 
 some_is : Within (WithExpression 13 (λ a. Pure (Some a))) AMaybe
-some_is at a u x y = record
-  { phrase = Some y.phrase
-  ; is = y.is
-  ; spells = y.splits ∙ (ap (λ v. spelled y.phrase ++ v) y.second.empty ∙ append-nil (spelled y.phrase))
-  ; value_is = y.second.is }
+some_is at a u x y = record {
+  phrase = Some y.phrase;
+  is = y.is;
+  spells = y.splits ∙ (ap (λ v. spelled y.phrase ++ v) y.second.empty ∙ append-nil (spelled y.phrase));
+  value_is = y.second.is;
+}
 
 maybe_goes_on : (at : ℕ) → GoesOn AMaybe at []
 maybe_goes_on at = record
-  { rest = []; value = None; reads = λ x o. record { phrase = None; is = tt; spells = refl; value_is = refl }; starts = λ e x o. o }
+    { rest = []; value = None; reads = λ x o. record { phrase = None; is = tt; spells = refl; value_is = refl }; starts = λ e x o. o }
 
 pub lawful_maybe : (n : ℕ) (z : Sort) (p q : Parser Expr) → Lawful n (AnExpression 13) p q → Lawful n AMaybe (r.maybe_before z p) (r.maybe_before z q)
 unfolding r.maybe_before r.some sees
@@ -50,15 +51,16 @@ abbrev pub AStep : Language (Option Stmt)
 AStep = APhrase IsStep spelled_step tree_of_step
 
 some_step_is : Within (WithPhrase IsSimple spelled_simple tree_of_simple (λ a. Pure (Some a))) AStep
-some_step_is at a u x y = record
-  { phrase = Some y.phrase
-  ; is = y.is
-  ; spells = y.splits ∙ (ap (λ v. spelled_simple y.phrase ++ v) y.second.empty ∙ append-nil (spelled_simple y.phrase))
-  ; value_is = y.second.is }
+some_step_is at a u x y = record {
+  phrase = Some y.phrase;
+  is = y.is;
+  spells = y.splits ∙ (ap (λ v. spelled_simple y.phrase ++ v) y.second.empty ∙ append-nil (spelled_simple y.phrase));
+  value_is = y.second.is;
+}
 
 step_goes_on : (at : ℕ) → GoesOn AStep at []
 step_goes_on at = record
-  { rest = []; value = None; reads = λ x o. record { phrase = None; is = tt; spells = refl; value_is = refl }; starts = λ e x o. o }
+    { rest = []; value = None; reads = λ x o. record { phrase = None; is = tt; spells = refl; value_is = refl }; starts = λ e x o. o }
 
 pub lawful_step : (n : ℕ) (p q : Parser Expr) → Lawful n (AnExpression 13) p q
     → Lawful n AStep (r.maybe_before s.RightParen (r.simple_statement p)) (r.maybe_before s.RightParen (r.simple_statement q))
@@ -75,33 +77,38 @@ abbrev pub AStart : Language (Option Stmt)
 AStart = APhrase IsStart spelled_start tree_of_start
 
 no_start_is : Within (Then (Is s.Semicolon) (λ e. Pure None)) AStart
-no_start_is at a u x y = record
-  { phrase = no_start y.token
-  ; is = same_sorts (sort y.token) s.Semicolon y.sort_is
-  ; spells = y.splits ∙ ap (λ v. y.token ∷ v) y.second.empty
-  ; value_is = y.second.is }
+no_start_is at a u x y = record {
+  phrase = no_start y.token;
+  is = same_sorts (sort y.token) s.Semicolon y.sort_is;
+  spells = y.splits ∙ ap (λ v. y.token ∷ v) y.second.empty;
+  value_is = y.second.is;
+}
 
 local_start_is : Within (WithPhrase IsLocal spelled_local tree_of_local (λ a. Pure (Some a))) AStart
-local_start_is at a u x y = record
-  { phrase = local_start y.phrase
-  ; is = y.is
-  ; spells = y.splits ∙ (ap (λ v. spelled_local y.phrase ++ v) y.second.empty ∙ append-nil (spelled_local y.phrase))
-  ; value_is = y.second.is }
+local_start_is at a u x y = record {
+  phrase = local_start y.phrase;
+  is = y.is;
+  spells = y.splits ∙ (ap (λ v. spelled_local y.phrase ++ v) y.second.empty ∙ append-nil (spelled_local y.phrase));
+  value_is = y.second.is;
+}
 
 simple_start_is : Within (WithPhrase IsSimple spelled_simple tree_of_simple (λ a. Then (λ x. x ≡ s.Semicolon) (λ e. Pure (Some a)))) AStart
 simple_start_is at a u x y =
     let e = y.second in
-    record
-      { phrase = simple_start y.phrase e.token
-      ; is = (y.is, e.sort_is)
-      ; spells = y.splits ∙ ap (λ v. spelled_simple y.phrase ++ v) (e.splits ∙ ap (λ v. e.token ∷ v) e.second.empty)
-      ; value_is = e.second.is }
+    record {
+      phrase = simple_start y.phrase e.token;
+      is = (y.is, e.sort_is);
+      spells = y.splits ∙ ap (λ v. spelled_simple y.phrase ++ v) (e.splits ∙ ap (λ v. e.token ∷ v) e.second.empty);
+      value_is = e.second.is;
+    }
 
 start_goes_on : (at : ℕ) → GoesOn AStart at []
-start_goes_on at = record
-  { rest = semicolon.token ∷ []; value = None
-  ; reads = λ x o. record { phrase = no_start semicolon.token; is = semicolon.sort_is; spells = refl; value_is = refl }
-  ; starts = λ e x o. subst (λ z. z ≢ s.Else) (sym semicolon.sort_is) semicolon.no_else }
+start_goes_on at = record {
+  rest = semicolon.token ∷ [];
+  value = None;
+  reads = λ x o. record { phrase = no_start semicolon.token; is = semicolon.sort_is; spells = refl; value_is = refl };
+  starts = λ e x o. subst (λ z. z ≢ s.Else) (sym semicolon.sort_is) semicolon.no_else;
+}
 
 lawful_some_start : (n : ℕ) (p q : Parser Expr) → Lawful n (AnExpression 13) p q
     → Lawful n AStart (λ i. if r.begins_type (next_sort i) then r.some (r.local p) i else r.simple_start p i) (λ i. if r.begins_type (next_sort i) then r.some (r.local q) i else r.simple_start q i)
@@ -144,11 +151,12 @@ test_is : Within (Then (λ x. x ≡ s.LeftParen) (λ o. WithExpression 13 (λ a.
 test_is at a u x o =
     let b = o.second in
     let c = b.second in
-    record
-      { phrase = (o.token, b.phrase, c.token)
-      ; is = (o.sort_is, b.is, c.sort_is)
-      ; spells = o.splits ∙ ap (λ v. o.token ∷ v) (b.splits ∙ ap (λ v. spelled b.phrase ++ v) (c.splits ∙ ap (λ v. c.token ∷ v) c.second.empty))
-      ; value_is = c.second.is }
+    record {
+      phrase = (o.token, b.phrase, c.token);
+      is = (o.sort_is, b.is, c.sort_is);
+      spells = o.splits ∙ ap (λ v. o.token ∷ v) (b.splits ∙ ap (λ v. spelled b.phrase ++ v) (c.splits ∙ ap (λ v. c.token ∷ v) c.second.empty));
+      value_is = c.second.is;
+    }
 
 lawful_test_part : (n : ℕ) (p q : Parser Expr) → Lawful n (AnExpression 13) p q → Lawful n ATest (r.test p) (r.test q)
 unfolding r.test
@@ -168,17 +176,18 @@ pub record Tested {B : Type 0} (M : Expr → Language B) (at : ℕ) (b : B) (u :
   pub second : M (tree_of (suc at) phrase) (suc (suc at + length (spelled phrase))) b behind x
 
 test_then : {B : Type 0} (M : Expr → Language B) → Within (WithPhrase IsTest spelled_test tree_of_test M) (Tested M)
-test_then M at b u x y = record
-  { left = y.phrase.0
-  ; phrase = y.phrase.1
-  ; right = y.phrase.2
-  ; behind = y.behind
-  ; left_is = y.is.0
-  ; is = y.is.1
-  ; right_is = y.is.2
-  ; splits = y.splits ∙ ap (λ v. y.phrase.0 ∷ v) (append_assoc (spelled y.phrase.1) (y.phrase.2 ∷ []) y.behind)
-  ; second = subst (λ n. M (tree_of (suc at) y.phrase.1) n b y.behind x)
-      (count at (length (spelled y.phrase.1)) _ (length-append (spelled y.phrase.1) (y.phrase.2 ∷ []))) y.second }
+test_then M at b u x y = record {
+  left = y.phrase.0;
+  phrase = y.phrase.1;
+  right = y.phrase.2;
+  behind = y.behind;
+  left_is = y.is.0;
+  is = y.is.1;
+  right_is = y.is.2;
+  splits = y.splits ∙ ap (λ v. y.phrase.0 ∷ v) (append_assoc (spelled y.phrase.1) (y.phrase.2 ∷ []) y.behind);
+  second = subst (λ n. M (tree_of (suc at) y.phrase.1) n b y.behind x)
+      (count at (length (spelled y.phrase.1)) _ (length-append (spelled y.phrase.1) (y.phrase.2 ∷ []))) y.second;
+}
   where
     count : (at n m : ℕ) → m ≡ n + 1 → at + suc m ≡ suc (suc at + n)
     count at n m e = omega arith

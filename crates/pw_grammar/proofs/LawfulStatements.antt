@@ -89,14 +89,15 @@ record WithForm {B : Type 0} (M : StmtKind → Language B) (at : ℕ) (b : B) (u
   second : M (kind_of at phrase) (at + length (spelled_statement phrase)) b behind x
 
 form_then : {B : Type 0} (M : StmtKind → Language B) → Within (Seq AForm M) (WithForm M)
-form_then M at b u x y = record
-  { phrase = y.first.phrase
-  ; behind = y.back
-  ; is = y.first.is
-  ; splits = y.splits ∙ ap (λ v. v ++ y.back) y.first.spells
-  ; closed = y.first.closed
-  ; second = subst (λ a. M a (at + length (spelled_statement y.first.phrase)) b y.back x) y.first.kind_is
-      (subst (λ v. M y.value (at + length v) b y.back x) y.first.spells y.second) }
+form_then M at b u x y = record {
+  phrase = y.first.phrase;
+  behind = y.back;
+  is = y.first.is;
+  splits = y.splits ∙ ap (λ v. v ++ y.back) y.first.spells;
+  closed = y.first.closed;
+  second = subst (λ a. M a (at + length (spelled_statement y.first.phrase)) b y.back x) y.first.kind_is
+      (subst (λ v. M y.value (at + length v) b y.back x) y.first.spells y.second);
+}
 
 abbrev StatementNode : ℕ → ℕ → Language Stmt
 StatementNode first line = WithForm (λ kind. AStatementNode first line kind)
@@ -104,25 +105,32 @@ StatementNode first line = WithForm (λ kind. AStatementNode first line kind)
 whole_is : Within (Here (λ first. Lined (λ line. StatementNode first line))) (AStatement false)
 whole_is at a u x y =
     let whole : u ≡ spelled_statement y.phrase = last_spells u (spelled_statement y.phrase) y.behind y.splits y.second.empty in
-    record
-      { phrase = y.phrase
-      ; is = y.is
-      ; spells = whole
-      ; tree = node_is at (at + length (spelled_statement y.phrase)) _ _ a u (spelled_statement y.phrase) whole refl refl y.second.is
-      ; closed = before_end y.behind x y.phrase y.second.empty y.closed }
+    record {
+      phrase = y.phrase;
+      is = y.is;
+      spells = whole;
+      tree = node_is at (at + length (spelled_statement y.phrase)) _ _ a u (spelled_statement y.phrase) whole refl refl y.second.is;
+      closed = before_end y.behind x y.phrase y.second.empty y.closed;
+    }
 
 statement_node_is_full : (first line : ℕ) → Full (StatementNode first line)
 statement_node_is_full first line = λ at a x y. full_statement y.phrase (no_front _ _ y.splits)
 
 statement_node_goes_on : (first at : ℕ) → GoesOn (Lined (λ line. StatementNode first line)) at []
 unfolding spelled_statement IsStatement open_ended
-statement_node_goes_on first at = record
-  { rest = semicolon.token ∷ []
-  ; value = _
-  ; reads = λ x o. record
-      { phrase = empty semicolon.token; behind = []; is = semicolon.sort_is; splits = refl; closed = λ e. o
-      ; second = record { is = refl; empty = refl } }
-  ; starts = λ e x o. subst (λ z. z ≢ s.Else) (sym semicolon.sort_is) semicolon.no_else }
+statement_node_goes_on first at = record {
+  rest = semicolon.token ∷ [];
+  value = _;
+  reads = λ x o. record {
+    phrase = empty semicolon.token;
+    behind = [];
+    is = semicolon.sort_is;
+    splits = refl;
+    closed = λ e. o;
+    second = record { is = refl; empty = refl };
+  };
+  starts = λ e x o. subst (λ z. z ≢ s.Else) (sym semicolon.sort_is) semicolon.no_else;
+}
 
 lawful_whole : (n : ℕ) (p q : Parser Expr) (v w : Parser Stmt) → Lawful (suc n) (AnExpression 13) p q → Lawful n (AStatement false) v w
     → Lawful (suc n) (AStatement false) (r.whole p v (suc n)) (r.whole q w (suc (suc n)))

@@ -163,12 +163,16 @@ element_phrase : (at : ℕ) (a i : Phrase) (o c : Token) (to : List ℕ × Optio
 element_phrase at a i o c to None w e = absurd cc
 element_phrase at a i o c to (Some x) w e =
     let n = word_phrase at a x w in
-    inr (record
-      { token = n.token; left = o; number = i; right = c
-      ; is = ap (λ a. index a o i c) n.is
-      ; to_is = sym (some_is _ to e)
-          ∙ (ap (λ x. (x, Some (tree_of (suc (at + length (spelled a))) i)) ) n.name_is
-          ∙ ap (λ m. (name_in n.token.kind, Some (tree_of m i))) (ap (λ a. suc (at + length (spelled a))) n.is ∙ element_number at n.token)) })
+    inr (record {
+      token = n.token;
+      left = o;
+      number = i;
+      right = c;
+      is = ap (λ a. index a o i c) n.is;
+      to_is = sym (some_is _ to e)
+          ∙ (ap (λ x. (x, Some (tree_of (suc (at + length (spelled a))) i))) n.name_is
+          ∙ ap (λ m. (name_in n.token.kind, Some (tree_of m i))) (ap (λ a. suc (at + length (spelled a))) n.is ∙ element_number at n.token));
+    })
   where
     some_is : {A : Type 0} (a b : A) → Some a ≡ Some b → a ≡ b
     some_is a b e = cc

@@ -74,27 +74,30 @@ abbrev pub AType : Language Ty
 AType = APhrase IsType spelled_type (λ at p. type_in p)
 
 long_is : (at : ℕ) → GoesOn AType at []
-long_is at = record
-  { rest = long.token ∷ []
-  ; value = type_in (word long.token)
-  ; reads = λ x o. record { phrase = word long.token; is = (Long, ap type_of long.sort_is); spells = refl; value_is = refl }
-  ; starts = λ e x o. subst (λ z. z ≢ s.Else) (sym long.sort_is) long.no_else }
+long_is at = record {
+  rest = long.token ∷ [];
+  value = type_in (word long.token);
+  reads = λ x o. record { phrase = word long.token; is = (Long, ap type_of long.sort_is); spells = refl; value_is = refl };
+  starts = λ e x o. subst (λ z. z ≢ s.Else) (sym long.sort_is) long.no_else;
+}
 
 unsigned_is : Within (Then (Is s.Unsigned) (λ u. Then (λ x. x ≡ s.Long) (λ l. Pure Ulong))) AType
 unsigned_is at a u x y =
     let l = y.second in
-    record
-      { phrase = unsigned y.token l.token
-      ; is = (same_sorts (sort y.token) s.Unsigned y.sort_is, l.sort_is)
-      ; spells = y.splits ∙ ap (λ v. y.token ∷ v) (l.splits ∙ ap (λ v. l.token ∷ v) l.second.empty)
-      ; value_is = l.second.is }
+    record {
+      phrase = unsigned y.token l.token;
+      is = (same_sorts (sort y.token) s.Unsigned y.sort_is, l.sort_is);
+      spells = y.splits ∙ ap (λ v. y.token ∷ v) (l.splits ∙ ap (λ v. l.token ∷ v) l.second.empty);
+      value_is = l.second.is;
+    }
 
 word_is : (ty : Ty) → Within (Then (λ x. type_of x ≡ Some ty) (λ o. Pure ty)) AType
-word_is ty at a u x y = record
-  { phrase = word y.token
-  ; is = (ty, y.sort_is)
-  ; spells = y.splits ∙ ap (λ v. y.token ∷ v) y.second.empty
-  ; value_is = y.second.is ∙ sym (ap type_or y.sort_is) }
+word_is ty at a u x y = record {
+  phrase = word y.token;
+  is = (ty, y.sort_is);
+  spells = y.splits ∙ ap (λ v. y.token ∷ v) y.second.empty;
+  value_is = y.second.is ∙ sym (ap type_or y.sort_is);
+}
 
 end_is_no_type : (ty : Ty) → type_of s.End ≡ Some ty → ⊥
 end_is_no_type ty e = cc

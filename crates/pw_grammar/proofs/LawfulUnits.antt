@@ -51,15 +51,16 @@ no_more found at a u x y = record { phrase = []; is = tt; spells = y.empty; valu
 
 one_more : (found : List Decl) → Within (WithPhrase g.IsDeclaration g.spelled_declaration g.tree_of_declaration (λ c. Declarations (found ++ c ∷ []))) (Declarations found)
 unfolding g.spelled_unit g.IsUnit g.trees_of_declarations
-one_more found at a u x y = record
-  { phrase = y.phrase ∷ y.second.phrase
-  ; is = (y.is, y.second.is)
-  ; spells = y.splits ∙ ap (λ v. g.spelled_declaration y.phrase ++ v) y.second.spells
-  ; value_is = y.second.value_is ∙ append_assoc found (g.tree_of_declaration at y.phrase ∷ []) _ }
+one_more found at a u x y = record {
+  phrase = y.phrase ∷ y.second.phrase;
+  is = (y.is, y.second.is);
+  spells = y.splits ∙ ap (λ v. g.spelled_declaration y.phrase ++ v) y.second.spells;
+  value_is = y.second.value_is ∙ append_assoc found (g.tree_of_declaration at y.phrase ∷ []) _;
+}
 
 declarations_go_on : (found : List Decl) (at : ℕ) → GoesOn (Declarations found) at []
 declarations_go_on found at = record
-  { rest = []; value = found; reads = λ x o. no_more found at found [] x (record { is = refl; empty = refl }); starts = λ e x o. o }
+    { rest = []; value = found; reads = λ x o. no_more found at found [] x (record { is = refl; empty = refl }); starts = λ e x o. o }
 
 -- m turns, where fewer than m tokens are left
 lawful_declarations : (m n : ℕ) → n ≤ m → (p q : Parser Decl) → Lawful n ADeclaration p q → (found : List Decl)
@@ -67,11 +68,12 @@ lawful_declarations : (m n : ℕ) → n ≤ m → (p q : Parser Decl) → Lawful
 unfolding r.declarations sees
 lawful_declarations zero n small p q l found =
     let none = within (no_more found) (lawful_pure n found) in
-    record
-      { settled = λ i short. absurd (let e : length i.rest < n = short in omega arith)
-      ; says = none.says
-      ; steady = none.steady
-      ; can = none.can }
+    record {
+      settled = λ i short. absurd (let e : length i.rest < n = short in omega arith);
+      says = none.says;
+      steady = none.steady;
+      can = none.can;
+    }
 lawful_declarations (suc m) n small p q l found = lawful_test (λ x. is_same x s.End) n (Declarations found) _ _ _ _
     (keeps (Is s.End) n (Declarations found) _ _ (within (no_more found) (lawful_pure n found)))
     (keeps (λ x. is_same x s.End ≡ false) n (Declarations found) _ _ (within (one_more found) (within (phrase_then g.IsDeclaration g.spelled_declaration g.tree_of_declaration _)
@@ -86,11 +88,12 @@ abbrev pub AUnit : Language (List Decl)
 AUnit = APhrase g.IsUnit g.spelled_unit g.trees_of_declarations
 
 unit_is : Within (WithPhrase g.IsUnit g.spelled_unit (λ at cs. [] ++ g.trees_of_declarations at cs) (λ cs. Pure cs)) AUnit
-unit_is at a u x y = record
-  { phrase = y.phrase
-  ; is = y.is
-  ; spells = y.splits ∙ (ap (λ v. g.spelled_unit y.phrase ++ v) y.second.empty ∙ append-nil (g.spelled_unit y.phrase))
-  ; value_is = y.second.is }
+unit_is at a u x y = record {
+  phrase = y.phrase;
+  is = y.is;
+  spells = y.splits ∙ (ap (λ v. g.spelled_unit y.phrase ++ v) y.second.empty ∙ append-nil (g.spelled_unit y.phrase));
+  value_is = y.second.is;
+}
 
 pure_goes_on : {A : Type 0} (a : A) (at : ℕ) → GoesOn (Pure a) at []
 pure_goes_on a at = record { rest = []; value = a; reads = λ x o. record { is = refl; empty = refl }; starts = λ e x o. o }

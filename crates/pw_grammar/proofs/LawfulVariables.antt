@@ -47,25 +47,28 @@ abbrev ANumber : Language ℕ
 ANumber = OneOf (λ x. x ≡ s.Number) value_of
 
 number_goes_on : (at : ℕ) → GoesOn ANumber at []
-number_goes_on at = record
-  { rest = a_number.token ∷ []; value = value_of a_number.token
-  ; reads = λ x o. record { phrase = a_number.token; is = a_number.sort_is; spells = refl; value_is = refl }
-  ; starts = λ e x o. number_starts x }
+number_goes_on at = record {
+  rest = a_number.token ∷ [];
+  value = value_of a_number.token;
+  reads = λ x o. record { phrase = a_number.token; is = a_number.sort_is; spells = refl; value_is = refl };
+  starts = λ e x o. number_starts x;
+}
 
 size_is : Within (Then (Is s.LeftBracket) (λ o. WithPhrase (λ (t : Token). sort t ≡ s.Number) (λ t. t ∷ []) (λ at t. value_of t) (λ n.
     Then (λ x. x ≡ s.RightBracket) (λ c. Pure (Some n))))) ASize
 size_is at a u x o =
     let n = o.second in
     let c = n.second in
-    record
-      { phrase = Some (o.token, n.phrase, c.token)
-      ; is = (same_sorts (sort o.token) s.LeftBracket o.sort_is, n.is, c.sort_is)
-      ; spells = o.splits ∙ ap (λ v. o.token ∷ v) (n.splits ∙ ap (λ v. n.phrase ∷ v) (c.splits ∙ ap (λ v. c.token ∷ v) c.second.empty))
-      ; value_is = c.second.is }
+    record {
+      phrase = Some (o.token, n.phrase, c.token);
+      is = (same_sorts (sort o.token) s.LeftBracket o.sort_is, n.is, c.sort_is);
+      spells = o.splits ∙ ap (λ v. o.token ∷ v) (n.splits ∙ ap (λ v. n.phrase ∷ v) (c.splits ∙ ap (λ v. c.token ∷ v) c.second.empty));
+      value_is = c.second.is;
+    }
 
 size_goes_on : (at : ℕ) → GoesOn ASize at []
 size_goes_on at = record
-  { rest = []; value = None; reads = λ x o. record { phrase = None; is = tt; spells = refl; value_is = refl }; starts = λ e x o. o }
+    { rest = []; value = None; reads = λ x o. record { phrase = None; is = tt; spells = refl; value_is = refl }; starts = λ e x o. o }
 
 lawful_size : (n : ℕ) → Lawful n ASize r.maybe_size r.maybe_size
 unfolding r.maybe_size r.size sees
@@ -118,11 +121,12 @@ single_is : (linkage : Linkage) → Within (Then (λ x. may_have linkage x ≡ t
 single_is linkage at a u x q =
     let y = q.second in
     let may = may_have_is linkage (sort q.token) q.sort_is in
-    record
-      { phrase = single q.token y.phrase
-      ; is = (may.1, refl, may.0, y.is)
-      ; spells = q.splits ∙ ap (λ v. q.token ∷ v) (y.splits ∙ (ap (λ v. g.spelled_element y.phrase ++ v) y.second.empty ∙ append-nil (g.spelled_element y.phrase)))
-      ; value_is = y.second.is }
+    record {
+      phrase = single q.token y.phrase;
+      is = (may.1, refl, may.0, y.is);
+      spells = q.splits ∙ ap (λ v. q.token ∷ v) (y.splits ∙ (ap (λ v. g.spelled_element y.phrase ++ v) y.second.empty ∙ append-nil (g.spelled_element y.phrase)));
+      value_is = y.second.is;
+    }
 
 listed_is : (linkage : Linkage) (count : ℕ) → Within (Then (λ x. may_have linkage x ≡ true) (λ q. Then (λ x. x ≡ s.LeftBrace) (λ b.
     WithPhrase g.IsElement g.spelled_element g.element_of (λ x. WithPhrase g.AreMoreElements g.spelled_more_elements (λ at xs. (x ∷ []) ++ g.more_elements_of at xs) (λ xs.
@@ -133,12 +137,13 @@ listed_is linkage count at a u x q =
     let ys = y.second in
     let e = ys.second in
     let may = may_have_is linkage (sort q.token) q.sort_is in
-    record
-      { phrase = listed q.token b.token y.phrase ys.phrase e.token
-      ; is = (may.1, (λ z. cc), may.0, b.sort_is, y.is, ys.is, e.sort_is)
-      ; spells = q.splits ∙ ap (λ v. q.token ∷ v) (b.splits ∙ ap (λ v. b.token ∷ v) (y.splits ∙ ap (λ v. g.spelled_element y.phrase ++ v)
-          (ys.splits ∙ ap (λ v. g.spelled_more_elements ys.phrase ++ v) (e.splits ∙ ap (λ v. e.token ∷ v) e.second.empty))))
-      ; value_is = e.second.is }
+    record {
+      phrase = listed q.token b.token y.phrase ys.phrase e.token;
+      is = (may.1, (λ z. cc), may.0, b.sort_is, y.is, ys.is, e.sort_is);
+      spells = q.splits ∙ ap (λ v. q.token ∷ v) (b.splits ∙ ap (λ v. b.token ∷ v) (y.splits ∙ ap (λ v. g.spelled_element y.phrase ++ v)
+          (ys.splits ∙ ap (λ v. g.spelled_more_elements ys.phrase ++ v) (e.splits ∙ ap (λ v. e.token ∷ v) e.second.empty))));
+      value_is = e.second.is;
+    }
 
 end_has_none : (linkage : Linkage) → may_have linkage s.End ≡ true → ⊥
 end_has_none linkage e = no_assign (may_have_is linkage s.End e).0
@@ -157,7 +162,7 @@ keeps_initials m n small linkage (Some count) = keeps_within (λ x. may_have lin
     (λ q. lawful_then (n - 1) s.LeftBrace _ _ _ left_brace
     (λ b. lawful_with_phrase (n - 1) g.IsElement g.spelled_element g.element_of _ _ _ _ _ (lawful_initial (n - 1))
     (λ x. lawful_with_phrase (n - 1) g.AreMoreElements g.spelled_more_elements (λ at xs. (x ∷ []) ++ g.more_elements_of at xs) _ _ _ _ _
-        (lawful_items m (n - 1) (omega arith) (x ∷ []))
+    (lawful_items m (n - 1) (omega arith) (x ∷ []))
     (λ xs. lawful_then (n - 1) s.RightBrace _ _ _ right_brace (λ e. lawful_pure (n - 1) (Some xs)))))))
 
 lawful_initials : (m n : ℕ) → n ≤ m → (linkage : Linkage) (count : Option ℕ)
@@ -194,25 +199,27 @@ variable_by : (linkage : Linkage) (ty : Ty) (at : ℕ) (a : Declared) (u : List 
     → a ≡ (at + length (spelled_size n) - 1, d.Var ty (count_at at n) (items_at (at + length (spelled_size n)) y))
     → Phrased (IsEnded linkage) spelled_ended (declared_at ty) at a u
 variable_by linkage ty at a u None absent e n_is y_is e_is f z = record
-  { phrase = (g.scalar, e); is = (tt, (λ h. tt), e_is); spells = f; value_is = z }
-variable_by linkage ty at a u None (single q x) e n_is y_is e_is f z = record
-  { phrase = (g.scalar_set q x, e)
-  ; is = ((y_is.2, y_is.3), (λ h. both_ways (r.is_extern linkage) y_is.0 h), e_is)
-  ; spells = f
-  ; value_is = z ∙ ap (λ n. (at + 0 - 1, d.Var ty None (Some (g.element_of n x ∷ [])))) (let c : suc (at + 0) ≡ at + 1 = omega arith in c) }
+    { phrase = (g.scalar, e); is = (tt, (λ h. tt), e_is); spells = f; value_is = z }
+variable_by linkage ty at a u None (single q x) e n_is y_is e_is f z = record {
+  phrase = (g.scalar_set q x, e);
+  is = ((y_is.2, y_is.3), (λ h. both_ways (r.is_extern linkage) y_is.0 h), e_is);
+  spells = f;
+  value_is = z ∙ ap (λ n. (at + 0 - 1, d.Var ty None (Some (g.element_of n x ∷ [])))) (let c : suc (at + 0) ≡ at + 1 = omega arith in c);
+}
 variable_by linkage ty at a u None (listed q b x xs c) e n_is y_is e_is f z = absurd (y_is.1 refl)
 variable_by linkage ty at a u (Some t) absent e n_is y_is e_is f z = record
-  { phrase = (g.array t.0 t.1 t.2, e); is = (n_is, (λ h. tt), e_is); spells = f; value_is = z }
+    { phrase = (g.array t.0 t.1 t.2, e); is = (n_is, (λ h. tt), e_is); spells = f; value_is = z }
 variable_by linkage ty at a u (Some t) (single q x) e n_is y_is e_is f z = absurd (no_some (value_of t.1) y_is.1)
   where
     no_some : (n : ℕ) → Some n ≡ None → ⊥
     no_some n e = cc
-variable_by linkage ty at a u (Some t) (listed q b x xs c) e n_is y_is e_is f z = record
-  { phrase = (g.array_set t.0 t.1 t.2 q b x xs c, e)
-  ; is = ((n_is, y_is.2, y_is.3, y_is.4, y_is.5, y_is.6), (λ h. both_ways (r.is_extern linkage) y_is.0 h), e_is)
-  ; spells = f
-  ; value_is = z ∙ ap (λ n. (at + 3 - 1, d.Var ty (Some (value_of t.1)) (Some (g.element_of n x ∷ g.more_elements_of (n + length (g.spelled_element x)) xs))))
-      (let c : suc (suc (at + 3)) ≡ at + 5 = omega arith in c) }
+variable_by linkage ty at a u (Some t) (listed q b x xs c) e n_is y_is e_is f z = record {
+  phrase = (g.array_set t.0 t.1 t.2 q b x xs c, e);
+  is = ((n_is, y_is.2, y_is.3, y_is.4, y_is.5, y_is.6), (λ h. both_ways (r.is_extern linkage) y_is.0 h), e_is);
+  spells = f;
+  value_is = z ∙ ap (λ n. (at + 3 - 1, d.Var ty (Some (value_of t.1)) (Some (g.element_of n x ∷ g.more_elements_of (n + length (g.spelled_element x)) xs))))
+      (let c : suc (suc (at + 3)) ≡ at + 5 = omega arith in c);
+}
 
 variable_is : (linkage : Linkage) (ty : Ty) → Within (WithPhrase IsSize spelled_size count_at (λ count. Here (λ at.
     WithPhrase (IsInitial linkage count) spelled_initial items_at (λ xs. Then (λ x. x ≡ s.Semicolon) (λ e. Pure (at - 1, d.Var ty count xs)))))) (AVariable linkage ty)

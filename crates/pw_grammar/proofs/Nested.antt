@@ -1,5 +1,5 @@
 -- Where brackets nest too deep: what is found from left to right is the first such token.
-use Rattle.std.proofs.Common.{◌≡◌, refl, ◌∙◌, ap, subst, ℕ, zero, suc, ◌+◌, ◌<◌, ◌≤◌, List, [], ◌∷◌, length, Bool, true, false, if◌then◌else◌, ◌&&◌, nat_le, Option, Some, None, arith}
+use Rattle.std.proofs.Common.{◌≡◌, refl, ◌∙◌, ap, subst, ℕ, zero, suc, ◌+◌, ◌<◌, ◌≤◌, List, [], ◌∷◌, length, Bool, true, false, if◌then◌else◌, ◌&&◌, nat_le, Option, Some, arith}
 use Rattle.std.proofs.lemmas.Bool.{leb-true, le-leb, and_parts}
 use Rattle.std.specs.Prelude.{take, drop}
 use Rattle.pw_grammar.specs.declared.error.SyntaxError.TheVariants.{TooNested}
@@ -26,9 +26,11 @@ FindsBy at n ts t = (found : ℕ) × (first_nested at n ts ≡ Some found) × (f
 
 nested_on : (at n t : ℕ) (x : Token) (ts : List Token) → IsNestedAt (suc at) (bracket n x) ts t → IsNestedAt at n (x ∷ ts) t
 unfolding open_behind
-nested_on at n t x ts f =
-    (suc f.0, (let e : t ≡ suc at + f.0 = f.1 in omega (arith, e)),
-    record { short = (let e : f.0 < length ts = f.2.short in omega (arith, e)); opening = f.2.opening; deep = f.2.deep })
+nested_on at n t x ts f = (
+  suc f.0,
+  (let e : t ≡ suc at + f.0 = f.1 in omega (arith, e)),
+  record { short = (let e : f.0 < length ts = f.2.short in omega (arith, e)); opening = f.2.opening; deep = f.2.deep },
+)
 
 nested_here : (at n t : ℕ) (x : Token) (ts : List Token) → opens x ≡ true → nat_le 200 n ≡ true → t ≡ at → IsNestedAt at n (x ∷ ts) t
 unfolding open_behind
@@ -55,9 +57,12 @@ finds_by_with at d false o f = (f.0, f.1, (let e : f.0 ≤ suc at + d = f.2 in o
 
 finds_here : (at n : ℕ) (x : Token) (ts : List Token) → opens x ≡ true → 200 ≤ n → FindsBy at n (x ∷ ts) (at + 0)
 unfolding first_nested
-finds_here at n x ts o far =
-    (at, ap (λ b. if b && nat_le 200 n then Some at else first_nested (suc at) (bracket n x) ts) o
-      ∙ ap (λ b. if b then Some at else first_nested (suc at) (bracket n x) ts) (le-leb 200 n far), omega arith)
+finds_here at n x ts o far = (
+  at,
+  ap (λ b. if b && nat_le 200 n then Some at else first_nested (suc at) (bracket n x) ts) o
+      ∙ ap (λ b. if b then Some at else first_nested (suc at) (bracket n x) ts) (le-leb 200 n far),
+  omega arith,
+)
 
 no_token : (d : ℕ) → d < 0 → ⊥
 no_token d e = omega arith

@@ -1,19 +1,15 @@
 -- Readers in parts: where one stands, a token, an expression, a node, each with what comes behind it.
-use Rattle.std.proofs.Common.{◌≡◌, ◌≢◌, refl, sym, ◌∙◌, ap, subst, ℕ, zero, suc, ◌+◌, ◌-◌, ◌<◌, ◌≤◌, List, [], ◌∷◌, ◌++◌, length, ◌⊎◌, inl, inr, Result, Ok, Err, Bool, true, false, if◌then◌else◌, Option, Some, None, arith}
-use Rattle.std.proofs.lemmas.List.{append-nil, append_assoc}
-use Rattle.std.specs.Bool.{⊤}
+use Rattle.std.proofs.Common.{◌≡◌, refl, sym, ◌∙◌, ap, subst, ℕ, suc, ◌+◌, ◌-◌, List, [], ◌∷◌, ◌++◌, length, inl, Ok, Err, false, arith}
 use Rattle.pw_grammar.specs.declared.sort.Sort.{Sort}
 use Rattle.pw_grammar.specs.declared.sort.Sort.TheVariants as s
-use Rattle.pw_grammar.specs.Terminals.{sort, sort_of, first_sort, is_same}
-use Rattle.pw_grammar.specs.Expressions.{Phrase, identifier, constant, bracketed, spelled, IsAt, IsConstant, tree_of, name_in, value_in, is_unsigned, node}
-use Rattle.pw_grammar.specs.Steps.{Place, Outcome, Parser, and_then, ◌>>=◌, pure, refuse, next_sort, sees, here, take, skip, expect, finish}
-use Rattle.pw_grammar.specs.ReadingExpressions as r
-use Rattle.pw_grammar.proofs.Lawful.{Language, sort_before, Leads, Agree, GoesOn, HasRead, HasStopped, Says, Reaches, Same, Lawful, Within, Lax, within, Seq, bind, bind_from, Leaves, Shrinks, Pure, Nothing, lawful_pure, same_passed, near_or_far, leads_nowhere}
-use Rattle.pw_grammar.proofs.Branches.{Keeps, keeps, keeps_equal, keeps_refuse, keeps_pure, lawful_test, keeps_within, keeps_bind_from, next_agrees, same_sorts}
-use Rattle.pw_grammar.proofs.Tokens.{AToken, ALine, Given, Taken, One, Sample, a_token, a_token_is_lax, a_line_is_lax, keeps_take, keeps_skip, lawful_expect, take_shrinks, skip_shrinks, expect_shrinks}
+use Rattle.pw_grammar.specs.Terminals.{sort, sort_of}
+use Rattle.pw_grammar.specs.Expressions.{Phrase, constant, spelled, IsAt, tree_of}
+use Rattle.pw_grammar.specs.Steps.{Place, Outcome, Parser, ◌>>=◌, here, skip, expect, finish}
+use Rattle.pw_grammar.proofs.Lawful.{Language, GoesOn, Says, Same, Lawful, Within, Lax, within, Seq, bind, leads_nowhere}
+use Rattle.pw_grammar.proofs.Branches.{Keeps, keeps_within, keeps_bind_from}
+use Rattle.pw_grammar.proofs.Tokens.{ALine, One, Sample, a_token, a_line_is_lax, keeps_skip, lawful_expect, skip_shrinks}
 use Rattle.pw_tree.specs.declared.expr.Expr.{Expr, roll-Expr}
 use Rattle.pw_tree.specs.declared.expr.ExprKind.{ExprKind}
-use Rattle.pw_tree.specs.declared.expr.ExprKind.TheVariants as e
 use Rattle.pw_lex.specs.declared.token.Token.{Token}
 use Rattle.pw_lex.specs.declared.token.TokenKind.TheVariants as t
 
@@ -34,11 +30,12 @@ an_expression_is_lax n = λ at a u x y r o. r
 -- any expression goes on to a number
 pub expression_goes_on : (n at : ℕ) → GoesOn (AnExpression n) at []
 unfolding spelled IsAt tree_of sort_of
-expression_goes_on n at = record
-  { rest = a_token (t.Number 1 false) ∷ []
-  ; value = tree_of at (constant (a_token (t.Number 1 false)))
-  ; reads = λ x o. record { phrase = constant (a_token (t.Number 1 false)); is = inl refl; spells = refl; tree = refl }
-  ; starts = λ e x o. λ p. cc }
+expression_goes_on n at = record {
+  rest = a_token (t.Number 1 false) ∷ [];
+  value = tree_of at (constant (a_token (t.Number 1 false)));
+  reads = λ x o. record { phrase = constant (a_token (t.Number 1 false)); is = inl refl; spells = refl; tree = refl };
+  starts = λ e x o. λ p. cc;
+}
 
 -- ---- where a reader stands, and nodes
 
@@ -50,11 +47,12 @@ abbrev pub AtHere : Language ℕ
 AtHere = λ at a u x. IsHere at a u
 
 pub lawful_here : (n : ℕ) → Lawful n AtHere here here
-lawful_here n = record
-  { settled = λ i short. refl
-  ; says = λ i. record { tokens = []; leads = leads_nowhere i; reads = record { is = refl; empty = refl } }
-  ; steady = λ k i j same near. record { place = j; is = ap (λ at. Ok (at, j)) (sym same.at); agree = same }
-  ; can = λ at. record { rest = []; value = at; reads = λ x o. record { is = refl; empty = refl }; starts = λ e x o. o } }
+lawful_here n = record {
+  settled = λ i short. refl;
+  says = λ i. record { tokens = []; leads = leads_nowhere i; reads = record { is = refl; empty = refl } };
+  steady = λ k i j same near. record { place = j; is = ap (λ at. Ok (at, j)) (sym same.at); agree = same };
+  can = λ at. record { rest = []; value = at; reads = λ x o. record { is = refl; empty = refl }; starts = λ e x o. o };
+}
 
 pub record IsNode (first line : ℕ) (kind : ExprKind) (at : ℕ) (a : Expr) (u : List Token) : Type 0 where
   pub is : a ≡ roll-Expr (record { first = first; last = at - 1; line = line; kind = kind })
@@ -64,13 +62,13 @@ abbrev pub ANode : ℕ → ℕ → ExprKind → Language Expr
 ANode first line kind = λ at a u x. IsNode first line kind at a u
 
 pub lawful_finish : (n first line : ℕ) (kind : ExprKind) → Lawful n (ANode first line kind) (finish first line kind) (finish first line kind)
-lawful_finish n first line kind = record
-  { settled = λ i short. refl
-  ; says = λ i. record { tokens = []; leads = leads_nowhere i; reads = record { is = refl; empty = refl } }
-  ; steady = λ k i j same near. record
-      { place = j; is = ap (λ at. Ok (roll-Expr (record { first = first; last = at - 1; line = line; kind = kind }), j)) (sym same.at); agree = same }
-  ; can = λ at. record { rest = []; value = _; reads = λ x o. record { is = refl; empty = refl }; starts = λ e x o. o } }
-
+lawful_finish n first line kind = record {
+  settled = λ i short. refl;
+  says = λ i. record { tokens = []; leads = leads_nowhere i; reads = record { is = refl; empty = refl } };
+  steady = λ k i j same near. record
+      { place = j; is = ap (λ at. Ok (roll-Expr (record { first = first; last = at - 1; line = line; kind = kind }), j)) (sym same.at); agree = same };
+  can = λ at. record { rest = []; value = _; reads = λ x o. record { is = refl; empty = refl }; starts = λ e x o. o };
+}
 
 -- ---- parts, each with what comes behind it
 
@@ -91,16 +89,21 @@ lawful_from n M f g l = within (here_then M) (bind n AtHere M here here f g (λ 
 -- the same where the next token is of a kind
 says_here : {B : Type 0} (M : ℕ → Language B) (i : Place) (o : Outcome B) → Says (M i.at) i o → Says (Here M) i o
 says_here M i (Ok p) r = record { tokens = r.tokens; leads = r.leads; reads = r.reads }
-says_here M i (Err e) r = record
-  { tokens = r.tokens; place = r.place; leads = r.leads; is = r.is
-  ; goes_on = record { rest = r.goes_on.rest; value = r.goes_on.value; reads = r.goes_on.reads; starts = r.goes_on.starts } }
+says_here M i (Err e) r = record {
+  tokens = r.tokens;
+  place = r.place;
+  leads = r.leads;
+  is = r.is;
+  goes_on = record { rest = r.goes_on.rest; value = r.goes_on.value; reads = r.goes_on.reads; starts = r.goes_on.starts };
+}
 
 pub keeps_from : {B : Type 0} (c : Sort → Type 0) (n : ℕ) (M : ℕ → Language B) (f g : ℕ → Parser B)
     → ((at : ℕ) → Keeps c n (M at) (f at) (g at)) → Keeps c n (Here M) (here >>= f) (here >>= g)
-keeps_from c n M f g l = record
-  { settled = λ i h short. (l i.at).settled i h short
-  ; says = λ i h. says_here M i (f i.at i) ((l i.at).says i h)
-  ; steady = λ k i j h same. subst (λ at. Same k (f i.at i) (f at j)) same.at ((l i.at).steady k i j h same) }
+keeps_from c n M f g l = record {
+  settled = λ i h short. (l i.at).settled i h short;
+  says = λ i h. says_here M i (f i.at i) ((l i.at).says i h);
+  steady = λ k i j h same. subst (λ at. Same k (f i.at i) (f at j)) same.at ((l i.at).steady k i j h same);
+}
 
 -- a token of a kind, and what comes behind it
 pub record Then {B : Type 0} (c : Sort → Type 0) (M : ℕ → Language B) (at : ℕ) (b : B) (u : List Token) (x : Sort) : Type 0 where
@@ -111,13 +114,14 @@ pub record Then {B : Type 0} (c : Sort → Type 0) (M : ℕ → Language B) (at 
   pub second : M token.line (suc at) b behind x
 
 line_then : {B : Type 0} (c : Sort → Type 0) (M : ℕ → Language B) → Within (Seq (ALine c) M) (Then c M)
-line_then c M at b u x y = record
-  { token = y.first.token
-  ; behind = y.back
-  ; splits = y.splits ∙ ap (λ v. v ++ y.back) y.first.is
-  ; sort_is = y.first.sort_is
-  ; second = subst (λ line. M line (suc at) b y.back x) y.first.line
-      (subst (λ n. M y.value n b y.back x) (let z : length y.front ≡ 1 = ap length y.first.is in omega (arith, z)) y.second) }
+line_then c M at b u x y = record {
+  token = y.first.token;
+  behind = y.back;
+  splits = y.splits ∙ ap (λ v. v ++ y.back) y.first.is;
+  sort_is = y.first.sort_is;
+  second = subst (λ line. M line (suc at) b y.back x) y.first.line
+      (subst (λ n. M y.value n b y.back x) (let z : length y.front ≡ 1 = ap length y.first.is in omega (arith, z)) y.second);
+}
 
 -- a token of this sort
 pub lawful_then : {B : Type 0} (n : ℕ) (z : Sort) (M : ℕ → Language B) (f g : ℕ → Parser B) → Sample z
@@ -140,13 +144,14 @@ pub record WithExpression {B : Type 0} (n : ℕ) (M : Expr → Language B) (at :
   pub second : M (tree_of at phrase) (at + length (spelled phrase)) b behind x
 
 expression_then : {B : Type 0} (n : ℕ) (M : Expr → Language B) → Within (Seq (AnExpression n) M) (WithExpression n M)
-expression_then n M at b u x y = record
-  { phrase = y.first.phrase
-  ; behind = y.back
-  ; is = y.first.is
-  ; splits = y.splits ∙ ap (λ v. v ++ y.back) y.first.spells
-  ; second = subst (λ a. M a (at + length (spelled y.first.phrase)) b y.back x) y.first.tree
-      (subst (λ v. M y.value (at + length v) b y.back x) y.first.spells y.second) }
+expression_then n M at b u x y = record {
+  phrase = y.first.phrase;
+  behind = y.back;
+  is = y.first.is;
+  splits = y.splits ∙ ap (λ v. v ++ y.back) y.first.spells;
+  second = subst (λ a. M a (at + length (spelled y.first.phrase)) b y.back x) y.first.tree
+      (subst (λ v. M y.value (at + length v) b y.back x) y.first.spells y.second);
+}
 
 pub lawful_with : {B : Type 0} (m n : ℕ) (M : Expr → Language B) (p q : Parser Expr) (f g : Expr → Parser B)
     → Lawful m (AnExpression n) p q → ((a : Expr) → Lawful m (M a) (f a) (g a)) → Lawful m (WithExpression n M) (p >>= f) (q >>= g)

@@ -38,13 +38,14 @@ pub record WithPhrase {P A B : Type 0} (Is : P → Type 0) (spell : P → List T
 
 pub phrase_then : {P A B : Type 0} (Is : P → Type 0) (spell : P → List Token) (tree : ℕ → P → A) (M : A → Language B)
     → Within (Seq (APhrase Is spell tree) M) (WithPhrase Is spell tree M)
-phrase_then Is spell tree M at b u x y = record
-  { phrase = y.first.phrase
-  ; behind = y.back
-  ; is = y.first.is
-  ; splits = y.splits ∙ ap (λ v. v ++ y.back) y.first.spells
-  ; second = subst (λ a. M a (at + length (spell y.first.phrase)) b y.back x) y.first.value_is
-      (subst (λ v. M y.value (at + length v) b y.back x) y.first.spells y.second) }
+phrase_then Is spell tree M at b u x y = record {
+  phrase = y.first.phrase;
+  behind = y.back;
+  is = y.first.is;
+  splits = y.splits ∙ ap (λ v. v ++ y.back) y.first.spells;
+  second = subst (λ a. M a (at + length (spell y.first.phrase)) b y.back x) y.first.value_is
+      (subst (λ v. M y.value (at + length v) b y.back x) y.first.spells y.second);
+}
 
 pub lawful_with_phrase : {P A B : Type 0} (n : ℕ) (Is : P → Type 0) (spell : P → List Token) (tree : ℕ → P → A) (M : A → Language B)
     (p q : Parser A) (f g : A → Parser B) → Lawful n (APhrase Is spell tree) p q → ((a : A) → Lawful n (M a) (f a) (g a))
@@ -61,13 +62,14 @@ pub record WithName {B : Type 0} (M : List ℕ → Language B) (at : ℕ) (b : B
   pub second : M (name_in token.kind) (suc at) b behind x
 
 name_then : {B : Type 0} (M : List ℕ → Language B) → Within (Seq AName M) (WithName M)
-name_then M at b u x y = record
-  { token = y.first.token
-  ; behind = y.back
-  ; sort_is = y.first.sort_is
-  ; splits = y.splits ∙ ap (λ v. v ++ y.back) y.first.is
-  ; second = subst (λ a. M a (suc at) b y.back x) y.first.value_is
-      (subst (λ n. M y.value n b y.back x) (let z : length y.front ≡ 1 = ap length y.first.is in omega (arith, z)) y.second) }
+name_then M at b u x y = record {
+  token = y.first.token;
+  behind = y.back;
+  sort_is = y.first.sort_is;
+  splits = y.splits ∙ ap (λ v. v ++ y.back) y.first.is;
+  second = subst (λ a. M a (suc at) b y.back x) y.first.value_is
+      (subst (λ n. M y.value n b y.back x) (let z : length y.front ≡ 1 = ap length y.first.is in omega (arith, z)) y.second);
+}
 
 pub lawful_with_name : {B : Type 0} (n : ℕ) (M : List ℕ → Language B) (f g : List ℕ → Parser B)
     → ((a : List ℕ) → Lawful n (M a) (f a) (g a)) → Lawful n (WithName M) (name >>= f) (name >>= g)
@@ -76,27 +78,30 @@ lawful_with_name n M f g k = within (name_then M) (bind n AName M name name f g 
 -- ---- fewer turns, and equal readers
 
 pub fewer_than : {A : Type 0} (m n : ℕ) {L : Language A} {p q : Parser A} → m ≤ n → Lawful n L p q → Lawful m L p q
-fewer_than m n {L} {p} {q} small l = record
-  { settled = λ i short. l.settled i (let e : length i.rest < n = omega arith in e)
-  ; says = l.says
-  ; steady = l.steady
-  ; can = l.can }
+fewer_than m n {L} {p} {q} small l = record {
+  settled = λ i short. l.settled i (let e : length i.rest < n = omega arith in e);
+  says = l.says;
+  steady = l.steady;
+  can = l.can;
+}
 
 pub keeps_fewer : {A : Type 0} (c : Sort → Type 0) (n : ℕ) (L : Language A) (p q : Parser A) → Keeps c (suc n) L p q → Keeps c n L p q
-keeps_fewer c n L p q l = record
-  { settled = λ i h short. l.settled i h (let e : length i.rest < suc n = omega arith in e)
-  ; says = l.says
-  ; steady = l.steady }
+keeps_fewer c n L p q l = record {
+  settled = λ i h short. l.settled i h (let e : length i.rest < suc n = omega arith in e);
+  says = l.says;
+  steady = l.steady;
+}
 
 pub lawful_equal : {A : Type 0} (n : ℕ) (L : Language A) (p q r t : Parser A)
     → ((i : Place) → p i ≡ r i) → ((i : Place) → q i ≡ t i) → Lawful n L r t → Lawful n L p q
 lawful_equal n L p q r t left right l =
     let k = keeps_equal (λ x. ⊤) n L p q r t (λ i h. left i) (λ i h. right i) (keeps (λ x. ⊤) n L r t l) in
-    record
-      { settled = λ i short. k.settled i tt short
-      ; says = λ i. k.says i tt
-      ; steady = λ m i j same. k.steady m i j tt same
-      ; can = l.can }
+    record {
+      settled = λ i short. k.settled i tt short;
+      says = λ i. k.says i tt;
+      steady = λ m i j same. k.steady m i j tt same;
+      can = l.can;
+    }
 
 -- ---- the first token's line
 
@@ -115,20 +120,27 @@ read_lined M at b x (t ∷ u) ts more e full r = subst (λ ts. M (first_line ts)
 goes_on_lined : {B : Type 0} (M : ℕ → Language B) (at : ℕ) (u ts more : List Token) → ts ≡ u ++ more
     → GoesOn (Lined M) at [] → GoesOn (M (first_line ts)) at u → GoesOn (Lined M) at u
 goes_on_lined M at [] ts more e can g = can
-goes_on_lined M at (t ∷ u) ts more e can g = record
-  { rest = g.rest
-  ; value = g.value
-  ; reads = λ x o. subst (λ ts. M (first_line ts) at g.value (t ∷ (u ++ g.rest)) x) e (g.reads x o)
-  ; starts = g.starts }
+goes_on_lined M at (t ∷ u) ts more e can g = record {
+  rest = g.rest;
+  value = g.value;
+  reads = λ x o. subst (λ ts. M (first_line ts) at g.value (t ∷ (u ++ g.rest)) x) e (g.reads x o);
+  starts = g.starts;
+}
 
 says_lined : {B : Type 0} (M : ℕ → Language B) (i : Place) (o : Outcome B) → Full (M (first_line i.rest)) → GoesOn (Lined M) i.at []
     → Says (M (first_line i.rest)) i o → Says (Lined M) i o
-says_lined M i (Ok p) full can r = record
-  { tokens = r.tokens; leads = r.leads
-  ; reads = read_lined M i.at p.0 (next_sort p.1) r.tokens i.rest p.1.rest r.leads.rest full r.reads }
-says_lined M i (Err e) full can r = record
-  { tokens = r.tokens; place = r.place; leads = r.leads; is = r.is
-  ; goes_on = goes_on_lined M i.at r.tokens i.rest r.place.rest r.leads.rest can r.goes_on }
+says_lined M i (Ok p) full can r = record {
+  tokens = r.tokens;
+  leads = r.leads;
+  reads = read_lined M i.at p.0 (next_sort p.1) r.tokens i.rest p.1.rest r.leads.rest full r.reads;
+}
+says_lined M i (Err e) full can r = record {
+  tokens = r.tokens;
+  place = r.place;
+  leads = r.leads;
+  is = r.is;
+  goes_on = goes_on_lined M i.at r.tokens i.rest r.place.rest r.leads.rest can r.goes_on;
+}
 
 lines_agree : (k : ℕ) (i j : Place) → Agree k i j → i.at ≤ k → first_line j.rest ≡ first_line i.rest
 lines_agree k i j same near = first_agrees same.shared i.rest j.rest same.more same.other same.left same.right
@@ -140,14 +152,16 @@ lines_agree k i j same near = first_agrees same.shared i.rest j.rest same.more s
 
 pub lawful_line : {B : Type 0} (n : ℕ) (M : ℕ → Language B) (f g : ℕ → Parser B) → ((line : ℕ) → Lawful n (M line) (f line) (g line))
     → ((line : ℕ) → Full (M line)) → ((at : ℕ) → GoesOn (Lined M) at []) → Lawful n (Lined M) (line_here >>= f) (line_here >>= g)
-lawful_line n M f g l full can = record
-  { settled = λ i short. (l (first_line i.rest)).settled i short
-  ; says = λ i. tells i
-  ; steady = λ k i j same. stays k i j same (near_or_far i.at k)
-  ; can = can }
+lawful_line n M f g l full can = record {
+  settled = λ i short. (l (first_line i.rest)).settled i short;
+  says = λ i. tells i;
+  steady = λ k i j same. stays k i j same (near_or_far i.at k);
+  can = can;
+}
   where
     tells : (i : Place) → Says (Lined M) i (f (first_line i.rest) i)
     tells i = says_lined M i (f (first_line i.rest) i) (full (first_line i.rest)) (can i.at) ((l (first_line i.rest)).says i)
+
     stays : (k : ℕ) (i j : Place) → Agree k i j → (i.at ≤ k) ⊎ (k < i.at) → Same k (f (first_line i.rest) i) (f (first_line j.rest) j)
     stays k i j same (inl near) =
         subst (λ line. Same k (f (first_line i.rest) i) (f line j)) (sym (lines_agree k i j same near)) ((l (first_line i.rest)).steady k i j same)
@@ -173,11 +187,12 @@ full_shrinks {A} n L p full says = λ i short. leaves i (p i) (says i) short
 pub lawful_no_turns : {A : Type 0} (L : Language A) (q : Parser A) → ((at : ℕ) → GoesOn L at []) → Lawful 0 L refuse q
 lawful_no_turns L q can =
     let k = keeps_refuse (λ x. ⊤) 0 L can in
-    record
-      { settled = λ i short. absurd (omega arith)
-      ; says = λ i. k.says i tt
-      ; steady = λ m i j same. k.steady m i j tt same
-      ; can = can }
+    record {
+      settled = λ i short. absurd (omega arith);
+      says = λ i. k.says i tt;
+      steady = λ m i j same. k.steady m i j tt same;
+      can = can;
+    }
 
 -- a token that was seen to be of a kind, at any number of turns
 pub keeps_then_fewer : {B : Type 0} (c : Sort → Type 0) (n : ℕ) (M : ℕ → Language B) (f g : ℕ → Parser B) → (c s.End → ⊥)
@@ -191,11 +206,12 @@ abbrev pub OneOf : {A : Type 0} → (Sort → Type 0) → (Token → A) → Lang
 OneOf C f = APhrase (λ (t : Token). C (sort t)) (λ t. t ∷ []) (λ at t. f t)
 
 one_of_is : {A : Type 0} (c C : Sort → Type 0) (f : Token → A) → ((x : Sort) → c x → C x) → Within (Seq (AToken c) (λ t. Pure (f t))) (OneOf C f)
-one_of_is c C f implies at a u x r = record
-  { phrase = r.value
-  ; is = implies (sort r.value) r.first.sort_is
-  ; spells = r.splits ∙ (ap (λ v. r.front ++ v) r.second.empty ∙ (append-nil r.front ∙ r.first.is))
-  ; value_is = r.second.is }
+one_of_is c C f implies at a u x r = record {
+  phrase = r.value;
+  is = implies (sort r.value) r.first.sort_is;
+  spells = r.splits ∙ (ap (λ v. r.front ++ v) r.second.empty ∙ (append-nil r.front ∙ r.first.is));
+  value_is = r.second.is;
+}
 
 shrunk : (n : ℕ) (i : Place) → length i.rest < n → Leaves n (take i)
 unfolding take

@@ -1,17 +1,14 @@
 -- The laws of the steps that take one token.
-use Rattle.std.proofs.Common.{◌≡◌, ◌≢◌, refl, sym, ◌∙◌, ap, subst, ℕ, zero, suc, ◌+◌, ◌<◌, ◌≤◌, List, [], ◌∷◌, ◌++◌, length, ◌⊎◌, inl, inr, Result, Ok, Err, Bool, true, false, if◌then◌else◌, arith}
+use Rattle.std.proofs.Common.{◌≡◌, ◌≢◌, refl, sym, ◌∙◌, ap, subst, ℕ, suc, ◌+◌, ◌<◌, ◌≤◌, List, [], ◌∷◌, ◌++◌, length, ◌⊎◌, inl, inr, Ok, Err, Bool, true, false, if◌then◌else◌, arith}
 use Rattle.std.proofs.lemmas.List.{append-nil}
-use Rattle.std.specs.Bool.{⊤}
 use Rattle.pw_grammar.specs.declared.sort.Sort.{Sort}
 use Rattle.pw_grammar.specs.declared.sort.Sort.TheVariants as s
-use Rattle.pw_grammar.specs.declared.error.SyntaxError.{SyntaxError}
-use Rattle.pw_grammar.specs.declared.error.SyntaxError.TheVariants.{At}
 use Rattle.pw_grammar.specs.Terminals.{sort, sort_of, first_sort, is_same}
 use Rattle.pw_lex.specs.declared.token.TokenKind.{TokenKind}
 use Rattle.pw_grammar.specs.Expressions.{name_in}
-use Rattle.pw_grammar.specs.Steps.{Place, Outcome, Parser, and_then, ◌>>=◌, pure, refuse, next_sort, sees, take, take_from, skip, expect, name}
-use Rattle.pw_grammar.proofs.Lawful.{Language, sort_before, Leads, Agree, GoesOn, HasRead, HasStopped, Says, Reaches, Same, Lawful, Within, Lax, within, Seq, leaves_fewer, bind, bind_from, Leaves, Shrinks, Pure, Nothing, lawful_pure, same_passed, near_or_far, leads_nowhere}
-use Rattle.pw_grammar.proofs.Branches.{Keeps, keeps, keeps_equal, keeps_refuse, keeps_pure, lawful_test, keeps_within, keeps_bind_from, next_agrees, same_sorts}
+use Rattle.pw_grammar.specs.Steps.{Place, Outcome, and_then, ◌>>=◌, pure, refuse, next_sort, sees, take, take_from, skip, expect, name}
+use Rattle.pw_grammar.proofs.Lawful.{Language, Leads, Agree, GoesOn, Says, Same, Lawful, Within, Lax, Seq, Leaves, Shrinks, Pure, lawful_pure, same_passed, near_or_far}
+use Rattle.pw_grammar.proofs.Branches.{Keeps, keeps_refuse, lawful_test, keeps_within, keeps_bind_from, same_sorts}
 use Rattle.pw_lex.specs.declared.token.Token.{Token}
 use Rattle.pw_lex.specs.declared.token.TokenKind.TheVariants as t
 
@@ -36,23 +33,25 @@ take_says : (c : Sort → Type 0) → (c s.End → ⊥) → (at : ℕ) (ts : Lis
 unfolding take_from
 take_says c ends at [] h = absurd (ends h)
 take_says c ends at (t ∷ ts) h = record
-  { tokens = t ∷ []; leads = leads_past at t ts; reads = record { is = refl; sort_is = h } }
+    { tokens = t ∷ []; leads = leads_past at t ts; reads = record { is = refl; sort_is = h } }
 
 take_steady : (k : ℕ) (at : ℕ) (v x y : List Token) → k < at + length v → at ≤ k
     → Same k (take_from at (v ++ x)) (take_from at (v ++ y))
 unfolding take_from
 take_steady k at [] x y far near = absurd (omega arith)
-take_steady k at (t ∷ v) x y far near = λ on. record
-  { place = record { at = suc at; rest = v ++ y }
-  ; is = refl
-  ; agree = record { at = refl; shared = v; more = x; other = y; left = refl; right = refl; far = omega arith } }
+take_steady k at (t ∷ v) x y far near = λ on. record {
+  place = record { at = suc at; rest = v ++ y };
+  is = refl;
+  agree = record { at = refl; shared = v; more = x; other = y; left = refl; right = refl; far = omega arith };
+}
 
 pub keeps_take : (c : Sort → Type 0) → (c s.End → ⊥) → (n : ℕ) → Keeps c n (AToken c) take take
 unfolding take
-keeps_take c ends n = record
-  { settled = λ i h short. refl
-  ; says = λ i h. take_says c ends i.at i.rest h
-  ; steady = λ k i j h same. stays k i j h same (near_or_far i.at k) }
+keeps_take c ends n = record {
+  settled = λ i h short. refl;
+  says = λ i h. take_says c ends i.at i.rest h;
+  steady = λ k i j h same. stays k i j h same (near_or_far i.at k);
+}
   where
     stays : (k : ℕ) (i j : Place) → c (next_sort i) → Agree k i j → (i.at ≤ k) ⊎ (k < i.at) → Same k (take_from i.at i.rest) (take_from j.at j.rest)
     stays k i j h same (inl near) =
@@ -89,11 +88,12 @@ pub a_line_is_lax : (c : Sort → Type 0) → Lax (ALine c)
 a_line_is_lax c = λ at a u x y r o. r
 
 line_of_a_token : (c : Sort → Type 0) → Within (Seq (AToken c) (λ t. Pure t.line)) (ALine c)
-line_of_a_token c at a u x r = record
-  { token = r.value
-  ; is = r.splits ∙ (ap (λ v. r.front ++ v) r.second.empty ∙ (append-nil r.front ∙ r.first.is))
-  ; sort_is = r.first.sort_is
-  ; line = r.second.is }
+line_of_a_token c at a u x r = record {
+  token = r.value;
+  is = r.splits ∙ (ap (λ v. r.front ++ v) r.second.empty ∙ (append-nil r.front ∙ r.first.is));
+  sort_is = r.first.sort_is;
+  line = r.second.is;
+}
 
 pub take_leaves : (n at : ℕ) (ts : List Token) → length ts < n → Leaves n (take_from at ts)
 unfolding take_from
@@ -130,11 +130,12 @@ pub record Sample (x : Sort) : Type 0 where
   pub no_end : x ≢ s.End
 
 pub one_goes_on : (x : Sort) → Sample x → (at : ℕ) → GoesOn (One x) at []
-one_goes_on x t at = record
-  { rest = t.token ∷ []
-  ; value = t.token.line
-  ; reads = λ y o. record { token = t.token; is = refl; sort_is = t.sort_is; line = refl }
-  ; starts = λ e y o. subst (λ z. z ≢ s.Else) (sym t.sort_is) t.no_else }
+one_goes_on x t at = record {
+  rest = t.token ∷ [];
+  value = t.token.line;
+  reads = λ y o. record { token = t.token; is = refl; sort_is = t.sort_is; line = refl };
+  starts = λ e y o. subst (λ z. z ≢ s.Else) (sym t.sort_is) t.no_else;
+}
 
 pub lawful_expect : (n : ℕ) (x : Sort) → Sample x → Lawful n (One x) (expect x) (expect x)
 unfolding expect sees
@@ -166,22 +167,24 @@ pub a_name_is_lax : Lax AName
 a_name_is_lax = λ at a u x y r o. r
 
 name_of_a_token : Within (Seq (AToken (λ y. is_same y s.Name ≡ true)) (λ t. Pure (name_in t.kind))) AName
-name_of_a_token at a u x r = record
-  { token = r.value
-  ; is = r.splits ∙ (ap (λ v. r.front ++ v) r.second.empty ∙ (append-nil r.front ∙ r.first.is))
-  ; sort_is = same_sorts (sort r.value) s.Name r.first.sort_is
-  ; value_is = r.second.is }
+name_of_a_token at a u x r = record {
+  token = r.value;
+  is = r.splits ∙ (ap (λ v. r.front ++ v) r.second.empty ∙ (append-nil r.front ∙ r.first.is));
+  sort_is = same_sorts (sort r.value) s.Name r.first.sort_is;
+  value_is = r.second.is;
+}
 
 abbrev pub a_token : TokenKind → Token
 a_token kind = record { kind = kind; first = 0; end = 0; line = 0 }
 
 name_goes_on : (at : ℕ) → GoesOn AName at []
 unfolding sort_of
-name_goes_on at = record
-  { rest = a_token (t.Word (95 ∷ [])) ∷ []
-  ; value = 95 ∷ []
-  ; reads = λ y o. record { token = a_token (t.Word (95 ∷ [])); is = refl; sort_is = refl; value_is = refl }
-  ; starts = λ e y o. λ p. cc }
+name_goes_on at = record {
+  rest = a_token (t.Word (95 ∷ [])) ∷ [];
+  value = 95 ∷ [];
+  reads = λ y o. record { token = a_token (t.Word (95 ∷ [])); is = refl; sort_is = refl; value_is = refl };
+  starts = λ e y o. λ p. cc;
+}
 
 end_is_no_name : is_same s.End s.Name ≡ true → ⊥
 unfolding is_same

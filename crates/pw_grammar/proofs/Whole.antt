@@ -1,20 +1,16 @@
 -- Whole lists: what is read of a list is its unit, and where a list is refused no unit goes on.
-use Rattle.std.proofs.Common.{◌≡◌, ◌≢◌, refl, sym, ◌∙◌, ap, subst, ℕ, zero, suc, ◌+◌, ◌-◌, ◌<◌, ◌≤◌, List, [], ◌∷◌, ◌++◌, length, take, drop, ◌⊎◌, inl, inr, Result, Ok, Err, Bool, true, false, if◌then◌else◌, nat_le, Option, Some, None, arith}
-use Rattle.std.proofs.lemmas.List.{append-nil, append_assoc, length-append, take-append-drop, length-take-le}
-use Rattle.std.proofs.lemmas.Bool.{leb-true, leb-false}
+use Rattle.std.proofs.Common.{◌≡◌, refl, sym, ◌∙◌, ap, subst, ℕ, zero, suc, ◌+◌, ◌<◌, ◌≤◌, List, [], ◌++◌, length, take, drop, ◌⊎◌, inl, inr, Ok, Err, arith}
+use Rattle.std.proofs.lemmas.List.{append-nil, length-append, take-append-drop, length-take-le}
 use Rattle.std.proofs.Math.Seq.{take-append_seam}
 use Rattle.std.proofs.Math.Nat.{zero-add}
-use Rattle.pw_grammar.specs.declared.sort.Sort.{Sort}
 use Rattle.pw_grammar.specs.declared.sort.Sort.TheVariants as s
 use Rattle.pw_grammar.specs.declared.error.SyntaxError.{SyntaxError}
-use Rattle.pw_grammar.specs.declared.error.SyntaxError.TheVariants.{At, TooNested, TooLong, NoMemory}
-use Rattle.pw_grammar.specs.Terminals.{sort, first_sort}
+use Rattle.pw_grammar.specs.declared.error.SyntaxError.TheVariants.{At}
 use Rattle.pw_grammar.specs.Declarations.{UnitPhrase, spelled_unit, IsUnit, trees_of_declarations}
-use Rattle.pw_grammar.specs.Faults.{Begins, IsWhole, IsStuck, IsFault, token_of, StandsLate}
-use Rattle.pw_grammar.specs.Limits.{first_nested, first_late, anew, Walk}
-use Rattle.pw_grammar.specs.Steps.{Place, Outcome, Parser, next_sort}
+use Rattle.pw_grammar.specs.Faults.{Begins, IsWhole, IsStuck}
+use Rattle.pw_grammar.specs.Steps.{Place, Outcome}
 use Rattle.pw_grammar.specs.ReadingDeclarations.{unit}
-use Rattle.pw_grammar.proofs.Lawful.{Language, Leads, Agree, GoesOn, HasRead, HasStopped, Says, Reaches, Same, Lawful, near_or_far}
+use Rattle.pw_grammar.proofs.Lawful.{Language, Agree, GoesOn, HasRead, HasStopped, Says, Same, Lawful, near_or_far}
 use Rattle.pw_lex.specs.declared.token.Token.{Token}
 use Rattle.pw_tree.specs.declared.decl.Decl.{Decl}
 
@@ -105,11 +101,12 @@ TellsOf us (Ok p) = IsRead us p.0
 TellsOf us (Err fault) = IsRefused us fault
 
 was_read : (k : Knows) (n : ℕ) (us : List Token) (ds : List Decl) (j : Place) → unit n (from_start us) ≡ Ok (ds, j) → HasRead AUnit (from_start us) ds j → IsRead us ds
-was_read k n us ds j is r = record
-  { phrase = r.reads.phrase
-  ; is = r.reads.is
-  ; spells = sym r.reads.spells ∙ sym (r.leads.rest ∙ (ap (λ v. r.tokens ++ v) (k.ends n (from_start us) j ds is) ∙ append-nil r.tokens))
-  ; trees = r.reads.trees }
+was_read k n us ds j is r = record {
+  phrase = r.reads.phrase;
+  is = r.reads.is;
+  spells = sym r.reads.spells ∙ sym (r.leads.rest ∙ (ap (λ v. r.tokens ++ v) (k.ends n (from_start us) j ds is) ∙ append-nil r.tokens));
+  trees = r.reads.trees;
+}
 
 front_of : (u x us : List Token) (at : ℕ) → us ≡ u ++ x → at ≡ length u → take at us ≡ u
 front_of u x us at e f = ap (λ n. take n us) f ∙ (ap (λ z. take (length u) z) e ∙ take-append_seam u x)
@@ -127,15 +124,17 @@ before_or_at a b e = at_least (near_or_far b a)
     at_least (inr z) = inl z
 
 was_refused : (k : Knows) (n : ℕ) (us : List Token) (e : SyntaxError) → length us < n → unit n (from_start us) ≡ Err e → HasStopped AUnit (from_start us) e → IsRefused us e
-was_refused k n us e short is r = record
-  { at = r.place.at
-  ; is = r.is
-  ; within = low
-  ; begins = subst (λ z. Begins z) (sym (front_of r.tokens r.place.rest us r.place.at r.leads.rest count)) (begins_before 0 r.tokens r.goes_on)
-  ; stuck = stuck_or_not_whole k n r.place.at us short (is ∙ ap Err r.is) low (before_or_at r.place.at (length us) low) }
+was_refused k n us e short is r = record {
+  at = r.place.at;
+  is = r.is;
+  within = low;
+  begins = subst (λ z. Begins z) (sym (front_of r.tokens r.place.rest us r.place.at r.leads.rest count)) (begins_before 0 r.tokens r.goes_on);
+  stuck = stuck_or_not_whole k n r.place.at us short (is ∙ ap Err r.is) low (before_or_at r.place.at (length us) low);
+}
   where
     count : r.place.at ≡ length r.tokens
     count = r.leads.at ∙ zero-add (length r.tokens)
+
     low : r.place.at ≤ length us
     low = let z : length us ≡ length r.tokens + length r.place.rest = ap length r.leads.rest ∙ length-append r.tokens r.place.rest in omega (arith, z, count)
 

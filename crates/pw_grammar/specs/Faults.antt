@@ -1,11 +1,10 @@
 -- The faults of a token list, and which is the first.
-use Rattle.std.specs.Prelude.{◌≡◌, ℕ, suc, ◌+◌, ◌<◌, ◌≤◌, Bool, true, false, ◌||◌, if◌then◌else◌, ◌-◌, List, [], ◌∷◌, ◌++◌, length, take, drop, ◌⊎◌, ⊤, Option, Some, None}
+use Rattle.std.specs.Prelude.{◌≡◌, ℕ, suc, ◌+◌, ◌<◌, ◌≤◌, Bool, true, false, if◌then◌else◌, ◌-◌, List, [], ◌∷◌, ◌++◌, length, take, drop, ◌⊎◌, Option, Some, None}
 use Rattle.pw_grammar.specs.declared.sort.Sort.{Sort}
 use Rattle.pw_grammar.specs.declared.sort.Sort.TheVariants as s
 use Rattle.pw_grammar.specs.declared.error.SyntaxError.{SyntaxError}
 use Rattle.pw_grammar.specs.declared.error.SyntaxError.TheVariants.{At, TooNested, TooLong, NoMemory}
 use Rattle.pw_grammar.specs.Terminals.{sort, first_sort}
-use Rattle.pw_grammar.specs.Statements.{spelled_statements}
 use Rattle.pw_grammar.specs.Declarations.{Declaration, function, spelled_declaration, spelled_storage, spelled_result, spelled_parameters, UnitPhrase, spelled_unit, IsUnit}
 use Rattle.pw_lex.specs.declared.token.Token.{Token}
 

@@ -1,7 +1,7 @@
 -- Reading the limits from left to right: the first bracket that nests too deep, and the first token of a function that
 -- is too long. Nothing of the grammar is asked but where a declaration ends: at a `;` outside brackets, or at the brace
 -- that closes a function's body, which a brace outside brackets and behind a `)` opens.
-use Rattle.std.specs.Prelude.{ℕ, suc, ◌+◌, ◌-◌, Bool, true, false, ◌||◌, ◌&&◌, if◌then◌else◌, ◌==◌, nat_le, List, [], ◌∷◌, Option, Some, None}
+use Rattle.std.specs.Prelude.{ℕ, suc, ◌+◌, Bool, false, ◌||◌, ◌&&◌, if◌then◌else◌, ◌==◌, nat_le, List, [], ◌∷◌, Option, Some, None}
 use Rattle.pw_grammar.specs.declared.sort.Sort.TheVariants as s
 use Rattle.pw_grammar.specs.Terminals.{sort, is_same}
 use Rattle.pw_grammar.specs.Faults.{opens, bracket}
@@ -38,12 +38,13 @@ abbrev pub anew : ℕ → Walk
 anew at = record { at = at; depth = 0; start = at; in_body = false; behind_list = false }
 
 abbrev pub onward : Walk → Token → Walk
-onward w t = record
-  { at = suc w.at
-  ; depth = bracket w.depth t
-  ; start = w.start
-  ; in_body = is_inside w t
-  ; behind_list = is_same (sort t) s.RightParen && bracket w.depth t == 0 }
+onward w t = record {
+  at = suc w.at;
+  depth = bracket w.depth t;
+  start = w.start;
+  in_body = is_inside w t;
+  behind_list = is_same (sort t) s.RightParen && bracket w.depth t == 0;
+}
 
 unfoldable pub step : Walk → Token → Walk
 step w t = if is_last w t then anew (suc w.at) else onward w t

@@ -1,10 +1,10 @@
 -- The answer for a whole list of tokens: its declarations, or its first fault.
-use Rattle.std.specs.Prelude.{ℕ, suc, Bool, true, false, if◌then◌else◌, nat_le, List, [], ◌∷◌, take, Option, Some, None, Result, Ok, Err}
+use Rattle.std.specs.Prelude.{ℕ, suc, if◌then◌else◌, nat_le, List, take, Option, Some, None, Result, Ok, Err}
 use Rattle.pw_grammar.specs.declared.error.SyntaxError.{SyntaxError}
-use Rattle.pw_grammar.specs.declared.error.SyntaxError.TheVariants.{At, TooNested, TooLong}
+use Rattle.pw_grammar.specs.declared.error.SyntaxError.TheVariants.{TooNested, TooLong}
 use Rattle.pw_grammar.specs.Faults.{token_of}
 use Rattle.pw_grammar.specs.Limits.{first_nested, first_late, anew}
-use Rattle.pw_grammar.specs.Steps.{Place, Outcome}
+use Rattle.pw_grammar.specs.Steps.{Outcome}
 use Rattle.pw_grammar.specs.ReadingDeclarations.{unit}
 use Rattle.pw_lex.specs.declared.token.Token.{Token}
 use Rattle.pw_tree.specs.declared.decl.Decl.{Decl}

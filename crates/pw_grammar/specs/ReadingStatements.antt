@@ -1,10 +1,10 @@
 -- Reading a statement from left to right. `expr` reads an expression and `stmt` a statement that stands in another.
-use Rattle.std.specs.Prelude.{ℕ, zero, suc, ◌+◌, ◌-◌, Bool, true, false, ◌||◌, ◌&&◌, if◌then◌else◌, ◌==◌, List, [], ◌∷◌, ◌++◌, Option, Some, None, Ok}
+use Rattle.std.specs.Prelude.{ℕ, zero, suc, Bool, true, false, ◌||◌, if◌then◌else◌, ◌==◌, List, [], ◌∷◌, ◌++◌, Option, Some, None}
 use Rattle.pw_grammar.specs.declared.sort.Sort.{Sort}
 use Rattle.pw_grammar.specs.declared.sort.Sort.TheVariants as s
 use Rattle.pw_grammar.specs.Terminals.{is_same}
-use Rattle.pw_grammar.specs.Statements.{type_of, jump_of}
-use Rattle.pw_grammar.specs.Steps.{Place, Parser, ◌>>=◌, pure, refuse, next_sort, sees, here, line_here, take, skip, expect, name, either, on_option, finish_statement}
+use Rattle.pw_grammar.specs.Statements.{type_of}
+use Rattle.pw_grammar.specs.Steps.{Parser, ◌>>=◌, pure, refuse, next_sort, sees, here, line_here, skip, expect, name, either, finish_statement}
 use Rattle.pw_grammar.specs.ReadingExpressions.{expression}
 use Rattle.pw_tree.specs.declared.ty.Ty.{Ty}
 use Rattle.pw_tree.specs.declared.ty.Ty.TheVariants.{Ulong}

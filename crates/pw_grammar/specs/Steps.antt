@@ -4,7 +4,7 @@ use Rattle.pw_grammar.specs.declared.sort.Sort.{Sort}
 use Rattle.pw_grammar.specs.declared.sort.Sort.TheVariants.{Name}
 use Rattle.pw_grammar.specs.declared.error.SyntaxError.{SyntaxError}
 use Rattle.pw_grammar.specs.declared.error.SyntaxError.TheVariants.{At, NoMemory}
-use Rattle.pw_grammar.specs.Terminals.{sort, first_sort, is_same}
+use Rattle.pw_grammar.specs.Terminals.{first_sort, is_same}
 use Rattle.pw_grammar.specs.Expressions.{name_in}
 use Rattle.pw_grammar.specs.Statements.{first_line}
 use Rattle.pw_lex.specs.declared.token.Token.{Token}

@@ -1,5 +1,5 @@
 -- The terminal symbols of the grammar, and what the operators among them mean.
-use Rattle.std.specs.Prelude.{◌≡◌, ℕ, Bool, List, [], ◌∷◌, slice_index_or, Option, Some, None}
+use Rattle.std.specs.Prelude.{ℕ, Bool, List, [], ◌∷◌, slice_index_or, Option, Some, None}
 use denote.Enum.Bare.{sameb}
 use Rattle.pw_grammar.specs.contracts.sort.Sort.{the_type}
 use Rattle.pw_grammar.specs.declared.sort.Sort.{Sort}
