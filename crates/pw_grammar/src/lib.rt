@@ -5,4 +5,4 @@ mod error;
 mod sort;
 
 pub use error::SyntaxError;
-pub use sort::{Sort, is_same, sort_of};
+pub use sort::{Sort, is_same, sort_of, word_of};

@@ -1,0 +1,4 @@
+//! Reads a token list from left to right: its tree, or its first fault.
+#![tactic(auto)]
+
+mod cursor;
