@@ -2,3 +2,9 @@
 #![tactic(auto)]
 
 mod cursor;
+mod expression;
+mod grammar;
+mod node;
+mod operator;
+mod postfix;
+mod primary;
