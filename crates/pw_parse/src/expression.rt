@@ -1,4 +1,5 @@
 //! Expressions, from operands with their prefix operators to choices (C17, 6.5.3 to 6.5.15).
+ghost use Rattle.std.specs.Prelude.{◌-◌};
 ghost use Rattle.pw_grammar.specs.ReadingExpressions as spec;
 ghost use Rattle.pw_grammar.specs.Steps.{Reads};
 ghost use Rattle.pw_parse.specs.Nests.{Nests};
@@ -11,8 +12,8 @@ use pw_grammar::{Sort, SyntaxError};
 use pw_tree::Expr;
 use std::alloc::Global;
 
-/// The loosest level of the binary operators is this number and 2.
-const LEVELS: usize = 10;
+/// The loosest level of the binary operators.
+const LOOSEST: usize = 12;
 
 impl<F: Fn(Global, &mut Cursor<'_>, usize) -> Result<Expr, SyntaxError>> Grammar<F> {
     /// An operand with the prefix operators in front of it.
@@ -21,27 +22,27 @@ impl<F: Fn(Global, &mut Cursor<'_>, usize) -> Result<Expr, SyntaxError>> Grammar
         requires { Nests self.now.depth (F.pre self.now.expr) (F.post self.now.expr) }
         ensures { Reads (spec.prefix (spec.expression self.now.depth) self.now.turns cursor.old) result cursor.new }
     {
-        let at = cursor.at();
         let ops = operators(self.alloc, cursor, self.turns)?;
+        let at = cursor.at();
         let operand = self.postfix(cursor)?;
         Ok(wrapped(self.alloc, at, cursor.last(), ops, operand)?)
     }
 
-    /// An expression of the level `k + 2`.
-    fn level(&self, cursor: &mut Cursor<'_>, k: usize) -> Result<Expr, SyntaxError>
+    /// An expression of the level, which is that of its loosest operator; 2 has no binary operator.
+    fn level(&self, cursor: &mut Cursor<'_>, level: usize) -> Result<Expr, SyntaxError>
         requires { Nests self.now.depth (F.pre self.now.expr) (F.post self.now.expr) }
-        ensures { Reads (spec.level (spec.expression self.now.depth) self.now.turns k cursor.old) result cursor.new }
+        ensures { Reads (spec.level (spec.expression self.now.depth) self.now.turns (level - 2) cursor.old) result cursor.new }
     {
-        if k == 0 {
+        if level <= 2 {
             return self.prefix(cursor);
         }
         let first = cursor.at();
-        let mut left = self.level(cursor, k - 1)?;
+        let mut left = self.level(cursor, level - 1)?;
         for _turn in 0..self.turns {
-            match binary_operator(cursor, k + 2)? {
+            match binary_operator(cursor, level)? {
                 None => return Ok(left),
                 Some((op, line)) => {
-                    let right = self.level(cursor, k - 1)?;
+                    let right = self.level(cursor, level - 1)?;
                     left = Expr {
                         first,
                         last: cursor.last(),
@@ -79,7 +80,7 @@ impl<F: Fn(Global, &mut Cursor<'_>, usize) -> Result<Expr, SyntaxError>> Grammar
         ensures { Reads (spec.choice (spec.expression self.now.depth) self.now.turns cursor.old) result cursor.new }
     {
         let first = cursor.at();
-        let test = self.level(cursor, LEVELS)?;
+        let test = self.level(cursor, LOOSEST)?;
         if cursor.sees(Sort::Question) {
             self.branches(cursor, first, test)
         } else {

@@ -1,5 +1,5 @@
 //! Operators, and the prefix operators in front of an operand.
-ghost use Rattle.std.specs.Prelude.{◌≡◌, ◌+◌, ◌^◌, ◌<◌, [], length, IfOk};
+ghost use Rattle.std.specs.Prelude.{◌≡◌, ◌-◌, ◌≤◌, [], length, IfOk};
 ghost use Rattle.pw_grammar.specs.ReadingExpressions as spec;
 ghost use Rattle.pw_grammar.specs.Steps.{Reads};
 ghost use Rattle.pw_grammar.specs.Terminals as terminals;
@@ -128,21 +128,22 @@ pub(crate) fn operators(
     Ok(found)
 }
 
-/// The operand behind these operators, the first of which has the number `at`; `last` is the operand's last token.
+/// The operand behind these operators. `at` is the number of the operand's first token, `last` that of its last.
 pub(crate) fn wrapped(
     alloc: Global,
-    at: u32,
+    mut at: u32,
     last: u32,
     mut ops: Items<(Un, u32)>,
     operand: Expr,
 ) -> Result<Expr, AllocError>
-    requires { at + length ops < 2 ^ 32 }
-    ensures { IfOk result (λ whole. whole ≡ spec.wrapped at last ops operand) }
+    requires { length ops ≤ at }
+    ensures { IfOk result (λ whole. whole ≡ spec.wrapped (at - length ops) last ops operand) }
 {
     let mut whole = operand;
     'inner: while let Some((op, line)) = ops.pop() {
+        at -= 1;
         whole = Expr {
-            first: at + ops.len() as u32,
+            first: at,
             last,
             line,
             kind: unary(alloc, op, whole)?,
