@@ -29,24 +29,3 @@ impl<F: Fn(Global, &mut Cursor<'_>, usize) -> Result<Expr, SyntaxError>> Grammar
         (self.expr)(self.alloc, cursor, self.depth)
     }
 }
-
-/// An expression (C17, 6.5.15) whose nesting and whose lists are bounded by `depth`.
-#[tactic(auto, unfolding(pw_grammar::specs::ReadingExpressions::expression))]
-pub(crate) fn expression(
-    alloc: Global,
-    cursor: &mut Cursor<'_>,
-    depth: usize,
-) -> Result<Expr, SyntaxError>
-    ensures { Reads (spec.expression depth cursor.old) result cursor.new }
-{
-    if depth == 0 {
-        return Err(cursor.refuse());
-    }
-    Grammar {
-        alloc,
-        turns: depth,
-        depth: depth - 1,
-        expr: expression,
-    }
-    .choice(cursor)
-}

@@ -4,6 +4,7 @@
 mod cursor;
 mod expression;
 mod grammar;
+mod level;
 mod node;
 mod operator;
 mod postfix;

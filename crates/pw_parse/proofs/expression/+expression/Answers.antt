@@ -2,7 +2,7 @@ use Rattle.std.proofs.Common.{◌∙◌, sym, ap, subst, arith, Err}
 use Rattle.pw_grammar.specs.Steps.{Outcome, Reads}
 use Rattle.pw_tree.specs.declared.expr.Expr.{Expr}
 use Rattle.pw_parse.proofs.Levels.{less_deep, too_deep}
-use Rattle.pw_parse.proofs.grammar.+expression.Goals as goal
+use Rattle.pw_parse.proofs.expression.+expression.Goals as goal
 
 pub returns-then-depth-eq0 : goal.returns-then-depth-eq0
 returns-then-depth-eq0 t c _ =
