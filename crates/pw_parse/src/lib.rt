@@ -9,3 +9,5 @@ mod node;
 mod operator;
 mod postfix;
 mod primary;
+#[cfg(test)]
+mod tests;
