@@ -1,5 +1,7 @@
 //! The faults of a token list.
 
+use pw_base::NoMemory;
+use std::alloc::AllocError;
 use thiserror::Error;
 
 /// Why a token list has no tree: its first fault, with the faulty token's number, from 0.
@@ -17,4 +19,26 @@ pub enum SyntaxError {
     /// Memory for the tree was refused.
     #[error("out of memory")]
     NoMemory,
+}
+
+impl From<AllocError> for SyntaxError {
+    ghost use Rattle.std.specs.Prelude.{◌≡◌};
+    ghost use Rattle.pw_grammar.specs.declared.error.SyntaxError.TheVariants as errors;
+
+    ghost from_gives = { λ _ e. e ≡ errors.NoMemory };
+
+    fn from(_: AllocError) -> SyntaxError {
+        SyntaxError::NoMemory
+    }
+}
+
+impl From<NoMemory> for SyntaxError {
+    ghost use Rattle.std.specs.Prelude.{◌≡◌};
+    ghost use Rattle.pw_grammar.specs.declared.error.SyntaxError.TheVariants as errors;
+
+    ghost from_gives = { λ _ e. e ≡ errors.NoMemory };
+
+    fn from(_: NoMemory) -> SyntaxError {
+        SyntaxError::NoMemory
+    }
 }

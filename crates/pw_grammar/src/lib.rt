@@ -7,4 +7,4 @@ mod sort;
 
 pub use error::SyntaxError;
 pub use laws::{a_list_has_one_tree, reading_tells_the_tree_or_the_first_fault};
-pub use sort::{Sort, is_same, sort_of};
+pub use sort::{Sort, is_same, sort_of, word_of};

@@ -1,7 +1,9 @@
 //! What the grammar asks of a token: its terminal symbol.
-ghost use Rattle.std.specs.Prelude.{◌≡◌};
+ghost use Rattle.std.specs.Prelude.{◌≡◌, true, false, MatchOption};
+ghost use Rattle.pw_grammar.specs.Expressions.{name_in};
 ghost use Rattle.pw_grammar.specs.Terminals as spec;
 
+use pw_base::Name;
 use pw_lex::TokenKind;
 
 /// A terminal symbol of the grammar. What carries a name or a value is one symbol, whatever it carries.
@@ -165,4 +167,18 @@ pub fn is_same(a: Sort, b: Sort) -> bool
     ensures { result ≡ spec.is_same a b }
 {
     a == b
+}
+
+/// The name that a token carries, if its symbol is that of a name.
+#[tactic(auto, unfolding(crate::specs::Terminals::sort_of, crate::specs::Terminals::is_same))]
+pub fn word_of(kind: &TokenKind) -> Option<&Name>
+    ensures { MatchOption result (spec.is_same (spec.sort_of kind.now) Sort.Name ≡ false) (λ name. (spec.is_same (spec.sort_of kind.now) Sort.Name ≡ true) × (name_in kind.now ≡ name.now)) }
+{
+    match kind {
+        TokenKind::Word(name) => Some(name),
+        TokenKind::Number(_, _)
+        | TokenKind::Char(_)
+        | TokenKind::Keyword(_)
+        | TokenKind::Punct(_) => None,
+    }
 }
