@@ -1,2 +1,4 @@
 pub mod Cursor
+pub mod Loops
+pub mod NestsStatements
 pub mod Values

@@ -2,3 +2,8 @@
 #![tactic(auto)]
 
 mod cursor;
+mod expression;
+mod header;
+mod simple;
+mod statement;
+mod types;
