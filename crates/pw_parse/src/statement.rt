@@ -67,14 +67,24 @@ fn leave(alloc: Global, cursor: &mut Cursor<'_>, depth: usize) -> Result<StmtKin
     Ok(StmtKind::Return(value))
 }
 
-/// One word and `;`, for a statement that is only that.
+/// `break ;`
 #[tactic(auto, unfolding(pw_grammar::specs::ReadingStatements::jump))]
-fn jump(cursor: &mut Cursor<'_>, kind: StmtKind) -> Result<StmtKind, SyntaxError>
-    ensures { Reads (spec.jump kind cursor.old) result cursor.new }
+fn break_off(cursor: &mut Cursor<'_>) -> Result<StmtKind, SyntaxError>
+    ensures { Reads (spec.jump StmtKind.Break cursor.old) result cursor.new }
 {
     cursor.skip()?;
     cursor.expect(Sort::Semicolon)?;
-    Ok(kind)
+    Ok(StmtKind::Break)
+}
+
+/// `continue ;`
+#[tactic(auto, unfolding(pw_grammar::specs::ReadingStatements::jump))]
+fn go_on(cursor: &mut Cursor<'_>) -> Result<StmtKind, SyntaxError>
+    ensures { Reads (spec.jump StmtKind.Continue cursor.old) result cursor.new }
+{
+    cursor.skip()?;
+    cursor.expect(Sort::Semicolon)?;
+    Ok(StmtKind::Continue)
 }
 
 impl<S: Fn(Global, &mut Cursor<'_>, usize) -> Result<Stmt, SyntaxError>> Statements<S> {
@@ -243,8 +253,8 @@ impl<S: Fn(Global, &mut Cursor<'_>, usize) -> Result<Stmt, SyntaxError>> Stateme
             Sort::Do => self.do_loop(cursor),
             Sort::For => self.for_loop(cursor),
             Sort::Return => leave(self.alloc, cursor, self.depth),
-            Sort::Break => jump(cursor, StmtKind::Break),
-            Sort::Continue => jump(cursor, StmtKind::Continue),
+            Sort::Break => break_off(cursor),
+            Sort::Continue => go_on(cursor),
             _ => evaluated(self.alloc, cursor, self.depth),
         }
     }
