@@ -7,3 +7,8 @@ mod header;
 mod simple;
 mod statement;
 mod types;
+mod declaration;
+mod initialiser;
+mod parameter;
+mod unit;
+mod variable;

@@ -47,6 +47,23 @@ pub(crate) fn statement(
     .whole(cursor)
 }
 
+/// The statements of a function's body.
+pub(crate) fn inner_statements(
+    alloc: Global,
+    cursor: &mut Cursor<'_>,
+    depth: usize,
+) -> Result<Items<Stmt>, SyntaxError>
+    ensures { Reads (spec.elements (expressions.expression depth) (spec.statement depth) depth [] cursor.old) result cursor.new }
+{
+    Statements {
+        alloc,
+        depth,
+        inner: depth,
+        stmt: statement,
+    }
+    .elements(cursor)
+}
+
 /// `;`
 #[tactic(auto, unfolding(pw_grammar::specs::ReadingStatements::empty))]
 fn empty(cursor: &mut Cursor<'_>) -> Result<StmtKind, SyntaxError>
