@@ -5,4 +5,4 @@ use Rattle.pw_parse.proofs.initialiser.more_initials.Given as goal
 
 abbrev pub invariant-loop-turn : goal.invariant-loop-turn
 invariant-loop-turn l =
-    more_initials l.turns l.fn.found l.fn.cursor ≡ more_initials (l._turn-end - l._turn) l.found l.cursor
+    more_initials l.turns l.fn.found l.fn.cursor ≡ more_initials (l.turns - l._turn) l.found l.cursor

@@ -5,4 +5,4 @@ use Rattle.pw_parse.proofs.parameter.more_parameters.Given as goal
 
 abbrev pub invariant-loop-turn : goal.invariant-loop-turn
 invariant-loop-turn l =
-    more_parameters l.turns l.fn.found l.fn.cursor ≡ more_parameters (l._turn-end - l._turn) l.found l.cursor
+    more_parameters l.turns l.fn.found l.fn.cursor ≡ more_parameters (l.turns - l._turn) l.found l.cursor

@@ -8,4 +8,4 @@ use Rattle.pw_parse.proofs.unit.declarations.Given as goal
 abbrev pub invariant-loop-turn : goal.invariant-loop-turn
 invariant-loop-turn l =
     declarations (declaration (expression l.depth) (statement l.depth) l.depth) l.depth [] l.fn.cursor
-    ≡ declarations (declaration (expression l.depth) (statement l.depth) l.depth) (l._turn-end - l._turn) l.found l.cursor
+    ≡ declarations (declaration (expression l.depth) (statement l.depth) l.depth) (l.depth - l._turn) l.found l.cursor
