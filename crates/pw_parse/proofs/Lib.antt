@@ -1,1 +1,4 @@
 pub mod Turns
+pub mod Wrapping
+pub mod Leaves
+pub mod Levels

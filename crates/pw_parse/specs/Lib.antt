@@ -1,5 +1,6 @@
 pub mod Cursor
-pub mod Loops
-pub mod NestsStatements
-pub mod Numbers
 pub mod Values
+pub mod Numbers
+pub mod Nests
+pub mod NestsStatements
+pub mod Loops

@@ -2,13 +2,21 @@
 #![tactic(auto)]
 
 mod cursor;
+mod declaration;
 mod expression;
+mod grammar;
 mod header;
+mod initialiser;
+mod level;
+mod node;
+mod operator;
+mod parameter;
+mod postfix;
+mod primary;
 mod simple;
 mod statement;
+#[cfg(test)]
+mod tests;
 mod types;
-mod declaration;
-mod initialiser;
-mod parameter;
 mod unit;
 mod variable;

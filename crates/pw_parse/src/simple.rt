@@ -105,11 +105,7 @@ fn assigned(
 
 /// An assignment, or an expression by itself.
 #[tactic(auto, unfolding(pw_grammar::specs::ReadingStatements::simple))]
-fn simple(
-    alloc: Global,
-    cursor: &mut Cursor<'_>,
-    depth: usize,
-) -> Result<StmtKind, SyntaxError>
+fn simple(alloc: Global, cursor: &mut Cursor<'_>, depth: usize) -> Result<StmtKind, SyntaxError>
     ensures { Reads (spec.simple (expressions.expression depth) cursor.old) result cursor.new }
 {
     let first = cursor.at();

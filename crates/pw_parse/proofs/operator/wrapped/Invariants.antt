@@ -1,0 +1,12 @@
+-- The operand so far, behind the operators that are left, is the whole.
+use Rattle.std.proofs.Common.{◌≡◌, ℕ, ◌-◌, ◌≤◌, length}
+use Rattle.pw_grammar.specs.ReadingExpressions.{wrapped}
+use Rattle.pw_parse.proofs.operator.wrapped.Given as goal
+
+abbrev pub invariant-inner : goal.invariant-inner
+invariant-inner l =
+    (wrapped (l.fn.at - length l.fn.ops) l.last l.fn.ops l.fn.operand ≡ wrapped (l.at - length l.ops) l.last l.ops l.whole)
+    × (length l.ops ≤ l.at)
+
+abbrev pub decreases-inner : goal.decreases-inner
+decreases-inner l = length l.ops

@@ -1,0 +1,31 @@
+//! The rules that hold expressions take the reader of those as a parameter, so that each is proved by itself.
+ghost use Rattle.pw_grammar.specs.ReadingExpressions as spec;
+ghost use Rattle.pw_grammar.specs.Steps.{Reads};
+ghost use Rattle.pw_parse.specs.Nests.{Nests};
+
+use crate::cursor::Cursor;
+use pw_grammar::SyntaxError;
+use pw_tree::Expr;
+use std::alloc::Global;
+
+/// What the rules of expressions read with.
+#[derive(Clone, Copy)]
+pub(crate) struct Grammar<F> {
+    pub alloc: Global,
+    /// How often a loop may turn; a number above that of the tokens is enough.
+    pub turns: usize,
+    /// How deep the expressions inside may nest; the same is enough.
+    pub depth: usize,
+    /// Reads an expression, to a depth.
+    pub expr: F,
+}
+
+impl<F: Fn(Global, &mut Cursor<'_>, usize) -> Result<Expr, SyntaxError>> Grammar<F> {
+    /// An expression inside.
+    pub fn expr(&self, cursor: &mut Cursor<'_>) -> Result<Expr, SyntaxError>
+        requires { Nests self.now.depth (F.pre self.now.expr) (F.post self.now.expr) }
+        ensures { Reads (spec.expression self.now.depth cursor.old) result cursor.new }
+    {
+        (self.expr)(self.alloc, cursor, self.depth)
+    }
+}

@@ -1,0 +1,109 @@
+//! Primary expressions (C17, 6.5.1), input and output.
+ghost use Rattle.pw_grammar.specs.ReadingExpressions as spec;
+ghost use Rattle.pw_grammar.specs.Steps.{Reads, either, refuse};
+ghost use Rattle.pw_parse.specs.Nests.{Nests};
+
+use crate::cursor::Cursor;
+use crate::grammar::Grammar;
+use crate::node::output;
+use pw_grammar::{Sort, SyntaxError};
+use pw_tree::{Expr, ExprKind};
+use std::alloc::Global;
+
+/// A name.
+#[tactic(auto, unfolding(pw_grammar::specs::ReadingExpressions::identifier, pw_grammar::specs::Steps::name))]
+fn identifier(alloc: Global, cursor: &mut Cursor<'_>) -> Result<Expr, SyntaxError>
+    ensures { Reads (either Sort.Name spec.identifier refuse cursor.old) result cursor.new }
+{
+    let first = cursor.at();
+    let line = cursor.line();
+    let name = cursor.name(alloc)?;
+    Ok(Expr {
+        first,
+        last: cursor.last(),
+        line,
+        kind: ExprKind::Word(name),
+    })
+}
+
+/// A constant.
+#[tactic(auto, unfolding(pw_grammar::specs::ReadingExpressions::constant))]
+fn constant(cursor: &mut Cursor<'_>) -> Result<Expr, SyntaxError>
+    ensures { Reads (spec.constant cursor.old) result cursor.new }
+{
+    let first = cursor.at();
+    let line = cursor.line();
+    let (value, unsigned) = cursor.value()?;
+    Ok(Expr {
+        first,
+        last: cursor.last(),
+        line,
+        kind: ExprKind::Num(value, unsigned),
+    })
+}
+
+/// `__in()`
+#[tactic(auto, unfolding(pw_grammar::specs::ReadingExpressions::input))]
+fn input(cursor: &mut Cursor<'_>) -> Result<Expr, SyntaxError>
+    ensures { Reads (spec.input cursor.old) result cursor.new }
+{
+    let first = cursor.at();
+    let line = cursor.skip()?;
+    cursor.expect(Sort::LeftParen)?;
+    cursor.expect(Sort::RightParen)?;
+    Ok(Expr {
+        first,
+        last: cursor.last(),
+        line,
+        kind: ExprKind::Input,
+    })
+}
+
+impl<F: Fn(Global, &mut Cursor<'_>, usize) -> Result<Expr, SyntaxError>> Grammar<F> {
+    /// `(e)`
+    #[tactic(auto, unfolding(pw_grammar::specs::ReadingExpressions::bracketed))]
+    fn bracketed(&self, cursor: &mut Cursor<'_>) -> Result<Expr, SyntaxError>
+        requires { Nests self.now.depth (F.pre self.now.expr) (F.post self.now.expr) }
+        ensures { Reads (spec.bracketed (spec.expression self.now.depth) cursor.old) result cursor.new }
+    {
+        cursor.skip()?;
+        let inner = self.expr(cursor)?;
+        cursor.expect(Sort::RightParen)?;
+        Ok(inner)
+    }
+
+    /// `__out(e)`
+    #[tactic(auto, unfolding(pw_grammar::specs::ReadingExpressions::output))]
+    fn output(&self, cursor: &mut Cursor<'_>) -> Result<Expr, SyntaxError>
+        requires { Nests self.now.depth (F.pre self.now.expr) (F.post self.now.expr) }
+        ensures { Reads (spec.output (spec.expression self.now.depth) cursor.old) result cursor.new }
+    {
+        let first = cursor.at();
+        let line = cursor.skip()?;
+        cursor.expect(Sort::LeftParen)?;
+        let kind = output(self.alloc, self.expr(cursor)?)?;
+        cursor.expect(Sort::RightParen)?;
+        Ok(Expr {
+            first,
+            last: cursor.last(),
+            line,
+            kind,
+        })
+    }
+
+    /// A primary expression.
+    #[tactic(auto, unfolding(pw_grammar::specs::ReadingExpressions::primary))]
+    pub fn primary(&self, cursor: &mut Cursor<'_>) -> Result<Expr, SyntaxError>
+        requires { Nests self.now.depth (F.pre self.now.expr) (F.post self.now.expr) }
+        ensures { Reads (spec.primary (spec.expression self.now.depth) cursor.old) result cursor.new }
+    {
+        match cursor.peek() {
+            Sort::Name => identifier(self.alloc, cursor),
+            Sort::Number | Sort::Character => constant(cursor),
+            Sort::LeftParen => self.bracketed(cursor),
+            Sort::Input => input(cursor),
+            Sort::Output => self.output(cursor),
+            _ => Err(cursor.refuse()),
+        }
+    }
+}
