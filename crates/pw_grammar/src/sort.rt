@@ -176,6 +176,9 @@ pub fn word_of(kind: &TokenKind) -> Option<&Name>
 {
     match kind {
         TokenKind::Word(name) => Some(name),
-        TokenKind::Number(_, _) | TokenKind::Char(_) | TokenKind::Keyword(_) | TokenKind::Punct(_) => None,
+        TokenKind::Number(_, _)
+        | TokenKind::Char(_)
+        | TokenKind::Keyword(_)
+        | TokenKind::Punct(_) => None,
     }
 }

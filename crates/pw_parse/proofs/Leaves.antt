@@ -1,11 +1,11 @@
 -- Expressions of one token.
-use Rattle.std.proofs.Common.{◌≡◌, ℕ, suc, ◌-◌, Bool, true, false, if◌then◌else◌, List, [], ◌∷◌, Ok, Err, ◌∙◌, sym, ap, arith}
+use Rattle.std.proofs.Common.{◌≡◌, ℕ, Bool, true, false, if◌then◌else◌, List, [], ◌∷◌, Ok, ◌∙◌, sym, ap, arith}
 use Rattle.std.proofs.lemmas.Grind.{common_steps}
 use Rattle.pw_lex.specs.declared.token.Token.{Token}
 use Rattle.pw_grammar.specs.declared.sort.Sort.TheVariants.{Name}
 use Rattle.pw_grammar.specs.Expressions.{name_in, value_in, is_unsigned}
 use Rattle.pw_grammar.specs.Statements.{first_line}
-use Rattle.pw_grammar.specs.Steps.{Place, Outcome, Parser, take, take_from, name, sees, refuse, either, next_sort, and_then, ◌>>=◌, pure, finish}
+use Rattle.pw_grammar.specs.Steps.{Place, Parser, take, take_from, name, sees, refuse, either, next_sort, and_then, pure, finish}
 use Rattle.pw_grammar.specs.Terminals.{is_same}
 use Rattle.pw_grammar.specs.ReadingExpressions.{constant, identifier, primary, primary_by}
 use Rattle.pw_tree.specs.declared.expr.Expr.{Expr}

@@ -1,8 +1,7 @@
 -- Prefix operators, from the innermost on.
 use Rattle.std.proofs.Common.{◌≡◌, ℕ, zero, suc, ◌+◌, ◌-◌, ◌≤◌, List, [], ◌∷◌, ◌++◌, length, length-append, Option, Some, None, Ok, Err, ap, ◌∙◌, sym, refl, arith}
-use Rattle.std.proofs.lemmas.Grind.{common_steps}
 use Rattle.pw_lex.specs.declared.token.Token.{Token}
-use Rattle.pw_grammar.specs.Steps.{Place, Outcome, take, take_from, skip, and_then, ◌>>=◌, pure, on_option, next_sort}
+use Rattle.pw_grammar.specs.Steps.{Place, Outcome, take, take_from, skip, and_then, pure, on_option, next_sort}
 use Rattle.pw_grammar.specs.Terminals.{prefix_of}
 use Rattle.pw_grammar.specs.ReadingExpressions.{wrapped, prefix_by, prefix_operator, operators}
 use Rattle.pw_tree.specs.declared.operator.Un.{Un}
@@ -31,11 +30,11 @@ one_inner at last before ops op a kind split form fits h =
     let count : length before ≡ length ops + 1 = ap length split ∙ length-append ops (op ∷ []) in
     let start : at - length before ≡ at - 1 - length ops = omega (arith, count, fits) in
     let inner : at - 1 - length ops + length ops ≡ at - 1 = omega (arith, count, fits) in
-    (h ∙ ap (λ m. wrapped m last before a) start ∙ ap (λ l. wrapped (at - 1 - length ops) last l a) split
+    let turned = h ∙ ap (λ m. wrapped m last before a) start ∙ ap (λ l. wrapped (at - 1 - length ops) last l a) split
     ∙ innermost (at - 1 - length ops) last ops op a
     ∙ ap (λ m. wrapped (at - 1 - length ops) last ops (wrapped_once m last op a)) inner
-    ∙ ap (λ k. wrapped (at - 1 - length ops) last ops (roll-Expr (record { first = at - 1; last = last; line = op.1; kind = k }))) (sym form),
-    omega (arith, count, fits))
+    ∙ ap (λ k. wrapped (at - 1 - length ops) last ops (roll-Expr (record { first = at - 1; last = last; line = op.1; kind = k }))) (sym form) in
+    (turned, omega (arith, count, fits))
 
 pub none_inner : {x : Expr} (at last : ℕ) (ops : List (Un × ℕ)) (a : Expr) → ops ≡ [] → x ≡ wrapped (at - length ops) last ops a → a ≡ x
 unfolding wrapped

@@ -1,5 +1,5 @@
 -- What a cursor shows, and what bounds it.
-use Rattle.std.specs.Prelude.{ℕ, ◌+◌, ◌^◌, ◌<◌, length}
+use Rattle.std.specs.Prelude.{◌+◌, ◌^◌, ◌<◌, length}
 use Rattle.pw_parse.specs.declared.cursor.Cursor.TheInside.{Inside}
 use Rattle.pw_grammar.specs.Steps.{Place}
 

@@ -1,5 +1,5 @@
 -- The value that a token carries.
-use Rattle.std.specs.Prelude.{ℕ, Bool, Ok}
+use Rattle.std.specs.Prelude.{ℕ, Bool}
 use Rattle.pw_grammar.specs.Expressions.{value_in, is_unsigned}
 use Rattle.pw_grammar.specs.Steps.{Parser, take, ◌>>=◌, pure}
 

@@ -31,7 +31,11 @@ pub(crate) fn cond(alloc: Global, test: Expr, a: Expr, b: Expr) -> Result<ExprKi
 }
 
 /// `callee(arguments)`
-pub(crate) fn call(alloc: Global, callee: Expr, arguments: Items<Expr>) -> Result<ExprKind, AllocError>
+pub(crate) fn call(
+    alloc: Global,
+    callee: Expr,
+    arguments: Items<Expr>,
+) -> Result<ExprKind, AllocError>
     ensures { IfOk result (λ kind. kind ≡ ExprKind.Call callee arguments) }
 {
     Ok(ExprKind::Call(Boxed::new(alloc, callee)?, arguments))

@@ -115,17 +115,50 @@ const THE_TIGHTEST_OPERATOR_STANDS_DEEPEST: [Row; 18] = [
     (b"5", "5@0-0/1 to 1"),
     (b"'A'", "65@0-0/1 to 1"),
     (b"0xfu", "15u@0-0/1 to 1"),
-    (b"a+b*c", "(Add@0-4/1 a@0-0/1 (Mul@2-4/1 b@2-2/1 c@4-4/1)) to 5"),
-    (b"a*b+c", "(Add@0-4/1 (Mul@0-2/1 a@0-0/1 b@2-2/1) c@4-4/1) to 5"),
-    (b"a-b-c", "(Sub@0-4/1 (Sub@0-2/1 a@0-0/1 b@2-2/1) c@4-4/1) to 5"),
-    (b"(a+b)*c", "(Mul@0-6/1 (Add@1-3/1 a@1-1/1 b@3-3/1) c@6-6/1) to 7"),
-    (b"a/b%c", "(Rem@0-4/1 (Div@0-2/1 a@0-0/1 b@2-2/1) c@4-4/1) to 5"),
-    (b"a||b&&c", "(OrOr@0-4/1 a@0-0/1 (AndAnd@2-4/1 b@2-2/1 c@4-4/1)) to 5"),
-    (b"a|b^c&d", "(Or@0-6/1 a@0-0/1 (Xor@2-6/1 b@2-2/1 (And@4-6/1 c@4-4/1 d@6-6/1))) to 7"),
-    (b"a==b<c", "(Eq@0-4/1 a@0-0/1 (Lt@2-4/1 b@2-2/1 c@4-4/1)) to 5"),
-    (b"a<<1+2", "(Shl@0-4/1 a@0-0/1 (Add@2-4/1 1@2-2/1 2@4-4/1)) to 5"),
-    (b"a>>b>=c", "(Ge@0-4/1 (Shr@0-2/1 a@0-0/1 b@2-2/1) c@4-4/1) to 5"),
-    (b"a>b<=c", "(Le@0-4/1 (Gt@0-2/1 a@0-0/1 b@2-2/1) c@4-4/1) to 5"),
+    (
+        b"a+b*c",
+        "(Add@0-4/1 a@0-0/1 (Mul@2-4/1 b@2-2/1 c@4-4/1)) to 5",
+    ),
+    (
+        b"a*b+c",
+        "(Add@0-4/1 (Mul@0-2/1 a@0-0/1 b@2-2/1) c@4-4/1) to 5",
+    ),
+    (
+        b"a-b-c",
+        "(Sub@0-4/1 (Sub@0-2/1 a@0-0/1 b@2-2/1) c@4-4/1) to 5",
+    ),
+    (
+        b"(a+b)*c",
+        "(Mul@0-6/1 (Add@1-3/1 a@1-1/1 b@3-3/1) c@6-6/1) to 7",
+    ),
+    (
+        b"a/b%c",
+        "(Rem@0-4/1 (Div@0-2/1 a@0-0/1 b@2-2/1) c@4-4/1) to 5",
+    ),
+    (
+        b"a||b&&c",
+        "(OrOr@0-4/1 a@0-0/1 (AndAnd@2-4/1 b@2-2/1 c@4-4/1)) to 5",
+    ),
+    (
+        b"a|b^c&d",
+        "(Or@0-6/1 a@0-0/1 (Xor@2-6/1 b@2-2/1 (And@4-6/1 c@4-4/1 d@6-6/1))) to 7",
+    ),
+    (
+        b"a==b<c",
+        "(Eq@0-4/1 a@0-0/1 (Lt@2-4/1 b@2-2/1 c@4-4/1)) to 5",
+    ),
+    (
+        b"a<<1+2",
+        "(Shl@0-4/1 a@0-0/1 (Add@2-4/1 1@2-2/1 2@4-4/1)) to 5",
+    ),
+    (
+        b"a>>b>=c",
+        "(Ge@0-4/1 (Shr@0-2/1 a@0-0/1 b@2-2/1) c@4-4/1) to 5",
+    ),
+    (
+        b"a>b<=c",
+        "(Le@0-4/1 (Gt@0-2/1 a@0-0/1 b@2-2/1) c@4-4/1) to 5",
+    ),
     (
         b"a&&b||c==d!=e",
         "(OrOr@0-8/1 (AndAnd@0-2/1 a@0-0/1 b@2-2/1) (Ne@4-8/1 (Eq@4-6/1 c@4-4/1 d@6-6/1) e@8-8/1)) to 9",
@@ -140,38 +173,67 @@ fn the_tightest_operator_stands_deepest(rt: HostRuntime) -> Result<(), Fail> {
 const PREFIX_OPERATORS_AND_SUFFIXES_HAVE_THEIR_TOKENS: [Row; 13] = [
     (b"-a", "(Neg@0-1/1 a@1-1/1) to 2"),
     (b"- -a", "(Neg@0-2/1 (Neg@1-2/1 a@2-2/1)) to 3"),
-    (b"-~!+a", "(Neg@0-4/1 (Not@1-4/1 (Bang@2-4/1 (Plus@3-4/1 a@4-4/1)))) to 5"),
+    (
+        b"-~!+a",
+        "(Neg@0-4/1 (Not@1-4/1 (Bang@2-4/1 (Plus@3-4/1 a@4-4/1)))) to 5",
+    ),
     (b"-a*b", "(Mul@0-3/1 (Neg@0-1/1 a@1-1/1) b@3-3/1) to 4"),
     (b"-f(x)", "(Neg@0-4/1 (Call@1-4/1 f@1-1/1 x@3-3/1)) to 5"),
     (b"a[1]", "(Index@0-3/1 a@0-0/1 1@2-2/1) to 4"),
     (b"f()", "(Call@0-2/1 f@0-0/1) to 3"),
     (b"f(a)", "(Call@0-3/1 f@0-0/1 a@2-2/1) to 4"),
-    (b"f(a,b,c)", "(Call@0-7/1 f@0-0/1 a@2-2/1 b@4-4/1 c@6-6/1) to 8"),
+    (
+        b"f(a,b,c)",
+        "(Call@0-7/1 f@0-0/1 a@2-2/1 b@4-4/1 c@6-6/1) to 8",
+    ),
     (
         b"f(a)(b)[c]",
         "(Index@0-9/1 (Call@0-6/1 (Call@0-3/1 f@0-0/1 a@2-2/1) b@5-5/1) c@8-8/1) to 10",
     ),
     (b"(f)(a)", "(Call@0-5/1 f@1-1/1 a@4-4/1) to 6"),
     (b"__in()", "(Input@0-2/1) to 3"),
-    (b"__out(a+1)", "(Output@0-5/1 (Add@2-4/1 a@2-2/1 1@4-4/1)) to 6"),
+    (
+        b"__out(a+1)",
+        "(Output@0-5/1 (Add@2-4/1 a@2-2/1 1@4-4/1)) to 6",
+    ),
 ];
 
 #[test]
 fn prefix_operators_and_suffixes_have_their_tokens(rt: HostRuntime) -> Result<(), Fail> {
-    agree(&rt, rt.alloc(), &PREFIX_OPERATORS_AND_SUFFIXES_HAVE_THEIR_TOKENS)
+    agree(
+        &rt,
+        rt.alloc(),
+        &PREFIX_OPERATORS_AND_SUFFIXES_HAVE_THEIR_TOKENS,
+    )
 }
 
 const A_CHOICE_TAKES_IN_THOSE_IN_IT_AND_BEHIND_IT: [Row; 5] = [
     (b"a?b:c", "(Cond@0-4/1 a@0-0/1 b@2-2/1 c@4-4/1) to 5"),
-    (b"a?b:c?d:e", "(Cond@0-8/1 a@0-0/1 b@2-2/1 (Cond@4-8/1 c@4-4/1 d@6-6/1 e@8-8/1)) to 9"),
-    (b"a?b?c:d:e", "(Cond@0-8/1 a@0-0/1 (Cond@2-6/1 b@2-2/1 c@4-4/1 d@6-6/1) e@8-8/1) to 9"),
-    (b"a||b?c:d", "(Cond@0-6/1 (OrOr@0-2/1 a@0-0/1 b@2-2/1) c@4-4/1 d@6-6/1) to 7"),
-    (b"f(a?b:c,d)", "(Call@0-9/1 f@0-0/1 (Cond@2-6/1 a@2-2/1 b@4-4/1 c@6-6/1) d@8-8/1) to 10"),
+    (
+        b"a?b:c?d:e",
+        "(Cond@0-8/1 a@0-0/1 b@2-2/1 (Cond@4-8/1 c@4-4/1 d@6-6/1 e@8-8/1)) to 9",
+    ),
+    (
+        b"a?b?c:d:e",
+        "(Cond@0-8/1 a@0-0/1 (Cond@2-6/1 b@2-2/1 c@4-4/1 d@6-6/1) e@8-8/1) to 9",
+    ),
+    (
+        b"a||b?c:d",
+        "(Cond@0-6/1 (OrOr@0-2/1 a@0-0/1 b@2-2/1) c@4-4/1 d@6-6/1) to 7",
+    ),
+    (
+        b"f(a?b:c,d)",
+        "(Call@0-9/1 f@0-0/1 (Cond@2-6/1 a@2-2/1 b@4-4/1 c@6-6/1) d@8-8/1) to 10",
+    ),
 ];
 
 #[test]
 fn a_choice_takes_in_those_in_it_and_behind_it(rt: HostRuntime) -> Result<(), Fail> {
-    agree(&rt, rt.alloc(), &A_CHOICE_TAKES_IN_THOSE_IN_IT_AND_BEHIND_IT)
+    agree(
+        &rt,
+        rt.alloc(),
+        &A_CHOICE_TAKES_IN_THOSE_IN_IT_AND_BEHIND_IT,
+    )
 }
 
 const A_NODE_HAS_THE_LINE_OF_ITS_OPERATOR: [Row; 7] = [
@@ -280,14 +342,20 @@ fn prefix_operators_stand_8190_deep(rt: HostRuntime) -> Result<(), Fail> {
 #[test]
 fn a_sum_has_8000_right_operands(rt: HostRuntime) -> Result<(), Fail> {
     let text = nested(rt.alloc(), 8000, b"a+", b"a", b"")?;
-    assert_eq!(rt; extent(&rt, rt.alloc(), text.as_slice())?, (0, 16000, 16001));
+    assert_eq!(rt;
+        extent(&rt, rt.alloc(), text.as_slice())?,
+        (0, 16000, 16001)
+    );
     Ok(())
 }
 
 #[test]
 fn brackets_nest_200_deep(rt: HostRuntime) -> Result<(), Fail> {
     let brackets = nested(rt.alloc(), 200, b"(", b"a", b")")?;
-    assert_eq!(rt; extent(&rt, rt.alloc(), brackets.as_slice())?, (200, 200, 401));
+    assert_eq!(rt;
+        extent(&rt, rt.alloc(), brackets.as_slice())?,
+        (200, 200, 401)
+    );
     let calls = nested(rt.alloc(), 200, b"f(a,", b"a", b")")?;
     assert_eq!(rt; extent(&rt, rt.alloc(), calls.as_slice())?, (0, 1000, 1001));
     let indices = nested(rt.alloc(), 200, b"-a[", b"a", b"]")?;

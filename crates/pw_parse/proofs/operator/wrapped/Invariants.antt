@@ -1,5 +1,5 @@
 -- The operand so far, behind the operators that are left, is the whole.
-use Rattle.std.proofs.Common.{◌≡◌, ℕ, ◌-◌, ◌≤◌, length}
+use Rattle.std.proofs.Common.{◌≡◌, ◌-◌, ◌≤◌, length}
 use Rattle.pw_grammar.specs.ReadingExpressions.{wrapped}
 use Rattle.pw_parse.proofs.operator.wrapped.Given as goal
 
