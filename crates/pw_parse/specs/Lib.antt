@@ -1,3 +1,6 @@
 pub mod Cursor
 pub mod Values
+pub mod Numbers
 pub mod Nests
+pub mod NestsStatements
+pub mod Loops

@@ -2,12 +2,21 @@
 #![tactic(auto)]
 
 mod cursor;
+mod declaration;
 mod expression;
 mod grammar;
+mod header;
+mod initialiser;
 mod level;
 mod node;
 mod operator;
+mod parameter;
 mod postfix;
 mod primary;
+mod simple;
+mod statement;
 #[cfg(test)]
 mod tests;
+mod types;
+mod unit;
+mod variable;

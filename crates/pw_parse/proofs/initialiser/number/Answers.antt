@@ -1,0 +1,27 @@
+use Rattle.std.proofs.Common.{◌≡◌, ◌≢◌, ℕ, Bool, Result, Ok, Err, rules, arith}
+use Rattle.std.proofs.lemmas.Grind.{common_steps}
+use Rattle.pw_lex.specs.declared.token.Token.{Token}
+use Rattle.pw_grammar.specs.declared.error.SyntaxError.{SyntaxError}
+use Rattle.pw_grammar.specs.declared.error.SyntaxError.TheVariants.{NoMemory}
+use Rattle.pw_grammar.specs.Expressions.{value_in, is_unsigned}
+use Rattle.pw_grammar.specs.Steps.{Place, Outcome, take, and_then, pure, Reads}
+use Rattle.pw_parse.proofs.initialiser.number.Goals as goal
+
+-- an outcome of which less is kept
+value_alone : (o : Outcome Token) (v : ℕ × Bool) (j : Place)
+    → and_then {B = ℕ × Bool} o (λ t. pure (value_in t.kind, is_unsigned t.kind)) ≡ Ok (v, j) → and_then o (λ t. pure (value_in t.kind)) ≡ Ok (v.0, j)
+value_alone (Ok p) v j e = grind (arith, common_steps)
+value_alone (Err x) v j e = cc
+
+refusal_alone : (o : Outcome Token) (x : SyntaxError)
+    → and_then {B = ℕ × Bool} o (λ t. pure (value_in t.kind, is_unsigned t.kind)) ≡ Err x → and_then o (λ t. pure (value_in t.kind)) ≡ Err x
+refusal_alone (Ok p) x e = cc
+refusal_alone (Err y) x e = cc
+
+pub returns-in_err-value : goal.returns-in_err-value
+returns-in_err-value c =
+    let h = λ (known : c.in_err-value.field-0.0 ≢ NoMemory). refusal_alone (take c.args.cursor.now) _ (c.in_err-value.ensures known) in
+    first_of (search rules, grind (arith, common_steps))
+
+pub returns : goal.returns
+returns c = value_alone (take c.args.cursor.now) _ _ c.in_ok-value.ensures

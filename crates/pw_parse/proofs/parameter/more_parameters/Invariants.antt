@@ -1,0 +1,8 @@
+-- What is left to read gives what the whole gives.
+use Rattle.std.proofs.Common.{◌≡◌, ◌-◌}
+use Rattle.pw_grammar.specs.ReadingDeclarations.{more_parameters}
+use Rattle.pw_parse.proofs.parameter.more_parameters.Given as goal
+
+abbrev pub invariant-loop-turn : goal.invariant-loop-turn
+invariant-loop-turn l =
+    more_parameters l.turns l.fn.found l.fn.cursor ≡ more_parameters (l.turns - l._turn) l.found l.cursor

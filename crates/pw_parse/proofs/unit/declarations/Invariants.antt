@@ -1,0 +1,11 @@
+-- What is left to read gives what the whole gives.
+use Rattle.std.proofs.Common.{◌≡◌, ◌-◌, []}
+use Rattle.pw_grammar.specs.ReadingExpressions.{expression}
+use Rattle.pw_grammar.specs.ReadingStatements.{statement}
+use Rattle.pw_grammar.specs.ReadingDeclarations.{declaration, declarations}
+use Rattle.pw_parse.proofs.unit.declarations.Given as goal
+
+abbrev pub invariant-loop-turn : goal.invariant-loop-turn
+invariant-loop-turn l =
+    declarations (declaration (expression l.depth) (statement l.depth) l.depth) l.depth [] l.fn.cursor
+    ≡ declarations (declaration (expression l.depth) (statement l.depth) l.depth) (l.depth - l._turn) l.found l.cursor

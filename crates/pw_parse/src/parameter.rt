@@ -1,0 +1,107 @@
+//! The parameters of a function.
+ghost use Rattle.std.specs.Prelude.{◌≡◌, [], ◌∷◌};
+ghost use Rattle.std.specs.List.{list_all};
+ghost use Rattle.pw_grammar.specs.Steps.{Reads};
+ghost use Rattle.pw_grammar.specs.ReadingDeclarations as spec;
+
+use crate::cursor::Cursor;
+use crate::types::type_name;
+use pw_base::Name;
+use pw_grammar::{Sort, SyntaxError};
+use pw_tree::Param;
+use sqlite_items::Items;
+use std::alloc::Global;
+
+/// A name, or nothing.
+#[tactic(auto, unfolding(pw_grammar::specs::ReadingDeclarations::maybe_name, pw_grammar::specs::ReadingStatements::some))]
+fn maybe_name(alloc: Global, cursor: &mut Cursor<'_>) -> Result<Option<Name>, SyntaxError>
+    ensures { Reads (spec.maybe_name cursor.old) result cursor.new }
+{
+    if !cursor.sees(Sort::Name) {
+        return Ok(None);
+    }
+    let name = cursor.name(alloc)?;
+    Ok(Some(name))
+}
+
+/// A type, and a name or nothing.
+#[tactic(auto, unfolding(pw_grammar::specs::ReadingDeclarations::parameter))]
+fn parameter(alloc: Global, cursor: &mut Cursor<'_>) -> Result<Param, SyntaxError>
+    ensures { Reads (spec.parameter cursor.old) result cursor.new }
+{
+    let first = cursor.at();
+    let ty = type_name(cursor)?;
+    let name = maybe_name(alloc, cursor)?;
+    Ok(Param {
+        ty,
+        name,
+        first,
+        last: cursor.last(),
+    })
+}
+
+/// Further parameters, each behind its comma.
+fn more_parameters(
+    alloc: Global,
+    cursor: &mut Cursor<'_>,
+    turns: usize,
+    mut found: Items<Param>,
+) -> Result<Items<Param>, SyntaxError>
+    ensures { Reads (spec.more_parameters turns found cursor.old) result cursor.new }
+{
+    for _turn in 0..turns {
+        if !cursor.sees(Sort::Comma) {
+            return Ok(found);
+        }
+        cursor.skip()?;
+        found.push(parameter(alloc, cursor)?)?;
+    }
+    Ok(found)
+}
+
+/// One or more parameters.
+#[tactic(auto, unfolding(pw_grammar::specs::ReadingDeclarations::some_parameters))]
+fn some_parameters(
+    alloc: Global,
+    cursor: &mut Cursor<'_>,
+    turns: usize,
+) -> Result<Items<Param>, SyntaxError>
+    ensures { Reads (spec.some_parameters turns cursor.old) result cursor.new }
+{
+    let mut found = Items::new(alloc);
+    found.push(parameter(alloc, cursor)?)?;
+    more_parameters(alloc, cursor, turns, found)
+}
+
+/// `void`, or one or more parameters.
+#[tactic(auto, unfolding(pw_grammar::specs::ReadingDeclarations::parameters, pw_grammar::specs::ReadingDeclarations::given))]
+pub(crate) fn parameters(
+    alloc: Global,
+    cursor: &mut Cursor<'_>,
+    turns: usize,
+) -> Result<Items<Param>, SyntaxError>
+    ensures { Reads (spec.parameters turns cursor.old) result cursor.new }
+{
+    if !cursor.sees(Sort::Void) {
+        return some_parameters(alloc, cursor, turns);
+    }
+    cursor.skip()?;
+    Ok(Items::new(alloc))
+}
+
+/// Whether the parameter has a name.
+fn is_named(parameter: &Param) -> bool
+    ensures { result ≡ spec.is_named parameter.now }
+{
+    match &parameter.name {
+        Some(_) => true,
+        None => false,
+    }
+}
+
+/// Whether each of them has a name.
+pub(crate) fn are_named(parameters: &[Param]) -> bool
+    ensures { result ≡ list_all spec.is_named parameters.now }
+{
+    parameters.iter().all(|parameter| is_named(parameter))
+}

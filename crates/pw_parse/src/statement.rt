@@ -1,0 +1,290 @@
+//! Statements, which hold expressions and statements. What holds statements takes their reader as a parameter, so that
+//! each rule is proved by itself.
+ghost use Rattle.std.specs.Prelude.{◌≡◌, []};
+ghost use Rattle.pw_grammar.specs.Steps.{Reads};
+ghost use Rattle.pw_grammar.specs.ReadingExpressions as expressions;
+ghost use Rattle.pw_grammar.specs.ReadingStatements as spec;
+ghost use Rattle.pw_parse.specs.Loops as loops;
+ghost use Rattle.pw_parse.specs.NestsStatements.{NestsStatements};
+
+use crate::cursor::Cursor;
+use crate::header::{maybe_expression, maybe_step, start};
+use crate::simple::{evaluated, finished, local, test};
+use crate::types::begins_type;
+use pw_grammar::{Sort, SyntaxError};
+use pw_tree::{Expr, Stmt, StmtKind};
+use sqlite_items::{Boxed, Items};
+use std::alloc::Global;
+
+/// The rules of statements, over a reader of those that stand in others.
+#[derive(Clone, Copy)]
+pub(crate) struct Statements<S> {
+    pub alloc: Global,
+    /// How deep expressions may nest, and how often a loop may turn.
+    pub depth: usize,
+    /// How deep statements in others may nest.
+    pub inner: usize,
+    pub stmt: S,
+}
+
+/// A statement, in which expressions and statements nest at most this deep.
+pub(crate) fn statement(
+    alloc: Global,
+    cursor: &mut Cursor<'_>,
+    depth: usize,
+) -> Result<Stmt, SyntaxError>
+    ensures { Reads (spec.statement depth cursor.old) result cursor.new }
+{
+    if depth == 0 {
+        return Err(cursor.refuse());
+    }
+    Statements {
+        alloc,
+        depth,
+        inner: depth - 1,
+        stmt: statement,
+    }
+    .whole(cursor)
+}
+
+/// The statements of a function's body.
+pub(crate) fn inner_statements(
+    alloc: Global,
+    cursor: &mut Cursor<'_>,
+    depth: usize,
+) -> Result<Items<Stmt>, SyntaxError>
+    ensures { Reads (spec.elements (expressions.expression depth) (spec.statement depth) depth [] cursor.old) result cursor.new }
+{
+    Statements {
+        alloc,
+        depth,
+        inner: depth,
+        stmt: statement,
+    }
+    .elements(cursor)
+}
+
+/// `;`
+#[tactic(auto, unfolding(pw_grammar::specs::ReadingStatements::empty))]
+fn empty(cursor: &mut Cursor<'_>) -> Result<StmtKind, SyntaxError>
+    ensures { Reads (spec.empty cursor.old) result cursor.new }
+{
+    cursor.skip()?;
+    Ok(StmtKind::Empty)
+}
+
+/// `return e ;`, or `return ;`
+#[tactic(auto, unfolding(pw_grammar::specs::ReadingStatements::leave))]
+fn leave(alloc: Global, cursor: &mut Cursor<'_>, depth: usize) -> Result<StmtKind, SyntaxError>
+    ensures { Reads (spec.leave (expressions.expression depth) cursor.old) result cursor.new }
+{
+    cursor.skip()?;
+    let value = maybe_expression(alloc, cursor, depth, Sort::Semicolon)?;
+    cursor.expect(Sort::Semicolon)?;
+    Ok(StmtKind::Return(value))
+}
+
+/// `break ;`
+#[tactic(auto, unfolding(pw_grammar::specs::ReadingStatements::jump))]
+fn break_off(cursor: &mut Cursor<'_>) -> Result<StmtKind, SyntaxError>
+    ensures { Reads (spec.jump StmtKind.Break cursor.old) result cursor.new }
+{
+    cursor.skip()?;
+    cursor.expect(Sort::Semicolon)?;
+    Ok(StmtKind::Break)
+}
+
+/// `continue ;`
+#[tactic(auto, unfolding(pw_grammar::specs::ReadingStatements::jump))]
+fn go_on(cursor: &mut Cursor<'_>) -> Result<StmtKind, SyntaxError>
+    ensures { Reads (spec.jump StmtKind.Continue cursor.old) result cursor.new }
+{
+    cursor.skip()?;
+    cursor.expect(Sort::Semicolon)?;
+    Ok(StmtKind::Continue)
+}
+
+impl<S: Fn(Global, &mut Cursor<'_>, usize) -> Result<Stmt, SyntaxError>> Statements<S> {
+    /// A statement that stands in another.
+    fn part(&self, cursor: &mut Cursor<'_>) -> Result<Stmt, SyntaxError>
+        requires { NestsStatements self.now.inner (S.pre self.now.stmt) (S.post self.now.stmt) }
+        ensures { Reads (spec.statement self.now.inner cursor.old) result cursor.new }
+    {
+        (self.stmt)(self.alloc, cursor, self.inner)
+    }
+
+    /// A statement that stands in another, in a box.
+    fn boxed(&self, cursor: &mut Cursor<'_>) -> Result<Boxed<Stmt>, SyntaxError>
+        requires { NestsStatements self.now.inner (S.pre self.now.stmt) (S.post self.now.stmt) }
+        ensures { Reads (spec.statement self.now.inner cursor.old) result cursor.new }
+    {
+        let part = self.part(cursor)?;
+        Ok(Boxed::new(self.alloc, part)?)
+    }
+
+    /// A statement of a block, or a local's declaration.
+    #[tactic(auto, unfolding(pw_grammar::specs::ReadingStatements::element))]
+    fn element(&self, cursor: &mut Cursor<'_>) -> Result<Stmt, SyntaxError>
+        requires { NestsStatements self.now.inner (S.pre self.now.stmt) (S.post self.now.stmt) }
+        ensures { Reads (spec.element (expressions.expression self.now.depth) (spec.statement self.now.inner) cursor.old) result cursor.new }
+    {
+        if begins_type(cursor.peek()) {
+            local(self.alloc, cursor, self.depth)
+        } else {
+            self.part(cursor)
+        }
+    }
+
+    /// What stands in a block, up to its closing brace.
+    pub fn elements(&self, cursor: &mut Cursor<'_>) -> Result<Items<Stmt>, SyntaxError>
+        requires { NestsStatements self.now.inner (S.pre self.now.stmt) (S.post self.now.stmt) }
+        ensures { Reads (spec.elements (expressions.expression self.now.depth) (spec.statement self.now.inner) self.now.depth [] cursor.old) result cursor.new }
+    {
+        let mut found = Items::new(self.alloc);
+        for _turn in 0..self.depth {
+            if cursor.sees(Sort::RightBrace) {
+                return Ok(found);
+            }
+            found.push(self.element(cursor)?)?;
+        }
+        Ok(found)
+    }
+
+    /// `{ statements }`
+    #[tactic(auto, unfolding(pw_grammar::specs::ReadingStatements::block))]
+    fn block(&self, cursor: &mut Cursor<'_>) -> Result<StmtKind, SyntaxError>
+        requires { NestsStatements self.now.inner (S.pre self.now.stmt) (S.post self.now.stmt) }
+        ensures { Reads (spec.block (expressions.expression self.now.depth) (spec.statement self.now.inner) self.now.depth cursor.old) result cursor.new }
+    {
+        cursor.skip()?;
+        let body = self.elements(cursor)?;
+        cursor.expect(Sort::RightBrace)?;
+        Ok(StmtKind::Block(body))
+    }
+
+    /// `else` and a statement, or nothing.
+    #[tactic(auto, unfolding(pw_grammar::specs::ReadingStatements::maybe_else, pw_grammar::specs::ReadingStatements::alternative))]
+    fn maybe_else(&self, cursor: &mut Cursor<'_>) -> Result<Option<Boxed<Stmt>>, SyntaxError>
+        requires { NestsStatements self.now.inner (S.pre self.now.stmt) (S.post self.now.stmt) }
+        ensures { Reads (spec.maybe_else (spec.statement self.now.inner) cursor.old) result cursor.new }
+    {
+        if !cursor.sees(Sort::Else) {
+            return Ok(None);
+        }
+        cursor.skip()?;
+        Ok(Some(self.boxed(cursor)?))
+    }
+
+    /// `if ( e ) s`, and `else s` or nothing.
+    #[tactic(auto, unfolding(pw_grammar::specs::ReadingStatements::conditional))]
+    fn conditional(&self, cursor: &mut Cursor<'_>) -> Result<StmtKind, SyntaxError>
+        requires { NestsStatements self.now.inner (S.pre self.now.stmt) (S.post self.now.stmt) }
+        ensures { Reads (spec.conditional (expressions.expression self.now.depth) (spec.statement self.now.inner) cursor.old) result cursor.new }
+    {
+        cursor.skip()?;
+        let test = test(self.alloc, cursor, self.depth)?;
+        let yes = self.boxed(cursor)?;
+        let no = self.maybe_else(cursor)?;
+        Ok(StmtKind::If(test, yes, no))
+    }
+
+    /// `while ( e ) s`
+    #[tactic(auto, unfolding(pw_grammar::specs::ReadingStatements::while_loop))]
+    fn while_loop(&self, cursor: &mut Cursor<'_>) -> Result<StmtKind, SyntaxError>
+        requires { NestsStatements self.now.inner (S.pre self.now.stmt) (S.post self.now.stmt) }
+        ensures { Reads (spec.while_loop (expressions.expression self.now.depth) (spec.statement self.now.inner) cursor.old) result cursor.new }
+    {
+        cursor.skip()?;
+        let test = test(self.alloc, cursor, self.depth)?;
+        let body = self.boxed(cursor)?;
+        Ok(StmtKind::While(test, body))
+    }
+
+    /// `do s while ( e ) ;`
+    #[tactic(auto, unfolding(pw_grammar::specs::ReadingStatements::do_loop))]
+    fn do_loop(&self, cursor: &mut Cursor<'_>) -> Result<StmtKind, SyntaxError>
+        requires { NestsStatements self.now.inner (S.pre self.now.stmt) (S.post self.now.stmt) }
+        ensures { Reads (spec.do_loop (expressions.expression self.now.depth) (spec.statement self.now.inner) cursor.old) result cursor.new }
+    {
+        cursor.skip()?;
+        let body = self.boxed(cursor)?;
+        cursor.expect(Sort::While)?;
+        let test = test(self.alloc, cursor, self.depth)?;
+        cursor.expect(Sort::Semicolon)?;
+        Ok(StmtKind::Do(body, test))
+    }
+
+    /// The head of a `for` from behind its condition on, and its body.
+    fn behind_condition(
+        &self,
+        cursor: &mut Cursor<'_>,
+        first: Option<Boxed<Stmt>>,
+        condition: Option<Expr>,
+    ) -> Result<StmtKind, SyntaxError>
+        requires { NestsStatements self.now.inner (S.pre self.now.stmt) (S.post self.now.stmt) }
+        ensures { Reads (loops.behind_condition (expressions.expression self.now.depth) (spec.statement self.now.inner) first condition cursor.old) result cursor.new }
+    {
+        let last = maybe_step(self.alloc, cursor, self.depth)?;
+        cursor.expect(Sort::RightParen)?;
+        let body = self.boxed(cursor)?;
+        Ok(StmtKind::For(first, condition, last, body))
+    }
+
+    /// The head of a `for` from behind its first part on, and its body.
+    fn behind_start(
+        &self,
+        cursor: &mut Cursor<'_>,
+        first: Option<Boxed<Stmt>>,
+    ) -> Result<StmtKind, SyntaxError>
+        requires { NestsStatements self.now.inner (S.pre self.now.stmt) (S.post self.now.stmt) }
+        ensures { Reads (loops.behind_start (expressions.expression self.now.depth) (spec.statement self.now.inner) first cursor.old) result cursor.new }
+    {
+        let condition = maybe_expression(self.alloc, cursor, self.depth, Sort::Semicolon)?;
+        cursor.expect(Sort::Semicolon)?;
+        self.behind_condition(cursor, first, condition)
+    }
+
+    /// `for ( start e ; step ) s`
+    #[tactic(auto, unfolding(pw_grammar::specs::ReadingStatements::for_loop))]
+    fn for_loop(&self, cursor: &mut Cursor<'_>) -> Result<StmtKind, SyntaxError>
+        requires { NestsStatements self.now.inner (S.pre self.now.stmt) (S.post self.now.stmt) }
+        ensures { Reads (spec.for_loop (expressions.expression self.now.depth) (spec.statement self.now.inner) cursor.old) result cursor.new }
+    {
+        cursor.skip()?;
+        cursor.expect(Sort::LeftParen)?;
+        let first = start(self.alloc, cursor, self.depth)?;
+        self.behind_start(cursor, first)
+    }
+
+    /// What a statement is, by its first token.
+    #[tactic(auto, unfolding(pw_grammar::specs::ReadingStatements::form))]
+    fn form(&self, cursor: &mut Cursor<'_>) -> Result<StmtKind, SyntaxError>
+        requires { NestsStatements self.now.inner (S.pre self.now.stmt) (S.post self.now.stmt) }
+        ensures { Reads (spec.form (expressions.expression self.now.depth) (spec.statement self.now.inner) self.now.depth cursor.old) result cursor.new }
+    {
+        match cursor.peek() {
+            Sort::Semicolon => empty(cursor),
+            Sort::LeftBrace => self.block(cursor),
+            Sort::If => self.conditional(cursor),
+            Sort::While => self.while_loop(cursor),
+            Sort::Do => self.do_loop(cursor),
+            Sort::For => self.for_loop(cursor),
+            Sort::Return => leave(self.alloc, cursor, self.depth),
+            Sort::Break => break_off(cursor),
+            Sort::Continue => go_on(cursor),
+            _ => evaluated(self.alloc, cursor, self.depth),
+        }
+    }
+
+    /// A whole statement.
+    #[tactic(auto, unfolding(pw_grammar::specs::ReadingStatements::whole))]
+    fn whole(&self, cursor: &mut Cursor<'_>) -> Result<Stmt, SyntaxError>
+        requires { NestsStatements self.now.inner (S.pre self.now.stmt) (S.post self.now.stmt) }
+        ensures { Reads (spec.whole (expressions.expression self.now.depth) (spec.statement self.now.inner) self.now.depth cursor.old) result cursor.new }
+    {
+        let first = cursor.at();
+        let line = cursor.line();
+        let kind = self.form(cursor)?;
+        Ok(finished(cursor, first, line, kind))
+    }
+}
