@@ -1,4 +1,6 @@
 //! The faults of a token list.
+ghost use Rattle.std.specs.Prelude.{◌≡◌};
+ghost use Rattle.pw_grammar.specs.Faults.{token_of};
 
 use pw_base::NoMemory;
 use std::alloc::AllocError;
@@ -19,6 +21,19 @@ pub enum SyntaxError {
     /// Memory for the tree was refused.
     #[error("out of memory")]
     NoMemory,
+}
+
+impl SyntaxError {
+    /// The faulty token's number, from 0; 0 for want of memory.
+    pub fn token(&self) -> u32
+        ensures { result ≡ token_of self.now }
+    {
+        match self {
+            SyntaxError::At(token) | SyntaxError::TooNested(token) | SyntaxError::TooLong(token) =>
+                *token,
+            SyntaxError::NoMemory => 0,
+        }
+    }
 }
 
 impl From<AllocError> for SyntaxError {

@@ -4,3 +4,4 @@ pub mod Numbers
 pub mod Nests
 pub mod NestsStatements
 pub mod Loops
+pub mod Walk

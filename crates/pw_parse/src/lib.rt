@@ -8,6 +8,7 @@ mod grammar;
 mod header;
 mod initialiser;
 mod level;
+mod limits;
 mod node;
 mod operator;
 mod parameter;
