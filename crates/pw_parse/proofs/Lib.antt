@@ -2,3 +2,4 @@ pub mod Turns
 pub mod Wrapping
 pub mod Leaves
 pub mod Levels
+pub mod Wholes

@@ -5,3 +5,4 @@ pub mod Nests
 pub mod NestsStatements
 pub mod Loops
 pub mod Walk
+pub mod Whole

@@ -21,3 +21,6 @@ mod tests;
 mod types;
 mod unit;
 mod variable;
+mod whole;
+
+pub use whole::{fault_line, parse};

@@ -1,5 +1,5 @@
 //! The limits of a token list: how deep brackets nest, and how long functions are.
-ghost use Rattle.std.specs.Prelude.{◌≡◌, ◌<◌, ◌≤◌, ◌+◌, ◌^◌, length, IfSome};
+ghost use Rattle.std.specs.Prelude.{◌≡◌, ◌<◌, ◌≤◌, ◌+◌, ◌^◌, ◌&&◌, nat_le, length, IfSome};
 ghost use Rattle.pw_grammar.specs.Terminals.{is_same, sort_of};
 ghost use Rattle.pw_grammar.specs.Faults.{opens, closes, bracket, token_of};
 ghost use Rattle.pw_grammar.specs.Limits as spec;
@@ -104,7 +104,8 @@ impl Stand {
         ensures { result ≡ spec.is_last (walk_of self.now) token.now }
     {
         bracket(self.depth, token) == 0
-            && (is_sort(token, Sort::Semicolon) || (is_sort(token, Sort::RightBrace) && self.in_body))
+            && (is_sort(token, Sort::Semicolon)
+                || (is_sort(token, Sort::RightBrace) && self.in_body))
     }
 
     /// Behind the token.
@@ -137,7 +138,15 @@ impl Stand {
     }
 }
 
+/// Whether the token opens a bracket where as many are open as may be.
+fn is_too_deep(depth: usize, token: &Token) -> bool
+    ensures { result ≡ (opens token.now && nat_le 200 depth) }
+{
+    opens(token) && OPEN_BRACKETS <= depth
+}
+
 /// The first token that opens a bracket where 200 are open.
+#[tactic(auto, unfolding(pw_grammar::specs::Limits::first_nested))]
 fn first_nested(tokens: &[Token]) -> Option<usize>
     requires { length tokens.now < 2 ^ 32 }
     ensures is { result ≡ spec.first_nested 0 0 tokens.now }
@@ -147,7 +156,7 @@ fn first_nested(tokens: &[Token]) -> Option<usize>
     let mut at = 0;
     let mut depth = 0;
     while let [token, more @ ..] = rest {
-        if opens(token) && OPEN_BRACKETS <= depth {
+        if is_too_deep(depth, token) {
             return Some(at);
         }
         depth = bracket(depth, token);
@@ -158,6 +167,7 @@ fn first_nested(tokens: &[Token]) -> Option<usize>
 }
 
 /// The first token of a function's body that is past the function's limit.
+#[tactic(auto, unfolding(pw_grammar::specs::Limits::first_late))]
 fn first_late(tokens: &[Token]) -> Option<usize>
     requires { length tokens.now < 2 ^ 32 }
     ensures is { result ≡ spec.first_late (spec.anew 0) tokens.now }
