@@ -8,6 +8,7 @@ mod grammar;
 mod header;
 mod initialiser;
 mod level;
+mod loops;
 mod node;
 mod operator;
 mod parameter;
@@ -19,4 +20,6 @@ mod statement;
 mod tests;
 mod types;
 mod unit;
+#[cfg(test)]
+mod unit_tests;
 mod variable;
