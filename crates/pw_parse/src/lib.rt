@@ -20,6 +20,4 @@ mod statement;
 mod tests;
 mod types;
 mod unit;
-#[cfg(test)]
-mod unit_tests;
 mod variable;
