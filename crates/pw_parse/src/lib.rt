@@ -9,6 +9,7 @@ mod header;
 mod initialiser;
 mod level;
 mod limits;
+mod loops;
 mod node;
 mod operator;
 mod parameter;
