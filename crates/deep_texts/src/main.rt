@@ -1,0 +1,122 @@
+//! Reads, copies and drops trees as deep and as long as a function may be, and refuses deeper ones, in the stack that a
+//! program has.
+#![tactic(auto)]
+
+use pw_lex::tokens;
+use pw_parse::parse;
+use pw_tree::Unit;
+use std::alloc::Global;
+use std::io;
+
+/// A text of a function: what is repeated in front of the core, and what behind it.
+struct Shape {
+    name: &'static str,
+    head: &'static [u8],
+    open: &'static [u8],
+    core: &'static [u8],
+    close: &'static [u8],
+    tail: &'static [u8],
+    times: usize,
+}
+
+/// A value that is returned.
+fn returned(
+    name: &'static str,
+    open: &'static [u8],
+    core: &'static [u8],
+    close: &'static [u8],
+    times: usize,
+) -> Shape {
+    Shape {
+        name,
+        head: b"long f(void){return ",
+        open,
+        core,
+        close,
+        tail: b";}",
+        times,
+    }
+}
+
+/// A statement.
+fn done(name: &'static str, open: &'static [u8], times: usize) -> Shape {
+    Shape {
+        name,
+        head: b"long f(void){",
+        open,
+        core: b";",
+        close: b"",
+        tail: b"}",
+        times,
+    }
+}
+
+/// The shapes, each as large as a function may be or larger.
+fn shapes() -> [Shape; 12] {
+    [
+    returned("8,182 prefix operators", b"~", b"1", b"", 8182),
+    returned("8,190 prefix operators", b"~", b"1", b"", 8190),
+    returned("2,000 choices behind a colon", b"a?b:", b"c", b"", 2000),
+    returned("2,000 choices behind a question", b"a?", b"b", b":c", 2000),
+    returned("4,090 right operands", b"1+", b"1", b"", 4090),
+    returned("8,000 right operands", b"1+", b"1", b"", 8000),
+    returned("199 brackets in a body", b"(", b"1", b")", 199),
+    returned("200 brackets in a body", b"(", b"1", b")", 200),
+    returned("2,700 calls", b"", b"f", b"()", 2700),
+    done("1,362 else ifs", b"if(a);else ", 1362),
+    done("2,000 else ifs", b"if(a);else ", 2000),
+    done("2,000 loops", b"while(a)", 2000),
+    ]
+}
+
+/// The text of a shape.
+fn text<A: AllocGlobal>(rt: &A, shape: &Shape) -> io::Result<Vec<u8>> {
+    let mut text = Vec::new(rt.alloc());
+    text.extend_from_slice(shape.head)?;
+    for _ in 0..shape.times {
+        text.extend_from_slice(shape.open)?;
+    }
+    text.extend_from_slice(shape.core)?;
+    for _ in 0..shape.times {
+        text.extend_from_slice(shape.close)?;
+    }
+    text.extend_from_slice(shape.tail)?;
+    Ok(text)
+}
+
+/// Parses the text of a shape and copies its tree: its last token, or its fault.
+fn show<A: AllocGlobal>(rt: &A, shape: &Shape) -> io::Result<String> {
+    let alloc = rt.alloc();
+    let text = text(rt, shape)?;
+    let Ok(tokens) = tokens(alloc, text.as_slice()) else {
+        return Ok(format!(in alloc; "no tokens")?);
+    };
+    let answer = match parse(alloc, tokens.as_slice()) {
+        Ok(unit) => copied(alloc, &unit)?,
+        Err(fault) => format!(in alloc; "{fault:?}")?,
+    };
+    Ok(answer)
+}
+
+/// The last token of the copy of a unit.
+fn copied(alloc: Global, unit: &Unit) -> io::Result<String> {
+    match unit.copy(alloc) {
+        Ok(copy) => match copy.decls.as_slice() {
+            [] => Ok(format!(in alloc; "no declaration")?),
+            [.., decl] => {
+                let last = decl.last;
+                Ok(format!(in alloc; "read to token {last}")?)
+            }
+        },
+        Err(_) => Ok(format!(in alloc; "no memory")?),
+    }
+}
+
+fn main(rt: HostRuntime) -> io::Result<()> {
+    for shape in &shapes() {
+        let name = shape.name;
+        let shown = show(&rt, shape)?;
+        println!(rt; "{name}: {shown}")?;
+    }
+    Ok(())
+}
