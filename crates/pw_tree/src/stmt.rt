@@ -38,3 +38,93 @@ pub enum StmtKind {
     Break,
     Continue,
 }
+
+impl Stmt {
+    /// An equal statement.
+    #[cycle(copy_stmt)]
+    pub fn copy(&self, alloc: Global) -> Result<Stmt, NoMemory>
+        ensures { IfOk result (λ copy. copy ≡ self.now) }
+    {
+        Ok(Stmt {
+            first: self.first,
+            last: self.last,
+            line: self.line,
+            kind: self.kind.copy(alloc)?,
+        })
+    }
+
+    /// An equal statement in a box of its own.
+    #[cycle(copy_stmt)]
+    fn copy_boxed(&self, alloc: Global) -> Result<Boxed<Stmt>, NoMemory>
+        ensures { IfOk result (λ copy. copy ≡ self.now) }
+    {
+        Ok(Boxed::new(alloc, self.copy(alloc)?)?)
+    }
+
+    /// An equal statement in a box of its own, or none.
+    #[cycle(copy_stmt)]
+    fn copy_boxed_option(
+        alloc: Global,
+        stmt: &Option<Boxed<Stmt>>,
+    ) -> Result<Option<Boxed<Stmt>>, NoMemory>
+        ensures { IfOk result (λ copy. copy ≡ stmt.now) }
+    {
+        match stmt {
+            Some(stmt) => Ok(Some(stmt.get().copy_boxed(alloc)?)),
+            None => Ok(None),
+        }
+    }
+
+    /// Equal statements.
+    #[cycle(copy_stmt)]
+    pub fn copy_all(alloc: Global, stmts: &[Stmt]) -> Result<Items<Stmt>, NoMemory>
+        ensures { IfOk result (λ copy. copy ≡ stmts.now) }
+    {
+        let mut copies = Items::new(alloc);
+        for stmt in stmts {
+            copies.push(stmt.copy(alloc)?)?;
+        }
+        Ok(copies)
+    }
+}
+
+impl StmtKind {
+    /// An equal form.
+    #[cycle(copy_stmt)]
+    pub fn copy(&self, alloc: Global) -> Result<StmtKind, NoMemory>
+        ensures { IfOk result (λ copy. copy ≡ self.now) }
+    {
+        Ok(match self {
+            StmtKind::Empty => StmtKind::Empty,
+            StmtKind::Block(body) => StmtKind::Block(Stmt::copy_all(alloc, body.as_slice())?),
+            StmtKind::Local(ty, name, value) => {
+                StmtKind::Local(*ty, name.copy(alloc)?, Expr::copy_option(alloc, value)?)
+            }
+            StmtKind::Set(name, index, value) => StmtKind::Set(
+                name.copy(alloc)?,
+                Expr::copy_option(alloc, index)?,
+                value.copy(alloc)?,
+            ),
+            StmtKind::Eval(e) => StmtKind::Eval(e.copy(alloc)?),
+            StmtKind::If(c, a, b) => StmtKind::If(
+                c.copy(alloc)?,
+                a.get().copy_boxed(alloc)?,
+                Stmt::copy_boxed_option(alloc, b)?,
+            ),
+            StmtKind::While(c, body) => StmtKind::While(
+                c.copy(alloc)?,
+                body.get().copy_boxed(alloc)?,
+            ),
+            StmtKind::Do(body, c) => StmtKind::Do(body.get().copy_boxed(alloc)?, c.copy(alloc)?),
+            StmtKind::For(first, c, last, body) => StmtKind::For(
+                Stmt::copy_boxed_option(alloc, first)?,
+                Expr::copy_option(alloc, c)?,
+                Stmt::copy_boxed_option(alloc, last)?,
+                body.get().copy_boxed(alloc)?,
+            ),
+            StmtKind::Return(value) => StmtKind::Return(Expr::copy_option(alloc, value)?),
+            StmtKind::Break => StmtKind::Break,
+            StmtKind::Continue => StmtKind::Continue,
+        })
+    }
+}
