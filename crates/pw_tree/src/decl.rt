@@ -1,7 +1,7 @@
 //! Declarations at file level, and the unit that they make up.
 ghost use Rattle.std.specs.Prelude.{◌≡◌, IfOk};
 
-use crate::copies::Duplicate;
+use crate::copies::{Duplicate, copy_all};
 use crate::stmt::Stmt;
 use crate::ty::Ty;
 use pw_base::{Name, NoMemory};
@@ -125,6 +125,63 @@ impl InitKind {
         Ok(match self {
             InitKind::Num(value) => InitKind::Num(*value),
             InitKind::Word(name) => InitKind::Word(name.copy(alloc)?),
+        })
+    }
+}
+
+impl Decl {
+    /// An equal declaration.
+    pub fn copy(&self, alloc: Global) -> Result<Decl, NoMemory>
+        ensures { IfOk result (λ copy. copy ≡ self.now) }
+    {
+        Ok(Decl {
+            first: self.first,
+            name_at: self.name_at,
+            declarator: self.declarator,
+            last: self.last,
+            line: self.line,
+            linkage: self.linkage,
+            name: self.name.copy(alloc)?,
+            kind: self.kind.copy(alloc)?,
+        })
+    }
+}
+
+impl Duplicate for Decl {
+    fn duplicate(&self, alloc: Global) -> Result<Decl, NoMemory> {
+        self.copy(alloc)
+    }
+}
+
+impl DeclKind {
+    /// An equal form.
+    pub fn copy(&self, alloc: Global) -> Result<DeclKind, NoMemory>
+        ensures { IfOk result (λ copy. copy ≡ self.now) }
+    {
+        match self {
+            DeclKind::Proto(result, params) => {
+                Ok(DeclKind::Proto(*result, copy_all(alloc, params.as_slice())?))
+            }
+            DeclKind::Fun(result, params, body) => {
+                let params = copy_all(alloc, params.as_slice())?;
+                Ok(DeclKind::Fun(*result, params, Stmt::copy_all(alloc, body.as_slice())?))
+            }
+            DeclKind::Var(ty, count, Some(init)) => {
+                Ok(DeclKind::Var(*ty, *count, Some(copy_all(alloc, init.as_slice())?)))
+            }
+            DeclKind::Var(ty, count, None) => Ok(DeclKind::Var(*ty, *count, None)),
+        }
+    }
+}
+
+impl Unit {
+    /// An equal unit.
+    pub fn copy(&self, alloc: Global) -> Result<Unit, NoMemory>
+        ensures { IfOk result (λ copy. copy ≡ self.now) }
+    {
+        Ok(Unit {
+            decls: copy_all(alloc, self.decls.as_slice())?,
+            lines: Items::from_slice(alloc, self.lines.as_slice())?,
         })
     }
 }

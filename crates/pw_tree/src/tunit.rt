@@ -59,6 +59,29 @@ pub struct TUnit {
     pub names: Items<Ext>,
 }
 
+impl TFun {
+    /// An equal definition.
+    pub fn copy(&self, alloc: Global) -> Result<TFun, NoMemory>
+        ensures { IfOk result (λ copy. copy ≡ self.now) }
+    {
+        Ok(TFun {
+            name: self.name.copy(alloc)?,
+            global: self.global,
+            sig: self.sig.copy(alloc)?,
+            line: self.line,
+            locals: self.locals,
+            held: self.held,
+            body: TStmt::copy_all(alloc, self.body.as_slice())?,
+        })
+    }
+}
+
+impl Duplicate for TFun {
+    fn duplicate(&self, alloc: Global) -> Result<TFun, NoMemory> {
+        self.copy(alloc)
+    }
+}
+
 impl Init {
     /// An equal element.
     pub fn copy(&self, alloc: Global) -> Result<Init, NoMemory>
@@ -117,5 +140,18 @@ impl Ext {
 impl Duplicate for Ext {
     fn duplicate(&self, alloc: Global) -> Result<Ext, NoMemory> {
         self.copy(alloc)
+    }
+}
+
+impl TUnit {
+    /// An equal unit.
+    pub fn copy(&self, alloc: Global) -> Result<TUnit, NoMemory>
+        ensures { IfOk result (λ copy. copy ≡ self.now) }
+    {
+        Ok(TUnit {
+            funs: copy_all(alloc, self.funs.as_slice())?,
+            vars: copy_all(alloc, self.vars.as_slice())?,
+            names: copy_all(alloc, self.names.as_slice())?,
+        })
     }
 }
