@@ -9,6 +9,7 @@ use std::alloc::Global;
 use std::io;
 
 /// A text of a function: what is repeated in front of the core, and what behind it.
+#[derive(Drop)]
 struct Shape {
     name: &'static str,
     head: &'static [u8],
@@ -54,18 +55,18 @@ fn done(name: &'static str, open: &'static [u8], times: usize) -> Shape {
 /// The shapes, each as large as a function may be or larger.
 fn shapes() -> [Shape; 12] {
     [
-    returned("8,182 prefix operators", b"~", b"1", b"", 8182),
-    returned("8,190 prefix operators", b"~", b"1", b"", 8190),
-    returned("2,000 choices behind a colon", b"a?b:", b"c", b"", 2000),
-    returned("2,000 choices behind a question", b"a?", b"b", b":c", 2000),
-    returned("4,090 right operands", b"1+", b"1", b"", 4090),
-    returned("8,000 right operands", b"1+", b"1", b"", 8000),
-    returned("199 brackets in a body", b"(", b"1", b")", 199),
-    returned("200 brackets in a body", b"(", b"1", b")", 200),
-    returned("2,700 calls", b"", b"f", b"()", 2700),
-    done("1,362 else ifs", b"if(a);else ", 1362),
-    done("2,000 else ifs", b"if(a);else ", 2000),
-    done("2,000 loops", b"while(a)", 2000),
+        returned("8,182 prefix operators", b"~", b"1", b"", 8182),
+        returned("8,190 prefix operators", b"~", b"1", b"", 8190),
+        returned("2,000 choices behind a colon", b"a?b:", b"c", b"", 2000),
+        returned("2,000 choices behind a question", b"a?", b"b", b":c", 2000),
+        returned("4,090 right operands", b"1+", b"1", b"", 4090),
+        returned("8,000 right operands", b"1+", b"1", b"", 8000),
+        returned("199 brackets in a body", b"(", b"1", b")", 199),
+        returned("200 brackets in a body", b"(", b"1", b")", 200),
+        returned("2,700 calls", b"", b"f", b"()", 2700),
+        done("1,362 else ifs", b"if(a);else ", 1362),
+        done("2,000 else ifs", b"if(a);else ", 2000),
+        done("2,000 loops", b"while(a)", 2000),
     ]
 }
 

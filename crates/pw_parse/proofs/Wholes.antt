@@ -1,17 +1,16 @@
 -- From what is read of a whole list to what is answered.
-use Rattle.std.proofs.Common.{◌≡◌, ◌≢◌, refl, sym, ◌∙◌, ap, subst, ℕ, suc, ◌+◌, ◌<◌, ◌^◌, List, [], ◌∷◌, length, take, Option, Some, None, Result, Ok, Err, arith}
+use Rattle.std.proofs.Common.{◌≡◌, ◌≢◌, sym, subst, ℕ, suc, ◌<◌, ◌^◌, List, length, take, Some, Result, Ok, Err}
 use Rattle.pw_grammar.specs.declared.error.SyntaxError.{SyntaxError}
 use Rattle.pw_grammar.specs.declared.error.SyntaxError.TheVariants.{NoMemory}
 use Rattle.pw_grammar.specs.Declarations.{Derives, lines_of}
-use Rattle.pw_grammar.specs.Faults.{IsFirstFault, IsFault, token_of}
-use Rattle.pw_grammar.specs.Reading.{first_limit, judged, judged_by, up_to, value_of, parsed}
+use Rattle.pw_grammar.specs.Faults.{IsFirstFault, token_of}
+use Rattle.pw_grammar.specs.Reading.{first_limit, judged, judged_by, up_to, parsed}
 use Rattle.pw_grammar.specs.ReadingDeclarations.{unit}
 use Rattle.pw_grammar.specs.Laws.{Tells}
 use Rattle.pw_grammar.proofs.Known.{reading_tells}
 use Rattle.pw_parse.specs.Whole.{Answers, IsFaultless}
 use Rattle.pw_lex.specs.declared.token.Token.{Token}
 use Rattle.pw_tree.specs.declared.decl.Decl.{Decl}
-use Rattle.pw_tree.specs.declared.decl.Unit.{Unit}
 
 -- with a limit, the tokens up to it are read
 pub parsed_under : (n : ℕ) (ts us : List Token) (limit : SyntaxError) (r : Result (List Decl) SyntaxError) → first_limit ts ≡ Some limit

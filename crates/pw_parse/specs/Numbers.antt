@@ -1,5 +1,5 @@
 -- The value of a constant, without its type.
-use Rattle.std.specs.Prelude.{ℕ, Ok}
+use Rattle.std.specs.Prelude.{ℕ}
 use Rattle.pw_grammar.specs.Expressions.{value_in}
 use Rattle.pw_grammar.specs.Steps.{Parser, take, ◌>>=◌, pure}
 

@@ -21,6 +21,8 @@ mod statement;
 mod tests;
 mod types;
 mod unit;
+#[cfg(test)]
+mod unit_tests;
 mod variable;
 mod whole;
 

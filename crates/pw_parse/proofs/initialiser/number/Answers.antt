@@ -1,10 +1,10 @@
-use Rattle.std.proofs.Common.{◌≡◌, ◌≢◌, ℕ, Bool, Result, Ok, Err, rules, arith}
+use Rattle.std.proofs.Common.{◌≡◌, ◌≢◌, ℕ, Bool, Ok, Err, rules, arith}
 use Rattle.std.proofs.lemmas.Grind.{common_steps}
 use Rattle.pw_lex.specs.declared.token.Token.{Token}
 use Rattle.pw_grammar.specs.declared.error.SyntaxError.{SyntaxError}
 use Rattle.pw_grammar.specs.declared.error.SyntaxError.TheVariants.{NoMemory}
 use Rattle.pw_grammar.specs.Expressions.{value_in, is_unsigned}
-use Rattle.pw_grammar.specs.Steps.{Place, Outcome, take, and_then, pure, Reads}
+use Rattle.pw_grammar.specs.Steps.{Place, Outcome, take, and_then, pure}
 use Rattle.pw_parse.proofs.initialiser.number.Goals as goal
 
 -- an outcome of which less is kept
