@@ -8,6 +8,9 @@ use pw_tree::Unit;
 use std::alloc::Global;
 use std::io;
 
+/// More bytes than each of the texts has.
+const LONGEST: usize = 1 << 20;
+
 /// A text of a function: what is repeated in front of the core, and what behind it.
 #[derive(Drop)]
 struct Shape {
@@ -89,9 +92,15 @@ fn text<A: AllocGlobal>(rt: &A, shape: &Shape) -> io::Result<Vec<u8>> {
 fn show<A: AllocGlobal>(rt: &A, shape: &Shape) -> io::Result<String> {
     let alloc = rt.alloc();
     let text = text(rt, shape)?;
+    if text.len() > LONGEST {
+        return Ok(format!(in alloc; "too long a text")?);
+    }
     let Ok(tokens) = tokens(alloc, text.as_slice()) else {
         return Ok(format!(in alloc; "no tokens")?);
     };
+    if tokens.len() > LONGEST {
+        return Ok(format!(in alloc; "too many tokens")?);
+    }
     let answer = match parse(alloc, tokens.as_slice()) {
         Ok(unit) => copied(alloc, &unit)?,
         Err(fault) => format!(in alloc; "{fault:?}")?,
