@@ -1,5 +1,5 @@
 -- Where there is a fault, there is a token, so the text's end stands in a line that fits.
-use Rattle.std.proofs.Common.{◌≡◌, ◌<◌, ◌≤◌, ◌+◌, ◌^◌, length, count_by, Fits, w32, sym, ◌∙◌, arith}
+use Rattle.std.proofs.Common.{◌≤◌, ◌+◌, length, count_by, arith}
 use Rattle.pw_lex.specs.Text.{is_newline}
 use Rattle.pw_front.proofs.Lines.{end_within}
 use Rattle.pw_front.proofs.unit.syntactic.Goals as goal
