@@ -5,3 +5,4 @@ pub mod Steps
 pub mod Readings
 pub mod Whole
 pub mod Form
+pub mod Lines

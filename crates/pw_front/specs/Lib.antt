@@ -3,3 +3,4 @@ pub mod Tokens
 pub mod Names
 pub mod Grammar
 pub mod Reading
+pub mod Units
