@@ -5,4 +5,3 @@ pub mod Steps
 pub mod Readings
 pub mod Whole
 pub mod Form
-pub mod Lines

@@ -3,4 +3,3 @@ pub mod Tokens
 pub mod Names
 pub mod Grammar
 pub mod Reading
-pub mod Units

@@ -1,7 +1,5 @@
 //! Reads a source text of the first form: functions that write numbers and return one. `first` gives the functions, or
 //! `Form` exactly where the text is not of that form.
-//!
-//! `front` reads a text of the whole language: its unit, or its first fault with the line.
 #![tactic(auto)]
 
 mod error;
@@ -12,15 +10,9 @@ mod reader;
 #[cfg(test)]
 mod tests;
 mod text;
-mod text_error;
-mod unit;
-#[cfg(test)]
-mod unit_tests;
 mod words;
 
 pub use error::FrontError;
 pub use function::{FirstFun, FirstFuns};
 pub use laws::{a_text_has_one_reading, outputs_are_few};
 pub use text::first;
-pub use text_error::TextError;
-pub use unit::front;
