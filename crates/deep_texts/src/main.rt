@@ -1,10 +1,11 @@
-//! Reads, copies and drops trees as deep and as long as a function may be, and refuses deeper ones, in the stack that a
-//! program has.
+//! Reads, types, copies and drops trees as deep and as long as a function may be, and refuses deeper ones, in the stack
+//! that a program has.
 #![tactic(auto)]
 
+use pw_front::front;
 use pw_lex::tokens;
 use pw_parse::parse;
-use pw_tree::Unit;
+use pw_tree::{TUnit, Unit};
 use std::alloc::Global;
 use std::io;
 
@@ -33,7 +34,7 @@ fn returned(
 ) -> Shape {
     Shape {
         name,
-        head: b"long f(void){return ",
+        head: b"long a;long b;long c;long f(void){return ",
         open,
         core,
         close,
@@ -46,7 +47,7 @@ fn returned(
 fn done(name: &'static str, open: &'static [u8], times: usize) -> Shape {
     Shape {
         name,
-        head: b"long f(void){",
+        head: b"long a;long f(void){",
         open,
         core: b";",
         close: b"",
@@ -56,7 +57,7 @@ fn done(name: &'static str, open: &'static [u8], times: usize) -> Shape {
 }
 
 /// The shapes, each as large as a function may be or larger.
-fn shapes() -> [Shape; 11] {
+fn shapes() -> [Shape; 13] {
     [
         returned("8,182 prefix operators", b"~", b"1", b"", 8182),
         returned("8,190 prefix operators", b"~", b"1", b"", 8190),
@@ -67,8 +68,10 @@ fn shapes() -> [Shape; 11] {
         returned("199 brackets in a body", b"(", b"1", b")", 199),
         returned("200 brackets in a body", b"(", b"1", b")", 200),
         returned("2,700 calls", b"", b"f", b"()", 2700),
-        done("800 else ifs", b"if(a);else ", 800),
-        done("800 loops", b"while(a)", 800),
+        done("1,362 else ifs", b"if(a);else ", 1362),
+        done("2,000 else ifs", b"if(a);else ", 2000),
+        done("2,000 loops", b"while(a)", 2000),
+        done("1,000 for loops", b"for(;;)", 1000),
     ]
 }
 
@@ -87,7 +90,7 @@ fn text<A: AllocGlobal>(rt: &A, shape: &Shape) -> io::Result<Vec<u8>> {
     Ok(text)
 }
 
-/// Parses the text of a shape and copies its tree: its last token, or its fault.
+/// Parses the text of a shape and copies its tree: its last token, or its fault. Then types it and copies the typed tree.
 fn show<A: AllocGlobal>(rt: &A, shape: &Shape) -> io::Result<String> {
     let alloc = rt.alloc();
     let text = text(rt, shape)?;
@@ -100,11 +103,15 @@ fn show<A: AllocGlobal>(rt: &A, shape: &Shape) -> io::Result<String> {
     if tokens.len() > LONGEST {
         return Ok(format!(in alloc; "too many tokens")?);
     }
-    let answer = match parse(alloc, tokens.as_slice()) {
+    let parsed = match parse(alloc, tokens.as_slice()) {
         Ok(unit) => copied(alloc, &unit)?,
         Err(fault) => format!(in alloc; "{fault:?}")?,
     };
-    Ok(answer)
+    let typed = match front(alloc, text.as_slice()) {
+        Ok(unit) => copied_types(alloc, &unit)?,
+        Err(fault) => format!(in alloc; "{fault}")?,
+    };
+    Ok(format!(in alloc; "{parsed}; {typed}")?)
 }
 
 /// The last token of the copy of a unit.
@@ -115,6 +122,20 @@ fn copied(alloc: Global, unit: &Unit) -> io::Result<String> {
             [.., decl] => {
                 let last = decl.last;
                 Ok(format!(in alloc; "read to token {last}")?)
+            }
+        },
+        Err(_) => Ok(format!(in alloc; "no memory")?),
+    }
+}
+
+/// How many values the last function of the copy of a typed unit holds.
+fn copied_types(alloc: Global, unit: &TUnit) -> io::Result<String> {
+    match unit.copy(alloc) {
+        Ok(copy) => match copy.funs.as_slice() {
+            [] => Ok(format!(in alloc; "no function")?),
+            [.., fun] => {
+                let held = fun.held;
+                Ok(format!(in alloc; "typed, holding {held}")?)
             }
         },
         Err(_) => Ok(format!(in alloc; "no memory")?),

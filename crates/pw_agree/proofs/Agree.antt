@@ -3,7 +3,7 @@ use Rattle.std.proofs.Common.{◌≡◌, ℕ, zero, suc, ◌+◌, ◌*◌, ◌%�
 use Rattle.std.specs.Prelude.{slice_get}
 use Rattle.std.specs.List.{AllByRecursion}
 use Rattle.std.proofs.lemmas.List.Elements.{All-from_recursion, recursion_from_All}
-use Rattle.pw_front.specs.declared.function.FirstFun.{FirstFun}
+use Rattle.pw_first.specs.declared.writer.Writer.{Writer}
 use Rattle.pw_code.specs.Scheme.{HasSmallNumbers}
 use Rattle.pw_code.proofs.CodeWords.{size-function}
 use Rattle.pw_hart.specs.declared.ends.End.TheVariants.{Exit}
@@ -39,20 +39,20 @@ write_all-input : (ds : List ℕ) (st : Source) → (write_all ds st).input ≡ 
 write_all-input [] st = refl
 write_all-input (d ∷ ds) st = write_all-input ds (write d st)
 
-lies_by : (funs : List FirstFun) (main : FirstFun) → main_of funs ≡ Some main → (at : ℕ) → IsAmong text_start 6 at ⊎ IsAmong (main_address funs) (function_size main) at → LiesInKeptCode funs at
+lies_by : (funs : List Writer) (main : Writer) → main_of funs ≡ Some main → (at : ℕ) → IsAmong text_start 6 at ⊎ IsAmong (main_address funs) (function_size main) at → LiesInKeptCode funs at
 lies_by funs main has at (inl a) = inl a
 lies_by funs main has at (inr a) = inr (record { number = number funs main has; function = main; there = main_there funs main has; kept = main_kept funs main has; within = a })
 
 -- an address of the code lies in kept code
-lies : (funs : List FirstFun) (main : FirstFun) → main_of funs ≡ Some main → (at : ℕ) → IsCode (code_of funs main) at → LiesInKeptCode funs at
+lies : (funs : List Writer) (main : Writer) → main_of funs ≡ Some main → (at : ℕ) → IsCode (code_of funs main) at → LiesInKeptCode funs at
 lies funs main has at h = lies_by funs main has at (kept_where funs main at (in_code funs main at h.inst h.there).kept)
 
-all_lie : (funs : List FirstFun) (main : FirstFun) → main_of funs ≡ Some main → (ps : List ℕ) → AllByRecursion (IsCode (code_of funs main)) ps → AllByRecursion (LiesInKeptCode funs) ps
+all_lie : (funs : List Writer) (main : Writer) → main_of funs ≡ Some main → (ps : List ℕ) → AllByRecursion (IsCode (code_of funs main)) ps → AllByRecursion (LiesInKeptCode funs) ps
 all_lie funs main has [] h = tt
 all_lie funs main has (p ∷ ps) h = (lies funs main has p h.0, all_lie funs main has ps h.1)
 
 -- what is fetched is at most all words
-few_words : (funs : List FirstFun) (main : FirstFun) → main_of funs ≡ Some main → 16 + 3 * length main.outs ≤ all_words funs
+few_words : (funs : List Writer) (main : Writer) → main_of funs ≡ Some main → 16 + 3 * length main.outs ≤ all_words funs
 few_words funs main has = fits (all_words (before funs main has)) (function_size main) (length main.outs) (all_words funs) (size-function main) (entry_first _) (main_within funs main has)
   where
     fits : (front size k all : ℕ) → size ≡ 15 + 3 * k → 6 ≤ front → front + size ≤ all → 16 + 3 * k ≤ all
@@ -69,14 +69,14 @@ limits_suffice funs main bound has some = enough bound (all_words funs) (16 + 3 
     enough bound all n h = omega arith
 
 -- the stack has room for a frame
-frame : (funs : List FirstFun) (main : FirstFun) → HasFrame (world_of funs main) (stack_start + stack_len)
+frame : (funs : List Writer) (main : Writer) → HasFrame (world_of funs main) (stack_start + stack_len)
 frame funs main = record { room = lit≤ tt; in_it = record { from = lit≤ tt; to = lit≤ tt; even = refl } }
 
 -- the source's state in which a run begins
 abbrev begun : (left : ℕ) (input so_far : List ℕ) → Source
 begun left input so_far = record { output = so_far; input = input; calls = 0; steps = suc left }
 
-module _ (funs : List FirstFun) (main : FirstFun) (has : main_of funs ≡ Some main) (can : CanPlace funs) where
+module _ (funs : List Writer) (main : Writer) (has : main_of funs ≡ Some main) (can : CanPlace funs) where
   numbers : HasSmallNumbers main
   numbers = all_at HasSmallNumbers funs (number funs main has) main (recursion_from_All HasSmallNumbers funs can.small) (main_there funs main has)
 

@@ -2,7 +2,7 @@
 use Rattle.std.proofs.Common.{◌≡◌, ℕ, zero, suc, ◌+◌, ◌-◌, ◌*◌, ◌%◌, ◌^◌, ◌<◌, ◌≤◌, List, [], ◌∷◌, ◌++◌, length, flat_map, refl, sym, ◌∙◌, ap, subst, arith, Some, pos, negsuc}
 use Rattle.std.proofs.lemmas.List.Elements.{recursion_from_All}
 use Rattle.pw_isa.specs.declared.instruction.Inst.TheVariants.{Addi, Ecall, Bne}
-use Rattle.pw_front.specs.declared.function.FirstFun.{FirstFun}
+use Rattle.pw_first.specs.declared.writer.Writer.{Writer}
 use Rattle.pw_code.specs.Items.{size}
 use Rattle.pw_code.specs.Scheme.{HasSmallNumbers, checks_depth, opens_frame, closes_frame, falls_off, output, returns, function_items}
 use Rattle.pw_mem.specs.Words as Words
@@ -30,11 +30,11 @@ pub data Res : Type 0 where
   Stopped : Why → Source → Res
 
 -- a call is taken, the body runs, and the call is given back
-abbrev pub called : FirstFun → ℕ → Source → Res
+abbrev pub called : Writer → ℕ → Source → Res
 called f zero st = Stopped (Depth f.line) st
 called f (suc c) st = Val f.ret (record (write_all f.outs (record st { calls = c })) { calls = suc c })
 
-abbrev pub call_of : FirstFun → Source → Res
+abbrev pub call_of : Writer → Source → Res
 call_of f st = called f st.calls st
 
 -- how the machine ends for a stop
@@ -171,7 +171,7 @@ module _ (w : World) (apart : IsApart w) (sp : ℕ) (frame : HasFrame w sp) wher
       }
 
   -- a function with a call left
-  call_runs_on : (f : FirstFun) (st : Source) (s : State) (c : ℕ) → HasSmallNumbers f → At w sp st s → st.calls ≡ suc c → s.x 1 % 4 ≡ 0 → s.x 1 < 2 ^ 64 → HasAt w.code w.slot s.pc (function_items f) → Gives w (λ a. sp ≤ a) sp (10 + 3 * length f.outs) (15 + 3 * length f.outs) (s.x 1) f.ret (record (write_all f.outs (record st { calls = c })) { calls = suc c }) s
+  call_runs_on : (f : Writer) (st : Source) (s : State) (c : ℕ) → HasSmallNumbers f → At w sp st s → st.calls ≡ suc c → s.x 1 % 4 ≡ 0 → s.x 1 < 2 ^ 64 → HasAt w.code w.slot s.pc (function_items f) → Gives w (λ a. sp ≤ a) sp (10 + 3 * length f.outs) (15 + 3 * length f.outs) (s.x 1) f.ret (record (write_all f.outs (record st { calls = c })) { calls = suc c }) s
   call_runs_on f st s c numbers a calls even fits code =
       let K : ℕ → Type 0 = λ b. sp ≤ b in
       let Kb : ℕ → Type 0 = λ b. sp - 16 ≤ b in
@@ -216,7 +216,7 @@ module _ (w : World) (apart : IsApart w) (sp : ℕ) (frame : HasFrame w sp) wher
       }
 
   -- what a call does, with calls left or with none
-  call_runs_by : (f : FirstFun) (st : Source) (s : State) (c : ℕ) → HasSmallNumbers f → At w sp st s → st.calls ≡ c → s.x 1 % 4 ≡ 0 → s.x 1 < 2 ^ 64 → HasAt w.code w.slot s.pc (function_items f) → Meets w (λ a. sp ≤ a) sp (10 + 3 * length f.outs) (15 + 3 * length f.outs) (s.x 1) (called f c st) s
+  call_runs_by : (f : Writer) (st : Source) (s : State) (c : ℕ) → HasSmallNumbers f → At w sp st s → st.calls ≡ c → s.x 1 % 4 ≡ 0 → s.x 1 < 2 ^ 64 → HasAt w.code w.slot s.pc (function_items f) → Meets w (λ a. sp ≤ a) sp (10 + 3 * length f.outs) (15 + 3 * length f.outs) (s.x 1) (called f c st) s
   call_runs_by f st s zero numbers a calls even fits code =
       let h = faults st s f.line numbers.line a calls (has_front w.code w.slot s.pc (checks_depth f.line) (opens_frame ++ (flat_map output f.outs ++ (returns f.ret ++ (falls_off ++ closes_frame)))) code) in
       record {
@@ -234,5 +234,5 @@ module _ (w : World) (apart : IsApart w) (sp : ℕ) (frame : HasFrame w sp) wher
   call_runs_by f st s (suc c) numbers a calls even fits code = call_runs_on f st s c numbers a calls even fits code
 
   -- The machine does what the source's call of a function gives, from every state that agrees.
-  pub call_runs : (f : FirstFun) (st : Source) (s : State) → HasSmallNumbers f → At w sp st s → s.x 1 % 4 ≡ 0 → s.x 1 < 2 ^ 64 → HasAt w.code w.slot s.pc (function_items f) → Meets w (λ a. sp ≤ a) sp (10 + 3 * length f.outs) (15 + 3 * length f.outs) (s.x 1) (call_of f st) s
+  pub call_runs : (f : Writer) (st : Source) (s : State) → HasSmallNumbers f → At w sp st s → s.x 1 % 4 ≡ 0 → s.x 1 < 2 ^ 64 → HasAt w.code w.slot s.pc (function_items f) → Meets w (λ a. sp ≤ a) sp (10 + 3 * length f.outs) (15 + 3 * length f.outs) (s.x 1) (call_of f st) s
   call_runs f st s numbers a even fits code = call_runs_by f st s st.calls numbers a refl even fits code

@@ -1,7 +1,7 @@
 -- The entry: `main` is called, and the program ends with what it returns.
 use Rattle.std.proofs.Common.{◌≡◌, ℕ, suc, ◌+◌, ◌*◌, ◌%◌, ◌^◌, ◌<◌, ◌≤◌, true, [], ◌∷◌, length, refl, sym, subst, arith, codes, Some, pos, lit≤}
 use Rattle.pw_isa.specs.declared.instruction.Inst.TheVariants.{Addi, Auipc, Ecall, Jalr}
-use Rattle.pw_front.specs.declared.function.FirstFun.{FirstFun}
+use Rattle.pw_first.specs.declared.writer.Writer.{Writer}
 use Rattle.pw_code.specs.Items.{word}
 use Rattle.pw_code.specs.Scheme.{HasSmallNumbers, entry_items, function_items}
 use Rattle.pw_mem.specs.Words as Words
@@ -118,7 +118,7 @@ module _ (w : World) (apart : IsApart w) (sp : ℕ) (frame : HasFrame w sp) wher
   }
 
   -- The machine's run of a program does what the call of `main` gives, from every memory that is ready.
-  pub program_runs : (f : FirstFun) (st : Source) (s : State) (left : ℕ) → HasSmallNumbers f → Begins w sp left st s → w.holds (codes "main") % 4 ≡ 0 → w.holds (codes "main") < 2 ^ 64 → HasAt w.code w.slot (w.holds (codes "main")) (function_items f) → Ended w (10 + 3 * length f.outs + 5) (15 + 3 * length f.outs + 5) (call_of f (main_called left st)) s
+  pub program_runs : (f : Writer) (st : Source) (s : State) (left : ℕ) → HasSmallNumbers f → Begins w sp left st s → w.holds (codes "main") % 4 ≡ 0 → w.holds (codes "main") < 2 ^ 64 → HasAt w.code w.slot (w.holds (codes "main")) (function_items f) → Ended w (10 + 3 * length f.outs + 5) (15 + 3 * length f.outs + 5) (call_of f (main_called left st)) s
   program_runs f st s left numbers b even fits code =
       let main : ℕ = w.holds (codes "main") in
       let c = calls_main st s left b even fits in

@@ -6,7 +6,7 @@ use Rattle.std.proofs.lemmas.List.{get_or-append-add, get_or_append_left}
 use Rattle.std.proofs.lemmas.List.Folds.{find_at}
 use Rattle.std.proofs.lemmas.List.Sums.{sum_by-append, sum_by-cons}
 use Rattle.std.proofs.lemmas.Grind.{flat_map-append}
-use Rattle.pw_front.specs.declared.function.FirstFun.{FirstFun}
+use Rattle.pw_first.specs.declared.writer.Writer.{Writer}
 use Rattle.pw_code.specs.Scheme.{function_items, words, entry_words}
 use Rattle.pw_agree.specs.Image.{text_start, data_start, function_size, all_words, is_kept, main_of, image_words, text_words}
 use Rattle.pw_agree.proofs.Sizes.{length-text_words}
@@ -26,7 +26,7 @@ cut_at [] i x h = cc
 cut_at (y ∷ xs) zero x h = let same : y ≡ x = cc in ap (λ z. z ∷ xs) same
 cut_at (y ∷ xs) (suc i) x h = ap (λ zs. y ∷ zs) (cut_at xs i x h)
 
-module _ (funs : List FirstFun) (main : FirstFun) (has : main_of funs ≡ Some main) where
+module _ (funs : List Writer) (main : Writer) (has : main_of funs ≡ Some main) where
   -- how many functions stand before it
   abbrev pub number : ℕ
   number = prefix_len (λ f. not (is_kept f)) funs
@@ -37,10 +37,10 @@ module _ (funs : List FirstFun) (main : FirstFun) (has : main_of funs ≡ Some m
   pub main_kept : is_kept main ≡ true
   main_kept = find_passes is_kept funs main has
 
-  abbrev pub before : List FirstFun
+  abbrev pub before : List Writer
   before = take number funs
 
-  abbrev pub behind : List FirstFun
+  abbrev pub behind : List Writer
   behind = drop (suc number) funs
 
   pub functions_cut : funs ≡ before ++ (main ∷ behind)

@@ -6,7 +6,7 @@ use Rattle.pw_base.specs.Bytes.{le_bytes}
 use Rattle.pw_isa.specs.declared.instruction.Inst.{Inst}
 use Rattle.pw_isa.specs.Encoding.{decoded, word_of, IsEncodable}
 use Rattle.pw_isa.proofs.RoundTrip.{decoded-word_of}
-use Rattle.pw_front.specs.declared.function.FirstFun.{FirstFun}
+use Rattle.pw_first.specs.declared.writer.Writer.{Writer}
 use Rattle.pw_code.specs.Items.{Item, word, address, size, words_at}
 use Rattle.pw_code.specs.Scheme.{function_items, words}
 use Rattle.pw_code.proofs.CodeWords.{length-words_at}
@@ -25,7 +25,7 @@ abbrev pub is_among : (place count at : ℕ) → Bool
 is_among place count at = nat_le place at && nat_lt at (place + 4 * count)
 
 -- whether an address is that of a word of the entry or of `main`
-abbrev pub is_in_kept : List FirstFun → FirstFun → ℕ → Bool
+abbrev pub is_in_kept : List Writer → Writer → ℕ → Bool
 is_in_kept funs main at = nat_eq (at % 4) 0 && (is_among text_start 6 at || is_among (main_address funs) (function_size main) at)
 
 -- the instruction that a fetch gives
@@ -34,11 +34,11 @@ instruction_of (Ok w) = decoded w
 instruction_of (Err _) = None
 
 -- the code that is kept
-abbrev pub code_of : List FirstFun → FirstFun → ℕ → Option Inst
+abbrev pub code_of : List Writer → Writer → ℕ → Option Inst
 code_of funs main at = cond (is_in_kept funs main at) (instruction_of (fetch (image funs) at)) None
 
 -- the world of a program
-abbrev pub world_of : List FirstFun → FirstFun → World
+abbrev pub world_of : List Writer → Writer → World
 world_of funs main = record {
   code = code_of funs main;
   slot = λ _. data_start;
@@ -50,7 +50,7 @@ world_of funs main = record {
 }
 
 -- what is in the code lies in kept code, and is what is fetched there
-pub record InCode (funs : List FirstFun) (main : FirstFun) (at : ℕ) (i : Inst) : Type 0 where
+pub record InCode (funs : List Writer) (main : Writer) (at : ℕ) (i : Inst) : Type 0 where
   pub kept : is_in_kept funs main at ≡ true
   pub fetches : Fetches (image funs) at i
 
@@ -58,11 +58,11 @@ fetches_by : (m : Mem) (at : ℕ) (i : Inst) (r : Result ℕ Access) → fetch m
 fetches_by m at i (Ok w) e h = record { value = w; fetched = e; reads = h }
 fetches_by m at i (Err a) e h = cc
 
-in_code_by : (funs : List FirstFun) (main : FirstFun) (at : ℕ) (i : Inst) (t : Bool) → is_in_kept funs main at ≡ t → cond t (instruction_of (fetch (image funs) at)) None ≡ Some i → InCode funs main at i
+in_code_by : (funs : List Writer) (main : Writer) (at : ℕ) (i : Inst) (t : Bool) → is_in_kept funs main at ≡ t → cond t (instruction_of (fetch (image funs) at)) None ≡ Some i → InCode funs main at i
 in_code_by funs main at i true e h = record { kept = e; fetches = fetches_by (image funs) at i (fetch (image funs) at) refl h }
 in_code_by funs main at i false e h = cc
 
-pub in_code : (funs : List FirstFun) (main : FirstFun) (at : ℕ) (i : Inst) → code_of funs main at ≡ Some i → InCode funs main at i
+pub in_code : (funs : List Writer) (main : Writer) (at : ℕ) (i : Inst) → code_of funs main at ≡ Some i → InCode funs main at i
 in_code funs main at i h = in_code_by funs main at i (is_in_kept funs main at) refl h
 
 either : (a b : Bool) → a || b ≡ true → (a ≡ true) ⊎ (b ≡ true)
@@ -87,7 +87,7 @@ where_by place count at (inl e) = inl (among_says text_start 6 at e)
 where_by place count at (inr e) = inr (among_says place count at e)
 
 -- an address of kept code is one of the entry's or of `main`'s
-pub kept_where : (funs : List FirstFun) (main : FirstFun) (at : ℕ) → is_in_kept funs main at ≡ true → IsAmong text_start 6 at ⊎ IsAmong (main_address funs) (function_size main) at
+pub kept_where : (funs : List Writer) (main : Writer) (at : ℕ) → is_in_kept funs main at ≡ true → IsAmong text_start 6 at ⊎ IsAmong (main_address funs) (function_size main) at
 kept_where funs main at h = where_by (main_address funs) (function_size main) at (either (is_among text_start 6 at) (is_among (main_address funs) (function_size main) at) (kept_range (nat_eq (at % 4) 0) _ h))
 
 -- a region does not hold what is behind it
@@ -125,7 +125,7 @@ placed code slot at place (word i ∷ items) s h =
     )
 placed code slot at place (address _ _ ∷ items) s h = absurd s
 
-module _ (funs : List FirstFun) (main : FirstFun) (has : main_of funs ≡ Some main) (can : CanPlace funs) where
+module _ (funs : List Writer) (main : Writer) (has : main_of funs ≡ Some main) (can : CanPlace funs) where
   abbrev w : World
   w = world_of funs main
 

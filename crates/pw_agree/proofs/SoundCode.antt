@@ -3,7 +3,7 @@ use Rattle.std.proofs.Common.{ℕ, ◌<◌, ◌≤◌, List, [], ◌∷◌, ◌+
 use Rattle.std.specs.List.{AllByRecursion}
 use Rattle.std.proofs.lemmas.List.Elements.{recursion_from_All}
 use Rattle.pw_isa.specs.declared.instruction.Inst.TheVariants.{Addi}
-use Rattle.pw_front.specs.declared.function.FirstFun.{FirstFun}
+use Rattle.pw_first.specs.declared.writer.Writer.{Writer}
 use Rattle.pw_code.specs.Scheme.{HasSmallNumbers, checks_depth, opens_frame, output, returns, falls_off, closes_frame, function_items}
 use Rattle.pw_agree.proofs.Placed.{Sound, AreSound, are_sound-append}
 
@@ -65,7 +65,7 @@ sound_tail d fits = (
 )
 
 -- each instruction of a function
-pub sound_function : (f : FirstFun) → HasSmallNumbers f → AreSound (function_items f)
+pub sound_function : (f : Writer) → HasSmallNumbers f → AreSound (function_items f)
 sound_function f h =
     are_sound-append (checks_depth f.line ++ opens_frame) (flat_map output f.outs ++ (returns f.ret ++ (falls_off ++ closes_frame))) (sound_head f.line h.line)
     (are_sound-append (flat_map output f.outs) (returns f.ret ++ (falls_off ++ closes_frame)) (sound_outputs f.outs (recursion_from_All (λ d. d ≤ 2047) f.outs h.outs)) (sound_tail f.ret h.ret))

@@ -2,7 +2,7 @@
 use Rattle.std.proofs.Common.{◌≡◌, ℕ, ◌%◌, Bool, true, false, eqb, List, [], ◌∷◌, length, refl, ◌∙◌, ap, subst, Result, Ok, Err}
 use Rattle.pw_base.specs.Bytes.{le_bytes}
 use Rattle.pw_base.proofs.Bytes.{length-le_bytes}
-use Rattle.pw_front.specs.declared.function.FirstFun.{FirstFun}
+use Rattle.pw_first.specs.declared.writer.Writer.{Writer}
 use Rattle.pw_mem.specs.Regions.{MappedRegion, holds, with_bytes, written}
 use Rattle.pw_mem.specs.Memory.{Mem, store, zeros}
 use Rattle.pw_mem.specs.declared.errors.Access.{Access}
@@ -13,11 +13,11 @@ use Rattle.pw_agree.specs.Agreement.{KeepsText, TextStays}
 use Rattle.pw_agree.proofs.Sizes.{length-zeros}
 use Rattle.pw_agree.proofs.AnyRun.{kept_run}
 
-abbrev Leaves : List FirstFun → Result Mem Access → Type 0
+abbrev Leaves : List Writer → Result Mem Access → Type 0
 Leaves funs (Ok m) = KeepsText funs m
 Leaves funs (Err _) = Unit {0}
 
-module _ (funs : List FirstFun) (at width value : ℕ) (d st : List ℕ) (d_size : length d ≡ 8) (st_size : length st ≡ stack_len) where
+module _ (funs : List Writer) (at width value : ℕ) (d st : List ℕ) (d_size : length d ≡ 8) (st_size : length st ≡ stack_len) where
   abbrev new : List ℕ
   new = le_bytes width value
 
@@ -56,13 +56,13 @@ module _ (funs : List FirstFun) (at width value : ℕ) (d st : List ℕ) (d_size
   store_leaves = store_by (eqb (at % width) 0) (holds at width (text_region funs)) (holds at width (data_region d)) (holds at width (stack_region st)) refl refl refl refl
 
 -- a store leaves it
-store_keeps : (funs : List FirstFun) (m n : Mem) (at width value : ℕ) → KeepsText funs m → store m at width value ≡ Ok n → KeepsText funs n
+store_keeps : (funs : List Writer) (m n : Mem) (at width value : ℕ) → KeepsText funs m → store m at width value ≡ Ok n → KeepsText funs n
 store_keeps funs m n at width value k e =
     let e' : store (image_with funs k.data_bytes k.stack) at width value ≡ Ok n = subst (λ x. store x at width value ≡ Ok n) k.is e in
     subst (λ r. Leaves funs r) e' (store_leaves funs at width value k.data_bytes k.stack k.data_size k.stack_size)
 
 -- the image has its own text
-pub image_keeps : (funs : List FirstFun) → KeepsText funs (image funs)
+pub image_keeps : (funs : List Writer) → KeepsText funs (image funs)
 image_keeps funs = record { data_bytes = le_bytes 8 (main_address funs); stack = zeros stack_len; is = refl; data_size = length-le_bytes 8 (main_address funs); stack_size = length-zeros stack_len }
 
 -- a run from the start leaves it

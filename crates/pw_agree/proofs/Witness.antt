@@ -3,7 +3,7 @@
 use Rattle.std.proofs.Common.{◌≡◌, ◌+◌, ◌≤◌, List, [], ◌∷◌, ◌++◌, refl, Some, codes, lit≤}
 use Rattle.std.proofs.lemmas.List.Elements.{All-nil, All-cons}
 use Rattle.pw_base.specs.Bytes.{le_bytes}
-use Rattle.pw_front.specs.declared.function.FirstFun.{FirstFun}
+use Rattle.pw_first.specs.declared.writer.Writer.{Writer}
 use Rattle.pw_code.specs.Scheme.{HasSmallNumbers, entry_words}
 use Rattle.pw_mem.specs.Memory.{zeros}
 use Rattle.pw_hart.specs.declared.ends.End.TheVariants.{Exit}
@@ -14,13 +14,13 @@ use Rattle.pw_agree.specs.Meaning.{output_of}
 use Rattle.pw_agree.specs.Agreement.{RunsAsMeant}
 use Rattle.pw_agree.proofs.Agree.{runs_of_images_are_meant}
 
-abbrev dead : FirstFun
+abbrev dead : Writer
 dead = record { name = codes "dead"; line = 1; outs = []; ret = 7 }
 
-abbrev main : FirstFun
+abbrev main : Writer
 main = record { name = codes "main"; line = 2; outs = 72 ∷ 105 ∷ []; ret = 0 }
 
-abbrev both : List FirstFun
+abbrev both : List Writer
 both = dead ∷ main ∷ []
 
 dead_small : HasSmallNumbers dead

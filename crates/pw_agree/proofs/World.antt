@@ -5,7 +5,7 @@ use Rattle.pw_base.specs.Bytes.{le, le_bytes}
 use Rattle.pw_base.proofs.Bytes.{le-le_bytes}
 use Rattle.pw_isa.specs.declared.instruction.Inst.{Inst}
 use Rattle.pw_isa.specs.declared.instruction.Inst.TheVariants.{Addi, Auipc, Ecall, Jalr, Ld}
-use Rattle.pw_front.specs.declared.function.FirstFun.{FirstFun}
+use Rattle.pw_first.specs.declared.writer.Writer.{Writer}
 use Rattle.pw_code.specs.Scheme.{entry_items}
 use Rattle.pw_mem.specs.Regions.{holds, region_at, bytes_at}
 use Rattle.pw_mem.specs.Memory.{zeros}
@@ -20,7 +20,7 @@ kept_below : (place count top at : ℕ) → place + 4 * count ≤ top → text_s
 kept_below place count top at h k (inl a) = let to = a.to in omega arith
 kept_below place count top at h k (inr a) = let to = a.to in omega arith
 
-module _ (funs : List FirstFun) (main : FirstFun) (has : main_of funs ≡ Some main) (can : CanPlace funs) where
+module _ (funs : List Writer) (main : Writer) (has : main_of funs ≡ Some main) (can : CanPlace funs) where
   text_below : text_start + 4 * all_words funs ≤ data_start
   text_below = let short = can.short in below (all_words funs) short
     where

@@ -1,6 +1,6 @@
 -- The machine's run of the image is what the source means.
 use Rattle.std.specs.Prelude.{◌≡◌, ℕ, ◌+◌, ◌*◌, ◌≤◌, List, ◌++◌, length, All, Some}
-use Rattle.pw_front.specs.declared.function.FirstFun.{FirstFun}
+use Rattle.pw_first.specs.declared.writer.Writer.{Writer}
 use Rattle.pw_mem.specs.Memory.{Mem}
 use Rattle.pw_hart.specs.declared.ends.End.TheVariants.{Exit, Limit}
 use Rattle.pw_hart.specs.State.{State}
@@ -11,7 +11,7 @@ use Rattle.pw_agree.specs.Meaning.{output_of, value_of}
 use Rattle.pw_agree.specs.KeptCode.{LiesInKeptCode}
 
 -- the memory is sealed and has the image's regions with the image's text: only bytes of the data and the stack may differ
-pub record KeepsText (funs : List FirstFun) (m : Mem) : Type 0 where
+pub record KeepsText (funs : List Writer) (m : Mem) : Type 0 where
   pub data_bytes : List ℕ
   pub stack : List ℕ
   pub is : m ≡ image_with funs data_bytes stack
@@ -19,7 +19,7 @@ pub record KeepsText (funs : List FirstFun) (m : Mem) : Type 0 where
   pub stack_size : length stack ≡ stack_len
 
 -- a run took as many instructions as it should to do what `main` means
-pub record RunsAsMeant (funs : List FirstFun) (main : FirstFun) (input before : List ℕ) (o : Outcome) : Type 0 where
+pub record RunsAsMeant (funs : List Writer) (main : Writer) (input before : List ℕ) (o : Outcome) : Type 0 where
   pub ends : o.end ≡ Exit (value_of main)
   pub writes : o.state.output ≡ before ++ output_of main
   pub reads : o.state.input ≡ input
@@ -32,20 +32,20 @@ pub record RunsAsMeant (funs : List FirstFun) (main : FirstFun) (input before : 
 -- ends with the value that `main` returns, writes what it writes and takes no input; no trap and no limit ends it.
 abbrev pub RunsOfImagesAreMeant : Type 0
 RunsOfImagesAreMeant =
-    (funs : List FirstFun) (main : FirstFun) (input before : List ℕ) (bound limit : ℕ)
+    (funs : List Writer) (main : Writer) (input before : List ℕ) (bound limit : ℕ)
     → CanPlace funs → main_of funs ≡ Some main → 1 ≤ bound → 16 + 3 * length main.outs ≤ limit
     → RunsAsMeant funs main input before (run limit (start funs bound input before))
 
 -- As many instructions are allowed as the words of the text, for each counted step and once more.
 abbrev pub LimitsSuffice : Type 0
 LimitsSuffice =
-    (funs : List FirstFun) (main : FirstFun) (bound : ℕ)
+    (funs : List Writer) (main : Writer) (bound : ℕ)
     → main_of funs ≡ Some main → 1 ≤ bound → 16 + 3 * length main.outs ≤ (bound + 1) * all_words funs
 
 -- However long a run from the start is, the text in memory stays the image's.
 abbrev pub TextStays : Type 0
 TextStays =
-    (funs : List FirstFun) (input before : List ℕ) (bound limit : ℕ)
+    (funs : List Writer) (input before : List ℕ) (bound limit : ℕ)
     → KeepsText funs (run limit (start funs bound input before)).state.mem
 
 -- what one outcome put, took and fetched is the front of what another did

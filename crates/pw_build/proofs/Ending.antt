@@ -5,7 +5,7 @@ use Rattle.std.proofs.lemmas.Bool.Decides.{nat_tests}
 use Rattle.std.proofs.Math.ListN.{set}
 use Rattle.std.proofs.lemmas.List.{get_or-set_same, get_or-set_other}
 use mathlib.Core.Path.{fun_ext}
-use Rattle.pw_front.specs.declared.function.FirstFun.{FirstFun}
+use Rattle.pw_first.specs.declared.writer.Writer.{Writer}
 use Rattle.pw_io.specs.Sink.{SinkState}
 use Rattle.pw_hart.specs.declared.hart.Hart.{Hart}
 use Rattle.pw_hart.specs.declared.ends.End.{End}
@@ -40,7 +40,7 @@ pub fresh_registers : (v : ℕ) → (λ (r : ℕ). get_or (0 ∷ 0 ∷ v ∷ rep
 fresh_registers v = fun_ext (fresh_register v)
 
 -- the machine's state at the start of a run
-pub starts : (funs : List FirstFun) (steps : ℕ) (hart : Hart) (old : Given) (input : List ℕ) → IsFresh steps hart → old.mem ≡ image funs → state_at (moment hart old) input ≡ start funs steps input []
+pub starts : (funs : List Writer) (steps : ℕ) (hart : Hart) (old : Given) (input : List ℕ) → IsFresh steps hart → old.mem ≡ image funs → state_at (moment hart old) input ≡ start funs steps input []
 starts funs steps hart old input fresh is =
     ap (λ x. record { x = x; pc = hart.pc; steps = hart.steps; mem = old.mem; input = input; output = [] }) fresh.x
     ∙ ap (λ pc. record { x = machine.set (λ _. 0) 2 (stack_start + stack_len); pc = pc; steps = hart.steps; mem = old.mem; input = input; output = [] }) fresh.pc
@@ -48,19 +48,19 @@ starts funs steps hart old input fresh is =
     ∙ ap (λ m. record { x = machine.set (λ _. 0) 2 (stack_start + stack_len); pc = text_start; steps = steps; mem = m; input = input; output = [] }) is
 
 -- the run is as meant, whatever the input is
-pub meant : (funs : List FirstFun) (main : FirstFun) (steps : ℕ) (hart : Hart) (old : Given) (input : List ℕ) → CanPlace funs → main_of funs ≡ Some main → 1 ≤ steps → IsFresh steps hart → old.mem ≡ image funs → RunsAsMeant funs main input [] (run ((steps + 1) * all_words funs) (state_at (moment hart old) input))
+pub meant : (funs : List Writer) (main : Writer) (steps : ℕ) (hart : Hart) (old : Given) (input : List ℕ) → CanPlace funs → main_of funs ≡ Some main → 1 ≤ steps → IsFresh steps hart → old.mem ≡ image funs → RunsAsMeant funs main input [] (run ((steps + 1) * all_words funs) (state_at (moment hart old) input))
 meant funs main steps hart old input placed has bound fresh is =
     let P : machine.State → Type 0 = λ s. RunsAsMeant funs main input [] (run ((steps + 1) * all_words funs) s) in
     subst P (sym (starts funs steps hart old input fresh is))
     (runs_of_images_are_meant funs main input [] steps ((steps + 1) * all_words funs) placed has bound (limits_suffice funs main steps has bound))
 
 -- so a run that is the machine's ends with the value of `main`
-pub ends_with_main : (funs : List FirstFun) (main : FirstFun) (steps : ℕ) (hart last : Hart) (old new : Given) (end : End) → CanPlace funs → main_of funs ≡ Some main → 1 ≤ steps → IsFresh steps hart → old.mem ≡ image funs → RunsTo ((steps + 1) * all_words funs) (moment hart old) (moment last new) end → end ≡ ends.Exit (value_of main)
+pub ends_with_main : (funs : List Writer) (main : Writer) (steps : ℕ) (hart last : Hart) (old new : Given) (end : End) → CanPlace funs → main_of funs ≡ Some main → 1 ≤ steps → IsFresh steps hart → old.mem ≡ image funs → RunsTo ((steps + 1) * all_words funs) (moment hart old) (moment last new) end → end ≡ ends.Exit (value_of main)
 ends_with_main funs main steps hart last old new end placed has bound fresh is r =
     sym r.ends ∙ (meant funs main steps hart old r.input placed has bound fresh is).ends
 
 -- a run that ended with a value, and the flush behind it
-pub finishes : (funs : List FirstFun) (steps value : ℕ) (fresh last : Hart) (old new : Given) (mid : SinkState) (ended : Ended) → IsFresh steps fresh → Runs ((steps + 1) * all_words funs) (moment fresh old) (moment last (record new { out = mid })) (ends.Exit value) → Flushes value mid new.out ended → Executes funs steps old new ended
+pub finishes : (funs : List Writer) (steps value : ℕ) (fresh last : Hart) (old new : Given) (mid : SinkState) (ended : Ended) → IsFresh steps fresh → Runs ((steps + 1) * all_words funs) (moment fresh old) (moment last (record new { out = mid })) (ends.Exit value) → Flushes value mid new.out ended → Executes funs steps old new ended
 finishes funs steps value fresh last old new mid (Exit v) is_fresh runs flushes = record {
   value = value;
   mid = mid;

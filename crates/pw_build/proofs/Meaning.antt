@@ -1,7 +1,7 @@
 -- The run of an image is what the source means, at its end and where the output fails.
 use Rattle.std.proofs.Common.{◌≡◌, ℕ, zero, suc, ◌+◌, ◌*◌, ◌-◌, ◌<◌, ◌≤◌, List, [], ◌∷◌, ◌++◌, length, refl, ap, sym, subst, ◌∙◌, arith, Some, inl, inr, append-nil, length-append}
 use Rattle.std.specs.Prelude.{◌⊎◌}
-use Rattle.pw_front.specs.declared.function.FirstFun.{FirstFun}
+use Rattle.pw_first.specs.declared.writer.Writer.{Writer}
 use Rattle.pw_mem.specs.Memory.{Mem}
 use Rattle.pw_mem.specs.Fetches.{counted, Told}
 use Rattle.pw_io.specs.Source.{SourceState, SourceFails, after}
@@ -45,7 +45,7 @@ takes_nothing : (old new : Moment) (input : List ℕ) (o : Outcome) → o.state.
 takes_nothing old new input o whole l = l.left ∙ ap (λ t. after t old.input) (nothing_before input l.taken o.state.input l.took whole) ∙ after_nothing old.input
 
 -- the memory that a run leaves keeps the text
-keeps_text : (funs : List FirstFun) (steps k : ℕ) (fresh : Hart) (old : Given) (new : Moment) (input : List ℕ) → IsFresh steps fresh → old.mem ≡ image funs → Leaves (moment fresh old) input (run k (state_at (moment fresh old) input)) new → KeepsText funs new.mem
+keeps_text : (funs : List Writer) (steps k : ℕ) (fresh : Hart) (old : Given) (new : Moment) (input : List ℕ) → IsFresh steps fresh → old.mem ≡ image funs → Leaves (moment fresh old) input (run k (state_at (moment fresh old) input)) new → KeepsText funs new.mem
 keeps_text funs steps k fresh old new input is_fresh is l =
     let P : Mem → Type 0 = λ m. KeepsText funs m in
     let stays = text_stays funs input [] steps k in
@@ -53,7 +53,7 @@ keeps_text funs steps k fresh old new input is_fresh is l =
     subst P (ap (λ s. s.mem) l.state) here
 
 -- a run that ended with a value, with the flush behind it
-ended_as_meant : (funs : List FirstFun) (main : FirstFun) (steps value : ℕ) (fresh last : Hart) (old new : Given) (mid : SinkState) → CanPlace funs → main_of funs ≡ Some main → 1 ≤ steps → IsFresh steps fresh → old.mem ≡ image funs → RunsTo ((steps + 1) * all_words funs) (moment fresh old) (moment last (record new { out = mid })) (ends.Exit value) → new.out ≡ flushed_all mid → EndsAsMeant funs old new value
+ended_as_meant : (funs : List Writer) (main : Writer) (steps value : ℕ) (fresh last : Hart) (old new : Given) (mid : SinkState) → CanPlace funs → main_of funs ≡ Some main → 1 ≤ steps → IsFresh steps fresh → old.mem ≡ image funs → RunsTo ((steps + 1) * all_words funs) (moment fresh old) (moment last (record new { out = mid })) (ends.Exit value) → new.out ≡ flushed_all mid → EndsAsMeant funs old new value
 ended_as_meant funs main steps value fresh last old new mid placed has bound is_fresh is r flushed =
     let m = meant funs main steps fresh old r.input placed has bound is_fresh is in
     let l = r.leaves in
@@ -71,7 +71,7 @@ ended_as_meant funs main steps value fresh last old new mid placed has bound is_
     value_same e = cc
 
 -- the output failed at a byte
-broke_off_at : (funs : List FirstFun) (main : FirstFun) (steps : ℕ) (fresh last : Hart) (old new : Given) → CanPlace funs → main_of funs ≡ Some main → 1 ≤ steps → IsFresh steps fresh → old.mem ≡ image funs → RunsUpTo ((steps + 1) * all_words funs) FailsToWrite (moment fresh old) (moment last new) → BreaksOffAsMeant funs old new
+broke_off_at : (funs : List Writer) (main : Writer) (steps : ℕ) (fresh last : Hart) (old new : Given) → CanPlace funs → main_of funs ≡ Some main → 1 ≤ steps → IsFresh steps fresh → old.mem ≡ image funs → RunsUpTo ((steps + 1) * all_words funs) FailsToWrite (moment fresh old) (moment last new) → BreaksOffAsMeant funs old new
 broke_off_at funs main steps fresh last old new placed has bound is_fresh is r =
     let b = r.before in
     let m = meant funs main steps fresh old b.input placed has bound is_fresh is in
@@ -92,7 +92,7 @@ broke_off_at funs main steps fresh last old new placed has bound is_fresh is r =
     }
 
 -- the input failed at a byte
-stopped_at : (funs : List FirstFun) (main : FirstFun) (steps : ℕ) (fresh last : Hart) (old new : Given) → CanPlace funs → main_of funs ≡ Some main → 1 ≤ steps → IsFresh steps fresh → old.mem ≡ image funs → RunsUpTo ((steps + 1) * all_words funs) FailsToRead (moment fresh old) (moment last new) → StopsAsMeant funs old new
+stopped_at : (funs : List Writer) (main : Writer) (steps : ℕ) (fresh last : Hart) (old new : Given) → CanPlace funs → main_of funs ≡ Some main → 1 ≤ steps → IsFresh steps fresh → old.mem ≡ image funs → RunsUpTo ((steps + 1) * all_words funs) FailsToRead (moment fresh old) (moment last new) → StopsAsMeant funs old new
 stopped_at funs main steps fresh last old new placed has bound is_fresh is r =
     let b = r.before in
     let m = meant funs main steps fresh old b.input placed has bound is_fresh is in
@@ -113,7 +113,7 @@ stopped_at funs main steps fresh last old new placed has bound is_fresh is r =
     }
 
 -- the output failed at the flush behind the last byte
-broke_off_behind : (funs : List FirstFun) (main : FirstFun) (steps value : ℕ) (fresh last : Hart) (old new : Given) (mid : SinkState) → CanPlace funs → main_of funs ≡ Some main → 1 ≤ steps → IsFresh steps fresh → old.mem ≡ image funs → RunsTo ((steps + 1) * all_words funs) (moment fresh old) (moment last (record new { out = mid })) (ends.Exit value) → SinkFails mid new.out → BreaksOffAsMeant funs old new
+broke_off_behind : (funs : List Writer) (main : Writer) (steps value : ℕ) (fresh last : Hart) (old new : Given) (mid : SinkState) → CanPlace funs → main_of funs ≡ Some main → 1 ≤ steps → IsFresh steps fresh → old.mem ≡ image funs → RunsTo ((steps + 1) * all_words funs) (moment fresh old) (moment last (record new { out = mid })) (ends.Exit value) → SinkFails mid new.out → BreaksOffAsMeant funs old new
 broke_off_behind funs main steps value fresh last old new mid placed has bound is_fresh is r fails =
     let m = meant funs main steps fresh old r.input placed has bound is_fresh is in
     let l = r.leaves in
@@ -129,7 +129,7 @@ broke_off_behind funs main steps value fresh last old new mid placed has bound i
     }
 
 -- each end of a run has to do with the source what it should
-pub is_meant : (funs : List FirstFun) (steps : ℕ) (old new : Given) (ended : Ended) → CanPlace funs → HasMain funs → 1 ≤ steps → old.mem ≡ image funs → Executes funs steps old new ended → IsMeant funs old new ended
+pub is_meant : (funs : List Writer) (steps : ℕ) (old new : Given) (ended : Ended) → CanPlace funs → HasMain funs → 1 ≤ steps → old.mem ≡ image funs → Executes funs steps old new ended → IsMeant funs old new ended
 is_meant funs steps old new (Exit value) placed has bound is f =
     let r = f.runs in
     subst (λ v. EndsAsMeant funs old new v) (sym f.flushes.0)
@@ -144,23 +144,23 @@ abbrev pub given_at : Moment → Given
 given_at m = record { mem = m.mem; fetches = m.fetches; told = m.told; input = m.input; out = m.out }
 
 -- no other end of the machine's run than the exit with the value of `main`
-pub only_exit : (funs : List FirstFun) (steps n : ℕ) (old new : Moment) (end : End) → CanPlace funs → (has : HasMain funs) → 1 ≤ steps → IsFresh steps old.hart → old.mem ≡ image funs → n ≡ (steps + 1) * all_words funs → RunsTo n old new end → end ≡ ends.Exit (value_of has.main)
+pub only_exit : (funs : List Writer) (steps n : ℕ) (old new : Moment) (end : End) → CanPlace funs → (has : HasMain funs) → 1 ≤ steps → IsFresh steps old.hart → old.mem ≡ image funs → n ≡ (steps + 1) * all_words funs → RunsTo n old new end → end ≡ ends.Exit (value_of has.main)
 only_exit funs steps n old new end placed has bound is_fresh is limit r =
     ends_with_main funs has.main steps old.hart new.hart (given_at old) (given_at new) end placed has.is bound is_fresh is (subst (λ k. RunsTo k old new end) limit r)
 
 -- a run that ended with a value, and the flush behind it, are as meant
-pub meant_at_exit : (funs : List FirstFun) (steps n value : ℕ) (old mid : Moment) (out : SinkState) (ended : Ended) → CanPlace funs → HasMain funs → 1 ≤ steps → IsFresh steps old.hart → old.mem ≡ image funs → n ≡ (steps + 1) * all_words funs → RunsTo n old mid (ends.Exit value) → Flushes value mid.out out ended → IsMeant funs (given_at old) (record { mem = mid.mem; fetches = mid.fetches; told = mid.told; input = mid.input; out = out }) ended
+pub meant_at_exit : (funs : List Writer) (steps n value : ℕ) (old mid : Moment) (out : SinkState) (ended : Ended) → CanPlace funs → HasMain funs → 1 ≤ steps → IsFresh steps old.hart → old.mem ≡ image funs → n ≡ (steps + 1) * all_words funs → RunsTo n old mid (ends.Exit value) → Flushes value mid.out out ended → IsMeant funs (given_at old) (record { mem = mid.mem; fetches = mid.fetches; told = mid.told; input = mid.input; out = out }) ended
 meant_at_exit funs steps n value old mid out ended placed has bound is_fresh is limit r flushes =
     is_meant funs steps (given_at old) _ ended placed has bound is
     (finishes funs steps value old.hart mid.hart (given_at old) (record { mem = mid.mem; fetches = mid.fetches; told = mid.told; input = mid.input; out = out }) mid.out ended is_fresh
     (subst (λ k. RunsTo k old mid (ends.Exit value)) limit r) flushes)
 
 -- so is a run whose output failed at a byte
-pub meant_at_fault : (funs : List FirstFun) (steps n : ℕ) (old new : Moment) → CanPlace funs → (has : HasMain funs) → 1 ≤ steps → IsFresh steps old.hart → old.mem ≡ image funs → n ≡ (steps + 1) * all_words funs → RunsUpTo n FailsToWrite old new → BreaksOffAsMeant funs (given_at old) (given_at new)
+pub meant_at_fault : (funs : List Writer) (steps n : ℕ) (old new : Moment) → CanPlace funs → (has : HasMain funs) → 1 ≤ steps → IsFresh steps old.hart → old.mem ≡ image funs → n ≡ (steps + 1) * all_words funs → RunsUpTo n FailsToWrite old new → BreaksOffAsMeant funs (given_at old) (given_at new)
 meant_at_fault funs steps n old new placed has bound is_fresh is limit r =
     broke_off_at funs has.main steps old.hart new.hart (given_at old) (given_at new) placed has.is bound is_fresh is (subst (λ k. RunsUpTo k FailsToWrite old new) limit r)
 
 -- and a run whose input failed
-pub meant_at_read_fault : (funs : List FirstFun) (steps n : ℕ) (old new : Moment) → CanPlace funs → (has : HasMain funs) → 1 ≤ steps → IsFresh steps old.hart → old.mem ≡ image funs → n ≡ (steps + 1) * all_words funs → RunsUpTo n FailsToRead old new → StopsAsMeant funs (given_at old) (given_at new)
+pub meant_at_read_fault : (funs : List Writer) (steps n : ℕ) (old new : Moment) → CanPlace funs → (has : HasMain funs) → 1 ≤ steps → IsFresh steps old.hart → old.mem ≡ image funs → n ≡ (steps + 1) * all_words funs → RunsUpTo n FailsToRead old new → StopsAsMeant funs (given_at old) (given_at new)
 meant_at_read_fault funs steps n old new placed has bound is_fresh is limit r =
     stopped_at funs has.main steps old.hart new.hart (given_at old) (given_at new) placed has.is bound is_fresh is (subst (λ k. RunsUpTo k FailsToRead old new) limit r)

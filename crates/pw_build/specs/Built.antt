@@ -1,7 +1,7 @@
 -- What building an image answers, and what it leaves of the memory.
 use Rattle.std.specs.Prelude.{◌≡◌, ℕ, ◌+◌, ◌-◌, ◌*◌, ◌/◌, Bool, true, false, List, [], ◌∷◌, ◌++◌, length, Option, Some, None, Result, Ok, Err, IfSome}
 use Rattle.pw_base.specs.declared.no_memory.NoMemory.{NoMemory}
-use Rattle.pw_front.specs.declared.function.FirstFun.{FirstFun}
+use Rattle.pw_first.specs.declared.writer.Writer.{Writer}
 use Rattle.pw_base.specs.Bytes.{le_bytes}
 use Rattle.pw_mem.specs.declared.region.Region.{Region}
 use Rattle.pw_mem.specs.Regions.{MappedRegion}
@@ -17,8 +17,8 @@ pub record Held : Type 0 where
   pub told : Option (List ℕ)
 
 -- the address of `main`, or that there is none
-abbrev pub IsMainAddress : List FirstFun → Option ℕ → Type 0
-IsMainAddress funs (Some at) = (at ≡ main_address funs) × ((main : FirstFun) × (main_of funs ≡ Some main))
+abbrev pub IsMainAddress : List Writer → Option ℕ → Type 0
+IsMainAddress funs (Some at) = (at ≡ main_address funs) × ((main : Writer) × (main_of funs ≡ Some main))
 IsMainAddress funs None = main_of funs ≡ None
 
 -- the words are behind the old ones, or memory was refused
@@ -67,15 +67,15 @@ Places text main old new (Err errors.NoMain) = ⊥
 Places text main old new (Err errors.NoMemory) = new ≡ old
 
 -- The memory holds the image, sealed, and no fetch is counted since.
-pub record HoldsImage (funs : List FirstFun) (new : Held) : Type 0 where
-  pub main : FirstFun
+pub record HoldsImage (funs : List Writer) (new : Held) : Type 0 where
+  pub main : Writer
   pub has_main : main_of funs ≡ Some main
   pub mem : new.mem ≡ image funs
   pub fetches : new.fetches ≡ 0
   pub told : IfSome new.told (λ list. list ≡ [])
 
 -- the image, or that there is no `main`; after a refusal the memory is as before
-abbrev pub LeavesImage : List FirstFun → Held → Held → Result (Unit {0}) ImageError → Type 0
+abbrev pub LeavesImage : List Writer → Held → Held → Result (Unit {0}) ImageError → Type 0
 LeavesImage funs old new (Ok _) = HoldsImage funs new
 LeavesImage funs old new (Err errors.NoMain) = (main_of funs ≡ None) × (new ≡ old)
 LeavesImage funs old new (Err errors.NoMemory) = new ≡ old

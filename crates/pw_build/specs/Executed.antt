@@ -1,6 +1,6 @@
 -- What the run of an image answers, and what it leaves of its memory, its input and its output.
 use Rattle.std.specs.Prelude.{◌≡◌, ℕ, ◌+◌, ◌*◌, ◌⊎◌, List, Option, Some}
-use Rattle.pw_front.specs.declared.function.FirstFun.{FirstFun}
+use Rattle.pw_first.specs.declared.writer.Writer.{Writer}
 use Rattle.pw_mem.specs.Memory.{Mem}
 use Rattle.pw_io.specs.Source.{SourceState}
 use Rattle.pw_io.specs.Sink.{SinkState, SinkFails, flushed_all}
@@ -27,8 +27,8 @@ abbrev pub moment : Hart → Given → Moment
 moment hart g = record { hart = hart; mem = g.mem; fetches = g.fetches; told = g.told; input = g.input; out = g.out }
 
 -- There is a function named `main`.
-pub record HasMain (funs : List FirstFun) : Type 0 where
-  pub main : FirstFun
+pub record HasMain (funs : List Writer) : Type 0 where
+  pub main : Writer
   pub is : main_of funs ≡ Some main
 
 -- The processor as a run begins: at the entry, its registers 0 but the stack pointer, with these counted steps.
@@ -39,7 +39,7 @@ pub record IsFresh (steps : ℕ) (hart : Hart) : Type 0 where
 
 -- The machine's run from the start, of at most as many instructions as the words for each counted step and once more,
 -- ends so and leaves that.
-pub record HasRun (funs : List FirstFun) (steps : ℕ) (old new : Given) (end : End) : Type 0 where
+pub record HasRun (funs : List Writer) (steps : ℕ) (old new : Given) (end : End) : Type 0 where
   pub fresh : Hart
   pub is_fresh : IsFresh steps fresh
   pub last : Hart
@@ -52,14 +52,14 @@ Flushes value old new ReadFault = ⊥
 Flushes value old new WriteFault = SinkFails old new
 
 -- The run was done, and then the output was flushed, or that failed.
-pub record Finishes (funs : List FirstFun) (steps : ℕ) (old new : Given) (ended : Ended) : Type 0 where
+pub record Finishes (funs : List Writer) (steps : ℕ) (old new : Given) (ended : Ended) : Type 0 where
   pub value : ℕ
   pub mid : SinkState
   pub runs : HasRun funs steps old (record new { out = mid }) (ends.Exit value)
   pub flushes : Flushes value mid new.out ended
 
 -- the run of an image: it ends with a value, and the output is flushed; or the input or the output failed
-abbrev pub Executes : List FirstFun → ℕ → Given → Given → Ended → Type 0
+abbrev pub Executes : List Writer → ℕ → Given → Given → Ended → Type 0
 Executes funs steps old new (Exit value) = Finishes funs steps old new (Exit value)
 Executes funs steps old new ReadFault = HasRun funs steps old new ends.ReadFault
 Executes funs steps old new WriteFault = HasRun funs steps old new ends.WriteFault ⊎ Finishes funs steps old new WriteFault

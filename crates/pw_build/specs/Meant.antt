@@ -1,6 +1,6 @@
 -- What the run of an image has to do with the source: what the output gained, what the value is, and what ran.
 use Rattle.std.specs.Prelude.{◌≡◌, ℕ, List, [], ◌++◌, length, All, Some}
-use Rattle.pw_front.specs.declared.function.FirstFun.{FirstFun}
+use Rattle.pw_first.specs.declared.writer.Writer.{Writer}
 use Rattle.pw_mem.specs.Fetches.{counted, Told}
 use Rattle.pw_io.specs.Source.{SourceFails}
 use Rattle.pw_io.specs.Sink.{SinkFails, wrote, flushed_all}
@@ -13,15 +13,15 @@ use Rattle.pw_build.specs.declared.run.Ended.TheVariants.{Exit, ReadFault, Write
 use Rattle.pw_build.specs.Executed.{Given}
 
 -- Every fetch was counted and told, each from kept code.
-pub record FetchesKeptCode (funs : List FirstFun) (old new : Given) : Type 0 where
+pub record FetchesKeptCode (funs : List Writer) (old new : Given) : Type 0 where
   pub fetched : List ℕ
   pub kept : All (LiesInKeptCode funs) fetched
   pub counts : new.fetches ≡ counted old.fetches (length fetched)
   pub tells : Told old.told fetched new.told
 
 -- The run ended with what `main` returns; the output gained what `main` writes and is flushed, and the input lost nothing.
-pub record EndsAsMeant (funs : List FirstFun) (old new : Given) (value : ℕ) : Type 0 where
-  pub main : FirstFun
+pub record EndsAsMeant (funs : List Writer) (old new : Given) (value : ℕ) : Type 0 where
+  pub main : Writer
   pub is_main : main_of funs ≡ Some main
   pub value_is : value ≡ value_of main
   pub out : new.out ≡ flushed_all (wrote (output_of main) old.out)
@@ -30,8 +30,8 @@ pub record EndsAsMeant (funs : List FirstFun) (old new : Given) (value : ℕ) : 
   pub text : KeepsText funs new.mem
 
 -- The output failed: it gained a front of what `main` writes, and the input lost nothing.
-pub record BreaksOffAsMeant (funs : List FirstFun) (old new : Given) : Type 0 where
-  pub main : FirstFun
+pub record BreaksOffAsMeant (funs : List Writer) (old new : Given) : Type 0 where
+  pub main : Writer
   pub is_main : main_of funs ≡ Some main
   pub front : List ℕ
   pub more : List ℕ
@@ -41,8 +41,8 @@ pub record BreaksOffAsMeant (funs : List FirstFun) (old new : Given) : Type 0 wh
   pub text : KeepsText funs new.mem
 
 -- The input failed: the output gained a front of what `main` writes, and the input lost nothing.
-pub record StopsAsMeant (funs : List FirstFun) (old new : Given) : Type 0 where
-  pub main : FirstFun
+pub record StopsAsMeant (funs : List Writer) (old new : Given) : Type 0 where
+  pub main : Writer
   pub is_main : main_of funs ≡ Some main
   pub front : List ℕ
   pub more : List ℕ
@@ -52,7 +52,7 @@ pub record StopsAsMeant (funs : List FirstFun) (old new : Given) : Type 0 where
   pub text : KeepsText funs new.mem
 
 -- what each end of the run has to do with the source
-abbrev pub IsMeant : List FirstFun → Given → Given → Ended → Type 0
+abbrev pub IsMeant : List Writer → Given → Given → Ended → Type 0
 IsMeant funs old new (Exit value) = EndsAsMeant funs old new value
 IsMeant funs old new ReadFault = StopsAsMeant funs old new
 IsMeant funs old new WriteFault = BreaksOffAsMeant funs old new

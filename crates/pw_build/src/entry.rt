@@ -5,7 +5,7 @@ ghost use Rattle.pw_build.specs.Built.{IsMainAddress};
 
 use pw_base::Limits;
 use pw_code::function_size;
-use pw_front::FirstFun;
+use pw_first::Writer;
 
 /// The first address of the text.
 pub const TEXT_START: u64 = Limits::MODULE_SPAN + Limits::TEXT_OFFSET;
@@ -17,14 +17,14 @@ pub const DATA_START: u64 = Limits::MODULE_SPAN + Limits::DATA_OFFSET;
 const ENTRY_WORDS: u64 = 6;
 
 /// Whether a function keeps its code beside the entry: it is named `main`.
-pub fn is_main(fun: &FirstFun) -> bool
+pub fn is_main(fun: &Writer) -> bool
     ensures { result ≡ is_kept fun.now }
 {
     fun.name.bytes() == b"main".as_slice()
 }
 
 /// The address of `main`, where there is one.
-pub fn main_address(funs: &[FirstFun]) -> Option<u64>
+pub fn main_address(funs: &[Writer]) -> Option<u64>
     requires { CanPlace funs.now }
     ensures { IsMainAddress funs.now result }
 {
@@ -39,7 +39,7 @@ pub fn main_address(funs: &[FirstFun]) -> Option<u64>
 }
 
 /// The words of the text: those of the entry and of each function.
-pub fn words_of(funs: &[FirstFun]) -> u64
+pub fn words_of(funs: &[Writer]) -> u64
     requires { CanPlace funs.now }
     ensures { result ≡ all_words funs.now }
 {

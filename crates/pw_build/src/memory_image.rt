@@ -8,7 +8,7 @@ use crate::entry::{DATA_START, TEXT_START, main_address};
 use crate::text::text_of;
 use bitflags::Flags;
 use pw_base::Limits;
-use pw_front::FirstFun;
+use pw_first::Writer;
 use pw_mem::{Memory, Region, Rights};
 use std::alloc::Global;
 use thiserror::Error;
@@ -28,7 +28,7 @@ pub enum ImageError {
 /// every other function, the slot of `main`, and a stack of zeros. No fetch is counted.
 ///
 /// Refusals: `NoMain` exactly where no function is named so. After a refusal the memory is as before.
-pub fn image<M: Memory>(alloc: Global, funs: &[FirstFun], mem: &mut M) -> Result<(), ImageError>
+pub fn image<M: Memory>(alloc: Global, funs: &[Writer], mem: &mut M) -> Result<(), ImageError>
     requires { CanPlace funs.now }
     ensures { LeavesImage funs.now
         (record { mem = M.mem mem.old; fetches = M.fetches mem.old; told = M.told mem.old })

@@ -6,7 +6,7 @@ ghost use Rattle.pw_build.specs.Executed.{HasMain, IsFresh, Executes, Flushes};
 
 use crate::entry::{TEXT_START, words_of};
 use pw_base::Limits;
-use pw_front::FirstFun;
+use pw_first::Writer;
 use pw_hart::{End, Hart};
 use pw_io::{Sink, Source};
 use pw_mem::Memory;
@@ -27,7 +27,7 @@ const SP: usize = 2;
 
 /// Runs the image of the functions with so many counted steps, and flushes the output. No memory is taken.
 pub fn execute<M: Memory, I: Source, O: Sink>(
-    funs: &[FirstFun],
+    funs: &[Writer],
     steps: u64,
     mem: &mut M,
     input: &mut I,

@@ -9,11 +9,11 @@ ghost use Rattle.pw_mem.specs.Words.{text_bytes};
 use crate::entry::{DATA_START, TEXT_START, is_main};
 use pw_base::NoMemory;
 use pw_code::{function_size, put_entry, put_function};
-use pw_front::FirstFun;
+use pw_first::Writer;
 use std::alloc::Global;
 
 /// The bytes of the text of a program.
-pub fn text_of(alloc: Global, funs: &[FirstFun]) -> Result<Vec<u8>, NoMemory>
+pub fn text_of(alloc: Global, funs: &[Writer]) -> Result<Vec<u8>, NoMemory>
     requires { CanPlace funs.now }
     ensures { IfOk result (λ text. text.items ≡ text_bytes (text_words funs.now)) }
 {
@@ -23,7 +23,7 @@ pub fn text_of(alloc: Global, funs: &[FirstFun]) -> Result<Vec<u8>, NoMemory>
 }
 
 /// Appends the words of the text.
-fn put_text(funs: &[FirstFun], to: &mut Vec<u32>) -> Result<(), NoMemory>
+fn put_text(funs: &[Writer], to: &mut Vec<u32>) -> Result<(), NoMemory>
     requires { CanPlace funs.now }
     ensures { Appended (text_words funs.now) to.old.items to.new.items result }
 {
@@ -35,7 +35,7 @@ fn put_text(funs: &[FirstFun], to: &mut Vec<u32>) -> Result<(), NoMemory>
 }
 
 /// Appends a function's words where it is kept, and else as many zeros.
-fn put_image_words(fun: &FirstFun, to: &mut Vec<u32>) -> Result<(), NoMemory>
+fn put_image_words(fun: &Writer, to: &mut Vec<u32>) -> Result<(), NoMemory>
     requires small { HasSmallNumbers fun.now }
     requires few { length fun.now.outs < 2 ^ 32 }
     ensures { Appended (image_words fun.now) to.old.items to.new.items result }

@@ -1,5 +1,5 @@
 -- Bytes put one after another, and where that breaks off.
-use Rattle.std.proofs.Common.{◌≡◌, ℕ, zero, suc, ◌+◌, ◌<◌, List, [], ◌∷◌, ◌++◌, length, take, drop, get_or, Result, Ok, Err, refl, ap, sym, subst, ◌∙◌, append_assoc, append-nil, arith, Bor}
+use Rattle.std.proofs.Common.{◌≡◌, ℕ, ◌+◌, ◌<◌, List, [], ◌∷◌, ◌++◌, length, take, drop, get_or, Result, Ok, Err, refl, ap, sym, subst, ◌∙◌, append_assoc, append-nil, Bor}
 use Rattle.std.specs.Result.{OnOk, OnErr}
 use Rattle.std.specs.List.{flat_map}
 use Rattle.std.proofs.lemmas.List.{take-append-drop, take_more, drop_more}
@@ -28,6 +28,20 @@ broken_in bytes front part more old mid new whole put broken =
 pub put_more : (front part : List ℕ) (old mid new : SinkState) → mid ≡ wrote front old → new ≡ wrote part mid → new ≡ wrote (front ++ part) old
 put_more front part old mid new first second = second ∙ ap (wrote part) first ∙ wrote_wrote front part old
 
+-- a front that breaks off
+pub broken_front : (bytes front more : List ℕ) (old new : SinkState) → bytes ≡ front ++ more → BreaksOff front old new → BreaksOff bytes old new
+broken_front bytes front more old new whole broken = record {
+  front = broken.front;
+  more = broken.more ++ more;
+  whole = whole ∙ ap (λ p. p ++ more) broken.whole ∙ append_assoc broken.front broken.more more;
+  fails = broken.fails;
+}
+
+-- the rest behind a front that was put
+pub puts_rest : (bytes front rest : List ℕ) (old mid new : SinkState) (result : Result (Unit {0}) Failed) → bytes ≡ front ++ rest → mid ≡ wrote front old → Puts rest mid new result → Puts bytes old new result
+puts_rest bytes front rest old mid new (Ok _) whole put puts = put_more front rest old mid new put puts ∙ ap (λ b. wrote b old) (sym whole)
+puts_rest bytes front rest old mid new (Err _) whole put puts = broken_in bytes front rest [] old mid new (whole ∙ ap (λ p. front ++ p) (sym (append-nil rest))) put puts
+
 -- the flush behind a line that was put
 pub line_ends : (line : List ℕ) (old mid new : SinkState) (result : Result (Unit {0}) Failed) → mid ≡ wrote line old → OnOk result (new ≡ flushed_all mid) → OnErr result (SinkFails mid new) → PutsLine line old new result
 line_ends line old mid new (Ok _) put flush fails = flush ∙ ap flushed_all put
@@ -52,3 +66,12 @@ flat_map-take_more pieces i d inside =
 -- five pieces, of which four are known, as one text
 pub five_pieces : (a file b digits c : List ℕ) (a-is b-is digits-is c-is : List ℕ) → a ≡ a-is → b ≡ b-is → digits ≡ digits-is → c ≡ c-is → a ++ (file ++ (b ++ (digits ++ (c ++ [])))) ≡ a-is ++ (file ++ (b-is ++ (digits-is ++ c-is)))
 five_pieces a file b digits c a-is b-is digits-is c-is e f g h = rw (e, f, g, h, append-nil c-is) refl
+
+-- a refusal's text, in three parts: why, the line, and the place in it
+pub refusal_parts : (a file kind what line number place : List ℕ) → a ++ (file ++ (kind ++ (what ++ (line ++ (number ++ place))))) ≡ (a ++ (file ++ (kind ++ what))) ++ ((line ++ number) ++ place)
+refusal_parts a file kind what line number place =
+    let rest : List ℕ = (line ++ number) ++ place in
+    ap (λ p. a ++ (file ++ (kind ++ (what ++ p)))) (sym (append_assoc line number place))
+    ∙ ap (λ p. a ++ (file ++ p)) (sym (append_assoc kind what rest))
+    ∙ ap (λ p. a ++ p) (sym (append_assoc file (kind ++ what) rest))
+    ∙ sym (append_assoc a (file ++ (kind ++ what)) rest)

@@ -1,52 +1,84 @@
--- The functions of a text of the first form can be placed: a function has fewer words than its tokens have halves, and a text has no more tokens than bytes.
-use Rattle.std.proofs.Common.{◌≡◌, ℕ, ◌+◌, ◌*◌, ◌<◌, ◌≤◌, ◌^◌, ◌⊎◌, List, [], ◌∷◌, ◌++◌, length, refl, ap, sym, subst, ◌∙◌, arith, length-append, inl, inr, get_or}
+-- The functions of a unit of the first form can be placed: a function has at most three words for each token that it was at
+-- least, and a text has no more tokens than bytes.
+use Rattle.std.proofs.Common.{◌≡◌, ℕ, ◌+◌, ◌*◌, ◌≤◌, List, [], ◌∷◌, length, Some, refl, arith}
 use Rattle.std.specs.Prelude.{sum_by, All}
-use Rattle.std.specs.List.{flat_map}
-use Rattle.std.proofs.lemmas.List.Concat.{flat_map-cons}
+use Rattle.std.proofs.lemmas.List.Elements.{All-nil, All-cons}
 use Rattle.std.proofs.lemmas.List.Sums.{sum_by-cons}
-use Rattle.pw_front.specs.declared.function.FirstFun.{FirstFun}
-use Rattle.pw_front.specs.Tokens.{Token, Place, Takes, Spells, HasTokens, IsWholeWord, IsPunctuator, start_of}
-use Rattle.pw_front.specs.Grammar.{output, head, last, spelled, IsFirstFun, IsFirstForm}
+use Rattle.pw_tree.specs.Trees.{Tree, constant, output}
+use Rattle.pw_tree.specs.Commands.{Command, Commands, evaluate, returns, nil, cons}
+use Rattle.pw_tree.specs.Units.{Function, TypedUnit}
+use Rattle.pw_first.specs.declared.writer.Writer.{Writer}
+use Rattle.pw_first.specs.FirstForm.{IsConstant, IsOutput, IsWritten, IsReturned, Writes, IsWriter, AreWriters, IsFirstForm}
+use Rattle.pw_front.specs.Weights.{statement_count, weight}
 use Rattle.pw_code.proofs.CodeWords.{size-function}
 use Rattle.pw_code.specs.Scheme.{HasSmallNumbers}
-use Rattle.pw_agree.specs.Image.{CanPlace, all_words, function_size}
+use Rattle.pw_agree.specs.Image.{CanPlace, function_size}
 
--- a token has a byte
-lexeme_has_a_byte : (bytes after : List ℕ) → IsWholeWord bytes after ⊎ IsPunctuator bytes → 1 ≤ length bytes
-lexeme_has_a_byte bytes after (inl word) = word.some
-lexeme_has_a_byte bytes after (inr mark) = let e : length bytes ≡ 1 = ap length mark.alone in omega (arith, e)
+-- ---- the statements of a body
 
--- a token takes a byte or more
-takes_a_byte : (from to : Place) (token : Token) → Takes from token to → 1 + length to.text ≤ length from.text
-takes_a_byte from to token t =
-    let e : length from.text ≡ length t.gap + (length t.bytes + length to.text) = ap length t.parts ∙ length-append t.gap (t.bytes ++ to.text) ∙ ap (λ n. length t.gap + n) (length-append t.bytes to.text) in
-    omega (arith, e, lexeme_has_a_byte t.bytes to.text t.lexeme)
+-- a body has a statement for each output, and one that returns
+statements_of_writer : (ss : Commands) (outs : List ℕ) (ret : ℕ) → Writes ss outs ret → statement_count ss ≡ 1 + length outs
+unfolding statement_count
+statements_of_writer (cons s nil) [] ret k = refl
+statements_of_writer (cons s (cons t ss)) [] ret k = absurd k
+statements_of_writer nil [] ret k = absurd k
+statements_of_writer nil (n ∷ outs) ret k = absurd k
+statements_of_writer (cons s ss) (n ∷ outs) ret k = omega (arith, statements_of_writer ss outs ret k.1)
 
--- tokens are no more than bytes
-tokens_are_few : (tokens : List Token) (from to : Place) → Spells from tokens to → length tokens + length to.text ≤ length from.text
-tokens_are_few [] from to s = let e : length from.text ≡ length to.text = ap (λ p. length p.text) s in omega (arith, e)
-tokens_are_few (t ∷ ts) from to s = omega (arith, takes_a_byte from s.0 t s.1, tokens_are_few ts s.0 to s.2)
+-- a function has at most three words for each token
+words_for_weight : (fs : List Function) (ws : List Writer) → AreWriters fs ws → sum_by function_size ws ≤ 3 * sum_by weight fs
+words_for_weight [] [] k = omega arith
+words_for_weight [] (w ∷ ws) k = absurd k
+words_for_weight (f ∷ fs) [] k = absurd k
+words_for_weight (f ∷ fs) (w ∷ ws) k =
+    omega (arith, sum_by-cons function_size w ws, sum_by-cons weight f fs, size-function w, statements_of_writer f.body w.outs w.ret k.0.writes, words_for_weight fs ws k.1)
 
--- the tokens of a function with so many outputs
-length-outputs : (outs : List ℕ) → length (flat_map output outs) ≡ 5 * length outs
-length-outputs [] = refl
-length-outputs (value ∷ outs) = omega (arith, ap length (flat_map-cons output value outs), length-append (output value) (flat_map output outs), length-outputs outs)
+-- ---- the numbers of a body
 
-length-spelled : (f : FirstFun) → length (spelled f) ≡ 10 + 5 * length f.outs
-length-spelled f = omega (arith, length-append (flat_map output f.outs) (last f.ret), length-outputs f.outs)
+constant_small : (e : Tree) (n : ℕ) → IsConstant e n → n ≤ 2047
+constant_small (constant at value) n k = k.1
+constant_small _ n k = absurd k
 
--- a function has at most three words for two tokens
-words_for_tokens : (funs : List FirstFun) → 2 * sum_by function_size funs ≤ 3 * length (flat_map spelled funs)
-words_for_tokens [] = omega arith
-words_for_tokens (f ∷ funs) =
-    omega (arith, sum_by-cons function_size f funs, ap length (flat_map-cons spelled f funs), length-append (spelled f) (flat_map spelled funs), size-function f, length-spelled f, words_for_tokens funs)
+output_small : (e : Tree) (n : ℕ) → IsOutput e n → n ≤ 2047
+output_small (output at e) n k = constant_small e n k
+output_small _ n k = absurd k
 
--- the numbers of a function of the first form have room in immediates
-small_numbers : (f : FirstFun) → IsFirstFun f → HasSmallNumbers f
-small_numbers f h = record { line = h.early; outs = h.outs_small; ret = h.ret_small }
+written_small : (s : Command) (n : ℕ) → IsWritten s n → n ≤ 2047
+written_small (evaluate e) n k = output_small e n k
+written_small _ n k = absurd k
 
--- the functions of a text of the first form can be placed
-pub form_can_be_placed : (text : List ℕ) (funs : List FirstFun) → IsFirstForm text funs → CanPlace funs
-form_can_be_placed text funs form =
-    let few : length (flat_map spelled funs) + length form.tokens.end.text ≤ length text = tokens_are_few (flat_map spelled funs) (start_of text) form.tokens.end form.tokens.spelled in
-    record { small = λ k d inside. small_numbers (get_or funs k d) (form.each k d inside); short = omega (arith, few, words_for_tokens funs, form.short) }
+returned_small : (s : Command) (n : ℕ) → IsReturned s n → n ≤ 2047
+returned_small (returns (Some e)) n k = constant_small e n k
+returned_small _ n k = absurd k
+
+outputs_small : (ss : Commands) (outs : List ℕ) (ret : ℕ) → Writes ss outs ret → All (λ n. n ≤ 2047) outs
+outputs_small ss [] ret k = All-nil (λ n. n ≤ 2047)
+outputs_small nil (n ∷ outs) ret k = absurd k
+outputs_small (cons s ss) (n ∷ outs) ret k = All-cons (λ n. n ≤ 2047) n outs (written_small s n k.0) (outputs_small ss outs ret k.1)
+
+return_small : (ss : Commands) (outs : List ℕ) (ret : ℕ) → Writes ss outs ret → ret ≤ 2047
+return_small (cons s nil) [] ret k = returned_small s ret k
+return_small (cons s (cons t ss)) [] ret k = absurd k
+return_small nil [] ret k = absurd k
+return_small nil (n ∷ outs) ret k = absurd k
+return_small (cons s ss) (n ∷ outs) ret k = return_small ss outs ret k.1
+
+small_numbers : (f : Function) (w : Writer) → IsWriter f w → HasSmallNumbers w
+small_numbers f w k = record {
+  line = omega (arith, k.line, k.early);
+  outs = outputs_small f.body w.outs w.ret k.writes;
+  ret = return_small f.body w.outs w.ret k.writes;
+}
+
+all_small : (fs : List Function) (ws : List Writer) → AreWriters fs ws → All HasSmallNumbers ws
+all_small [] [] k = All-nil HasSmallNumbers
+all_small [] (w ∷ ws) k = absurd k
+all_small (f ∷ fs) [] k = absurd k
+all_small (f ∷ fs) (w ∷ ws) k = All-cons HasSmallNumbers w ws (small_numbers f w k.0) (all_small fs ws k.1)
+
+-- ---- units
+
+-- the functions of a unit of the first form, which is no longer than a source file, can be placed
+pub form_can_be_placed : (unit : TypedUnit) (ws : List Writer) → sum_by weight unit.functions ≤ 1048576 → IsFirstForm unit ws → CanPlace ws
+form_can_be_placed unit ws short form =
+    record { small = all_small unit.functions ws form.each; short = omega (arith, words_for_weight unit.functions ws form.each, short) }

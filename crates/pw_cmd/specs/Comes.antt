@@ -1,7 +1,6 @@
 -- Which answer comes where, what it leaves of the outside, and how it is told.
-use Rattle.std.specs.Prelude.{◌≡◌, ℕ, ◌⊎◌, List, Option, Some, None, Result, Ok, Err}
-use Rattle.pw_front.specs.declared.function.FirstFun.{FirstFun}
-use Rattle.pw_front.specs.Grammar.{IsFirstForm}
+use Rattle.std.specs.Prelude.{◌≡◌, ℕ, ◌⊎◌, List, Option, None, Ok, Err}
+use Rattle.pw_first.specs.declared.writer.Writer.{Writer}
 use Rattle.pw_io.specs.Source.{SourceState}
 use Rattle.pw_io.specs.Sink.{SinkState}
 use Rattle.pw_io.specs.Store.{StoreState, ReadFails}
@@ -10,14 +9,13 @@ use Rattle.pw_agree.specs.Image.{main_of}
 use Rattle.pw_build.specs.declared.run.Ended.{Ended}
 use Rattle.pw_build.specs.declared.run.Ended.TheVariants.{Exit, ReadFault, WriteFault}
 use Rattle.pw_build.specs.Executed.{Given}
-use Rattle.pw_cmd.specs.declared.answer.Outcome.{Outcome}
 use Rattle.pw_cmd.specs.declared.answer.Outcome.TheVariants as outcomes
 use Rattle.pw_cmd.specs.declared.answer.Stop.{Stop}
-use Rattle.pw_cmd.specs.declared.answer.Stop.TheVariants.{Usage, TooLong, Form, NoMain, ReadFailed, WriteFailed, NoMemory}
+use Rattle.pw_cmd.specs.declared.answer.Stop.TheVariants.{Usage, TooLong, Lex, Syntax, Typing, Form, NoMain, ReadFailed, WriteFailed, NoMemory}
 use Rattle.pw_cmd.specs.Answer.{Answer, line_of, status_of}
 use Rattle.pw_cmd.specs.Message.{Tells}
 use Rattle.pw_cmd.specs.Words.{AsksForOne}
-use Rattle.pw_cmd.specs.Unit.{HasRead, HasTooMany, IsOfNoForm}
+use Rattle.pw_cmd.specs.Unit.{HasRead, HasTooMany, HasFirstForm, IsRefused}
 use Rattle.pw_cmd.specs.Run.{Ran}
 
 -- what a command may read and change: the files, the input, the output and the memory
@@ -43,8 +41,11 @@ pub record HasLoaded (words : List (List ℕ)) (old new : StoreState) (text : Li
 abbrev pub Refuses : List (List ℕ) → StoreState → StoreState → Stop → Type 0
 Refuses words old new Usage = ((file : List ℕ) → ¬ AsksForOne words file) × (new ≡ old)
 Refuses words old new (TooLong word limit) = (word ≡ 1) × ((file : List ℕ) × AsksForOne words file × HasTooMany file limit old new)
-Refuses words old new (Form word) = (word ≡ 1) × ((text : List ℕ) × HasLoaded words old new text × IsOfNoForm text)
-Refuses words old new NoMain = (text : List ℕ) × (funs : List FirstFun) × HasLoaded words old new text × IsFirstForm text funs × (main_of funs ≡ None)
+Refuses words old new (Lex word fault line) = (text : List ℕ) × HasLoaded words old new text × IsRefused text (Lex word fault line)
+Refuses words old new (Syntax word fault line) = (text : List ℕ) × HasLoaded words old new text × IsRefused text (Syntax word fault line)
+Refuses words old new (Typing word rule at) = (text : List ℕ) × HasLoaded words old new text × IsRefused text (Typing word rule at)
+Refuses words old new (Form word) = (text : List ℕ) × HasLoaded words old new text × IsRefused text (Form word)
+Refuses words old new NoMain = (text : List ℕ) × (funs : List Writer) × HasLoaded words old new text × HasFirstForm text funs × (main_of funs ≡ None)
 Refuses words old new ReadFailed = (file : List ℕ) × AsksForOne words file × ReadFails old file new
 Refuses words old new WriteFailed = ⊥
 Refuses words old new NoMemory =
@@ -55,12 +56,12 @@ pub record HasNotRun (words : List (List ℕ)) (old new : Outside) (why : Stop) 
   pub refuses : Refuses words old.store new.store why
   pub stays : given new ≡ given old
 
--- the unit was read, is of the first form and has a `main`, and its image ran and ended so
+-- the unit was read, is well typed and of the first form and has a `main`, and its image ran and ended so
 pub record HasRun (words : List (List ℕ)) (old new : Outside) (ended : Ended) : Type 0 where
   pub text : List ℕ
-  pub funs : List FirstFun
+  pub funs : List Writer
   pub loaded : HasLoaded words old.store new.store text
-  pub form : IsFirstForm text funs
+  pub form : HasFirstForm text funs
   pub ran : Ran funs (given old) (given new) ended
 
 -- where each answer comes, and what it leaves
@@ -70,6 +71,9 @@ Comes words old new (Err ReadFailed) = HasNotRun words old new ReadFailed ⊎ Ha
 Comes words old new (Err WriteFailed) = HasRun words old new WriteFault
 Comes words old new (Err Usage) = HasNotRun words old new Usage
 Comes words old new (Err (TooLong word limit)) = HasNotRun words old new (TooLong word limit)
+Comes words old new (Err (Lex word fault line)) = HasNotRun words old new (Lex word fault line)
+Comes words old new (Err (Syntax word fault line)) = HasNotRun words old new (Syntax word fault line)
+Comes words old new (Err (Typing word rule at)) = HasNotRun words old new (Typing word rule at)
 Comes words old new (Err (Form word)) = HasNotRun words old new (Form word)
 Comes words old new (Err NoMain) = HasNotRun words old new NoMain
 Comes words old new (Err NoMemory) = HasNotRun words old new NoMemory

@@ -1,14 +1,16 @@
 -- What a reader may take from a status, in few words: each is a consequence of where the answers come.
-use Rattle.std.specs.Prelude.{◌≡◌, ◌≢◌, ℕ, ◌-◌, ◌^◌, ◌<◌, ◌⊎◌, List, [], ◌∷◌, ◌++◌, Option, Some, codes, decimal, if◌then◌else◌, ◌==◌}
-use Rattle.pw_front.specs.declared.function.FirstFun.{FirstFun}
-use Rattle.pw_front.specs.Grammar.{IsFirstForm}
+use Rattle.std.specs.Prelude.{◌≡◌, ◌≢◌, ℕ, ◌-◌, ◌^◌, ◌<◌, ◌≤◌, ◌⊎◌, length, List, [], ◌∷◌, ◌++◌, Option, Some, codes, decimal, if◌then◌else◌, ◌==◌}
+use Rattle.pw_tree.specs.Meaning.{exit, meaning}
+use Rattle.pw_tree.specs.Units.{unit_of}
+use Rattle.pw_first.specs.declared.writer.Writer.{Writer}
 use Rattle.pw_io.specs.Faults.{Rises}
 use Rattle.pw_io.specs.Sink.{SinkState, wrote, flushed_all}
-use Rattle.pw_io.specs.Store.{Files, StoreState}
+use Rattle.pw_io.specs.Store.{Files}
 use Rattle.pw_agree.specs.Image.{image, main_of}
-use Rattle.pw_agree.specs.Meaning.{value_of}
-use Rattle.pw_build.specs.Meant.{EndsAsMeant, BreaksOffAsMeant}
+use Rattle.pw_agree.specs.Meaning.{output_of, value_of}
+use Rattle.pw_build.specs.Meant.{EndsAsMeant}
 use Rattle.pw_cmd.specs.Words.{AsksForOne}
+use Rattle.pw_cmd.specs.Unit.{HasFirstForm}
 use Rattle.pw_cmd.specs.Comes.{Outside, given, HasLoaded}
 
 -- the status that a value gives
@@ -19,20 +21,24 @@ status_of_value value = if value == 0 then 0 else 1
 abbrev pub line_of_value : ℕ → List ℕ
 line_of_value value = (codes "ended " ++ decimal value) ++ 10 ∷ []
 
--- The run began: the unit was read with one call, is of the first form, and the run began in the memory of its image.
+-- The run began: the unit was read with one call, is well typed and of the first form, and the run began in the memory of its
+-- image.
 pub record Began (words : List (List ℕ)) (old new : Outside) : Type 0 where
   pub text : List ℕ
-  pub funs : List FirstFun
+  pub funs : List Writer
   pub loaded : HasLoaded words old.store new.store text
-  pub form : IsFirstForm text funs
+  pub form : HasFirstForm text funs
   pub told : Option (List ℕ)
 
 -- The source means what is seen: the status and the line are those of what `main` returns, the output gained what `main`
--- writes and is flushed, the input lost nothing, only kept code was fetched, and the text in memory is the image's.
+-- writes and is flushed, the input lost nothing, only kept code was fetched, and the text in memory is the image's. And that
+-- output, that rest of the input and that value are what the project of this one unit means, for each input.
 pub record ShowsMeaning (words : List (List ℕ)) (old new : Outside) (msg msg' : SinkState) (status : ℕ) : Type 0 where
   pub began : Began words old new
   pub value : ℕ
   pub meant : EndsAsMeant began.funs (record { mem = image began.funs; fetches = 0; told = began.told; input = old.input; out = old.out }) (given new) value
+  pub means : (input : List ℕ) →
+      meaning ((unit_of began.form.unit ∷ []) ∷ []) input 1000000 ≡ record { output = output_of meant.main; rest = input; end = exit value }
   pub status_is : status ≡ status_of_value value
   pub line : msg' ≡ flushed_all (wrote (line_of_value value) msg)
 
@@ -60,15 +66,16 @@ pub record NoneFailed (old new : Outside) (msg msg' : SinkState) : Type 0 where
 abbrev pub PassesNone : Outside → Outside → SinkState → SinkState → ℕ → Type 0
 PassesNone old new msg msg' status = status ≢ 6 → status ≢ 7 → NoneFailed old new msg msg'
 
--- The words ask for a file, which is told to have this text, which has these functions.
-pub record AsksForProgram (words : List (List ℕ)) (files : Option Files) (funs : List FirstFun) : Type 0 where
+-- The words ask for a file, which is told to have this text, no longer than a source file may be, which has these functions.
+pub record AsksForProgram (words : List (List ℕ)) (files : Option Files) (funs : List Writer) : Type 0 where
   pub file : List ℕ
   pub asks : AsksForOne words file
   pub at : Files
   pub told : files ≡ Some at
   pub text : List ℕ
   pub stands : at file ≡ Some text
-  pub form : IsFirstForm text funs
+  pub short : length text ≤ 1048576
+  pub form : HasFirstForm text funs
 
 -- no count of failed calls stands at its end
 pub record CountsCanRise (old : Outside) (msg : SinkState) : Type 0 where
@@ -80,5 +87,5 @@ pub record CountsCanRise (old : Outside) (msg : SinkState) : Type 0 where
 -- a program with a `main`, where no call fails, gives the status of what `main` returns, unless memory is refused
 abbrev pub Completes : List (List ℕ) → Outside → Outside → SinkState → SinkState → ℕ → Type 0
 Completes words old new msg msg' status =
-    (funs : List FirstFun) (main : FirstFun) → AsksForProgram words old.store.files funs → main_of funs ≡ Some main
+    (funs : List Writer) (main : Writer) → AsksForProgram words old.store.files funs → main_of funs ≡ Some main
     → CountsCanRise old msg → NoneFailed old new msg msg' → (status ≡ status_of_value (value_of main)) ⊎ (status ≡ 8)

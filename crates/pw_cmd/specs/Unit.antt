@@ -1,12 +1,18 @@
 -- What reading a unit answers, and what it leaves of the store.
-use Rattle.std.specs.Prelude.{◌≡◌, ℕ, ◌≤◌, ◌⊎◌, List, length, Result, Ok, Err, Vec}
+use Rattle.std.specs.Prelude.{◌≡◌, ℕ, ◌≤◌, ◌⊎◌, List, Option, length, Result, Ok, Err, Vec, ⊤}
 use Rattle.std.specs.declared.alloc.Global.{Global}
-use Rattle.pw_front.specs.declared.function.FirstFun.{FirstFun}
-use Rattle.pw_front.specs.Grammar.{IsFirstForm}
+use Rattle.pw_tree.specs.declared.tunit.TUnit.{TUnit}
+use Rattle.pw_tree.specs.Units.{unit_of}
+use Rattle.pw_types.specs.declared.error.TypeError.TheVariants as types
+use Rattle.pw_first.specs.declared.writer.Writer.{Writer}
+use Rattle.pw_first.specs.FirstForm.{IsFirstForm}
+use Rattle.pw_front.specs.declared.error.FrontError.{FrontError}
+use Rattle.pw_front.specs.declared.error.FrontError.TheVariants as fronts
+use Rattle.pw_front.specs.Units.{IsTypedUnitOf, HasLexFault, HasSyntaxFault, HasTypeFault}
 use Rattle.pw_io.specs.declared.ports.Asked.TheVariants.{Read}
 use Rattle.pw_io.specs.Store.{StoreState, called, StandsIn, PassesLimit, ReadFails}
 use Rattle.pw_cmd.specs.declared.answer.Stop.{Stop}
-use Rattle.pw_cmd.specs.declared.answer.Stop.TheVariants.{Usage, TooLong, Form, NoMain, ReadFailed, WriteFailed, NoMemory}
+use Rattle.pw_cmd.specs.declared.answer.Stop.TheVariants.{Usage, TooLong, Lex, Syntax, Typing, Form, NoMain, ReadFailed, WriteFailed, NoMemory}
 
 -- The file was read, with one call, and has this text.
 pub record HasRead (file text : List ℕ) (old new : StoreState) : Type 0 where
@@ -20,9 +26,34 @@ pub record HasTooMany (file : List ℕ) (limit : ℕ) (old new : StoreState) : T
   pub limit_is : limit ≡ 1048576
   pub passes : PassesLimit old.files file limit
 
--- the text is of no functions
-abbrev pub IsOfNoForm : List ℕ → Type 0
-IsOfNoForm text = (funs : List FirstFun) → ¬ IsFirstForm text funs
+-- The text has a typed unit, which is of the first form, with these functions.
+pub record HasFirstForm (text : List ℕ) (funs : List Writer) : Type 0 where
+  pub unit : TUnit
+  pub is_unit : IsTypedUnitOf text unit
+  pub is : IsFirstForm (unit_of unit) funs
+
+-- the unit is not of the first form
+abbrev pub IsOfNoForm : TUnit → Type 0
+IsOfNoForm unit = (funs : List Writer) → ¬ IsFirstForm (unit_of unit) funs
+
+-- The text has a typed unit, which is not of the first form.
+pub record HasOtherForm (text : List ℕ) : Type 0 where
+  pub unit : TUnit
+  pub is_unit : IsTypedUnitOf text unit
+  pub is_no : IsOfNoForm unit
+
+-- why the text in the file of word 1 is refused: its first fault, or that it has none and is not of the first form
+abbrev pub IsRefused : List ℕ → Stop → Type 0
+IsRefused text (Lex word fault line) = (word ≡ 1) × HasLexFault text fault line
+IsRefused text (Syntax word fault line) = (word ≡ 1) × HasSyntaxFault text fault line
+IsRefused text (Typing word rule at) = (word ≡ 1) × ((name : Option (List ℕ)) × HasTypeFault text rule at name)
+IsRefused text (Form word) = (word ≡ 1) × HasOtherForm text
+IsRefused text NoMemory = ⊤
+IsRefused text Usage = ⊥
+IsRefused text (TooLong _ _) = ⊥
+IsRefused text NoMain = ⊥
+IsRefused text ReadFailed = ⊥
+IsRefused text WriteFailed = ⊥
 
 -- the text of a file, or why there is none
 abbrev pub ReadsUnit : List ℕ → StoreState → StoreState → Result (Vec ℕ Global) Stop → Type 0
@@ -31,26 +62,48 @@ ReadsUnit file old new (Err (TooLong word limit)) = (word ≡ 1) × HasTooMany f
 ReadsUnit file old new (Err ReadFailed) = ReadFails old file new
 ReadsUnit file old new (Err NoMemory) = new ≡ old
 ReadsUnit file old new (Err Usage) = ⊥
+ReadsUnit file old new (Err (Lex _ _ _)) = ⊥
+ReadsUnit file old new (Err (Syntax _ _ _)) = ⊥
+ReadsUnit file old new (Err (Typing _ _ _)) = ⊥
 ReadsUnit file old new (Err (Form _)) = ⊥
 ReadsUnit file old new (Err NoMain) = ⊥
 ReadsUnit file old new (Err WriteFailed) = ⊥
 
--- the functions of a text, or that it has none
-abbrev pub ReadsForm : List ℕ → Result (List FirstFun) Stop → Type 0
-ReadsForm text (Ok funs) = IsFirstForm text funs
-ReadsForm text (Err (Form word)) = (word ≡ 1) × IsOfNoForm text
-ReadsForm text (Err NoMemory) = Unit {0}
-ReadsForm text (Err Usage) = ⊥
-ReadsForm text (Err (TooLong _ _)) = ⊥
-ReadsForm text (Err NoMain) = ⊥
-ReadsForm text (Err ReadFailed) = ⊥
-ReadsForm text (Err WriteFailed) = ⊥
+-- the refusal of a text with this fault
+abbrev pub refusal_of : FrontError → Stop
+refusal_of (fronts.Lex fault line) = Lex 1 fault line
+refusal_of (fronts.Syntax fault line) = Syntax 1 fault line
+refusal_of (fronts.Typing (types.Broken rule at name)) = Typing 1 rule at
+refusal_of (fronts.Typing types.NoMemory) = NoMemory
+refusal_of fronts.NoMemory = NoMemory
+
+-- the functions of a unit, or that it is not of the first form
+abbrev pub ReadsForm : TUnit → Result (List Writer) Stop → Type 0
+ReadsForm unit (Ok funs) = IsFirstForm (unit_of unit) funs
+ReadsForm unit (Err (Form word)) = (word ≡ 1) × IsOfNoForm unit
+ReadsForm unit (Err NoMemory) = ⊤
+ReadsForm unit (Err Usage) = ⊥
+ReadsForm unit (Err (TooLong _ _)) = ⊥
+ReadsForm unit (Err (Lex _ _ _)) = ⊥
+ReadsForm unit (Err (Syntax _ _ _)) = ⊥
+ReadsForm unit (Err (Typing _ _ _)) = ⊥
+ReadsForm unit (Err NoMain) = ⊥
+ReadsForm unit (Err ReadFailed) = ⊥
+ReadsForm unit (Err WriteFailed) = ⊥
+
+-- the functions of a text, or why there are none
+abbrev pub ReadsText : List ℕ → Result (List Writer) Stop → Type 0
+ReadsText text (Ok funs) = HasFirstForm text funs
+ReadsText text (Err why) = IsRefused text why
 
 -- the functions of the unit in a file, or why there are none
-abbrev pub LoadsUnit : List ℕ → StoreState → StoreState → Result (List FirstFun) Stop → Type 0
-LoadsUnit file old new (Ok funs) = (text : List ℕ) × HasRead file text old new × IsFirstForm text funs
+abbrev pub LoadsUnit : List ℕ → StoreState → StoreState → Result (List Writer) Stop → Type 0
+LoadsUnit file old new (Ok funs) = (text : List ℕ) × HasRead file text old new × HasFirstForm text funs
 LoadsUnit file old new (Err (TooLong word limit)) = (word ≡ 1) × HasTooMany file limit old new
-LoadsUnit file old new (Err (Form word)) = (word ≡ 1) × ((text : List ℕ) × HasRead file text old new × IsOfNoForm text)
+LoadsUnit file old new (Err (Lex word fault line)) = (text : List ℕ) × HasRead file text old new × IsRefused text (Lex word fault line)
+LoadsUnit file old new (Err (Syntax word fault line)) = (text : List ℕ) × HasRead file text old new × IsRefused text (Syntax word fault line)
+LoadsUnit file old new (Err (Typing word rule at)) = (text : List ℕ) × HasRead file text old new × IsRefused text (Typing word rule at)
+LoadsUnit file old new (Err (Form word)) = (text : List ℕ) × HasRead file text old new × IsRefused text (Form word)
 LoadsUnit file old new (Err ReadFailed) = ReadFails old file new
 LoadsUnit file old new (Err NoMemory) = (new ≡ old) ⊎ ((text : List ℕ) × HasRead file text old new)
 LoadsUnit file old new (Err Usage) = ⊥

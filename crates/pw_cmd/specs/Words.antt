@@ -6,7 +6,7 @@ use Rattle.pw_base.specs.Name.{IsName}
 use Rattle.pw_cmd.specs.declared.words.Command.{Command}
 use Rattle.pw_cmd.specs.declared.words.Command.TheVariants.{One}
 use Rattle.pw_cmd.specs.declared.answer.Stop.{Stop}
-use Rattle.pw_cmd.specs.declared.answer.Stop.TheVariants.{Usage, TooLong, Form, NoMain, ReadFailed, WriteFailed, NoMemory}
+use Rattle.pw_cmd.specs.declared.answer.Stop.TheVariants.{Usage, NoMemory}
 
 -- the bytes of each word
 abbrev pub texts : List (String Global) → List (List ℕ)

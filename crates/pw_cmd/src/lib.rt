@@ -5,8 +5,12 @@ mod answer;
 mod commands;
 mod message;
 mod perform;
+mod pieces;
 #[cfg(test)]
 mod recorder;
+mod refusal;
+#[cfg(test)]
+mod refusal_tests;
 mod running;
 #[cfg(test)]
 mod tests;

@@ -6,7 +6,7 @@ ghost use Rattle.pw_cmd.specs.Run.{RunsProgram, outcome_of};
 use crate::answer::{Outcome, Stop};
 use pw_base::Limits;
 use pw_build::{Ended, ImageError, execute, image};
-use pw_front::FirstFun;
+use pw_first::Writer;
 use pw_io::{Sink, Source};
 use pw_mem::Memory;
 use std::alloc::Global;
@@ -16,7 +16,7 @@ use std::alloc::Global;
 /// Refusals: `NoMain` exactly where no function is named so, `NoMemory` before the run; then nothing has changed.
 pub fn run_program<M: Memory, I: Source, O: Sink>(
     alloc: Global,
-    funs: &[FirstFun],
+    funs: &[Writer],
     mem: &mut M,
     input: &mut I,
     out: &mut O,

@@ -15,7 +15,11 @@ const TWO_BYTES: &[u8] =
 /// A program that writes three bytes.
 const THREE_BYTES: &[u8] = b"long main(void) { __out(97); __out(98); __out(99); return 0; }";
 
-/// The words of its `main`, whose name stands in line 2.
+/// A program with comments, characters and brackets, which stand for the numbers that they are.
+const WITH_COMMENTS: &[u8] =
+    b"/* Hi */ long main(void) {\n  __out('H'); // H\n  __out(0x69);\n  return (0); /* done */ }\n";
+
+/// The words of the first program's `main`, whose name stands in line 2.
 const MAIN: [u32; 21] = [
     0x0004_9a63,
     0x0040_0513,
@@ -42,14 +46,14 @@ const MAIN: [u32; 21] = [
 
 /// The numbers of the calls of each port that are to fail, from 1.
 #[derive(Clone, Copy)]
-struct Fails {
-    store: &'static [u64],
-    out: &'static [u64],
-    msg: &'static [u64],
+pub struct Fails {
+    pub store: &'static [u64],
+    pub out: &'static [u64],
+    pub msg: &'static [u64],
 }
 
 /// No call fails.
-const NONE: Fails = Fails {
+pub const NONE: Fails = Fails {
     store: &[],
     out: &[],
     msg: &[],
@@ -57,15 +61,15 @@ const NONE: Fails = Fails {
 
 /// What a command answered and left.
 #[derive(Drop)]
-struct Seen<M> {
-    status: u8,
-    out: MemSink,
-    msg: MemSink,
-    mem: M,
+pub struct Seen<M> {
+    pub status: u8,
+    pub out: MemSink,
+    pub msg: MemSink,
+    pub mem: M,
 }
 
 /// Runs the command of these words over a store with the one file main.c.
-fn run<M: Memory + Drop>(
+pub fn run<M: Memory + Drop>(
     alloc: Global,
     words: &[&str],
     text: &[u8],
@@ -102,8 +106,9 @@ fn run<M: Memory + Drop>(
 #[test]
 fn each_status_has_its_line_and_its_output(rt: HostRuntime) -> Result<(), Fail> {
     let one = ["one", "main.c"];
-    let rows: [(&[&str], &[u8], Fails, u8, &[u8], &[u8]); 12] = [
+    let rows: [(&[&str], &[u8], Fails, u8, &[u8], &[u8]); 13] = [
         (&one, TWO_BYTES, NONE, 0, b"Hi", b"ended 0\n"),
+        (&one, WITH_COMMENTS, NONE, 0, b"Hi", b"ended 0\n"),
         (&one, b"", NONE, 3, b"", b"refused: app: no main\n"),
         (
             &one,

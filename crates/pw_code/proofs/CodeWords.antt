@@ -3,7 +3,7 @@ use Rattle.pw_base.specs.declared.no_memory.NoMemory.{NoMemory}
 use Rattle.pw_code.specs.Appends.{Appends}
 use Rattle.std.proofs.Common.{◌≡◌, ℕ, suc, subst, Result, ◌+◌, ◌*◌, List, [], ◌∷◌, ◌++◌, length, flat_map, refl, sym, ◌∙◌, ap, arith, codes, pos, negsuc, length-append}
 use Rattle.pw_isa.specs.declared.instruction.Inst.TheVariants.{Jal, Jalr, Bne, Ld, Sd, Addi, Ecall}
-use Rattle.pw_front.specs.declared.function.FirstFun.{FirstFun}
+use Rattle.pw_first.specs.declared.writer.Writer.{Writer}
 use Rattle.pw_code.specs.Items.{Item, word, address, size, words_at}
 use Rattle.pw_code.specs.Scheme.{function_items, output, returns, falls_off, closes_frame, words, head_words, output_words, tail_words}
 
@@ -13,7 +13,7 @@ outputs_then slot [] rest same e place = e place
 outputs_then slot (v ∷ values) rest same e place = ap (λ ws. output_words v ++ ws) (outputs_then slot values rest same e (place + 4 + 4 + 4))
 
 -- a function's words, at any place
-pub words_at-function : (slot : List ℕ → ℕ) (place : ℕ) (f : FirstFun) → words_at slot place (function_items f) ≡ head_words f.line ++ (flat_map output_words f.outs ++ tail_words f.ret)
+pub words_at-function : (slot : List ℕ → ℕ) (place : ℕ) (f : Writer) → words_at slot place (function_items f) ≡ head_words f.line ++ (flat_map output_words f.outs ++ tail_words f.ret)
 words_at-function slot place f =
     ap (λ ws. head_words f.line ++ ws)
     (outputs_then slot f.outs (returns f.ret ++ (falls_off ++ closes_frame)) (tail_words f.ret) (λ _. refl) (place + 4 + 4 + 4 + 4 + 4 + 4 + 4 + 4))
@@ -24,7 +24,7 @@ size_then [] rest = omega arith
 size_then (v ∷ values) rest = omega (arith, size_then values rest)
 
 -- a function has 15 words, and 3 for each output
-pub size-function : (f : FirstFun) → size (function_items f) ≡ 15 + 3 * length f.outs
+pub size-function : (f : Writer) → size (function_items f) ≡ 15 + 3 * length f.outs
 size-function f = omega (arith, size_then f.outs (returns f.ret ++ (falls_off ++ closes_frame)))
 
 -- items are as many words at each place as their size
@@ -34,5 +34,5 @@ length-words_at slot place (word i ∷ items) = omega (arith, length-words_at sl
 length-words_at slot place (address rd name ∷ items) = omega (arith, length-words_at slot (place + 8) items)
 
 -- what is appended by its parts is a function's words
-pub appends_function : (f : FirstFun) (old new : List ℕ) (r : Result (Unit {0}) NoMemory) → Appends (head_words f.line ++ (flat_map output_words f.outs ++ tail_words f.ret)) old new r → Appends (words (function_items f)) old new r
+pub appends_function : (f : Writer) (old new : List ℕ) (r : Result (Unit {0}) NoMemory) → Appends (head_words f.line ++ (flat_map output_words f.outs ++ tail_words f.ret)) old new r → Appends (words (function_items f)) old new r
 appends_function f old new r h = subst (λ ws. Appends ws old new r) (sym (words_at-function (λ _. 0) 0 f)) h

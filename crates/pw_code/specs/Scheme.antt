@@ -2,7 +2,7 @@
 use Rattle.std.specs.Prelude.{◌≡◌, ℕ, ◌+◌, ◌*◌, ◌≤◌, pos, negsuc, List, [], ◌∷◌, ◌++◌, flat_map, codes, All, length}
 use Rattle.pw_isa.specs.declared.instruction.Inst.{Inst}
 use Rattle.pw_isa.specs.declared.instruction.Inst.TheVariants.{Jal, Jalr, Bne, Ld, Sd, Addi, Ecall}
-use Rattle.pw_front.specs.declared.function.FirstFun.{FirstFun}
+use Rattle.pw_first.specs.declared.writer.Writer.{Writer}
 use Rattle.pw_code.specs.Items.{Item, word, address, size, words_at}
 
 -- registers by their names (psABI, "Integer Register Convention"); s1 holds the calls that may still be made
@@ -59,7 +59,7 @@ closes_frame =
     word (Ld ra sp (pos 0)) ∷ word (Addi sp sp (pos 16)) ∷ word (Addi s1 s1 (pos 1)) ∷ word (Jalr x0 ra (pos 0)) ∷ []
 
 -- a function: its outputs in order, then its return
-abbrev pub function_items : FirstFun → List Item
+abbrev pub function_items : Writer → List Item
 function_items f =
     checks_depth f.line ++ (opens_frame ++ (flat_map output f.outs ++ (returns f.ret ++ (falls_off ++ closes_frame))))
 
@@ -88,7 +88,7 @@ abbrev pub entry_words : (place slot : ℕ) → List ℕ
 entry_words place slot = words_at (λ _. slot) place entry_items
 
 -- the numbers of a function have room in an immediate
-pub record HasSmallNumbers (f : FirstFun) : Type 0 where
+pub record HasSmallNumbers (f : Writer) : Type 0 where
   pub line : f.line ≤ 2047
   pub outs : All (λ value. value ≤ 2047) f.outs
   pub ret : f.ret ≤ 2047

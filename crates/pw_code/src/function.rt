@@ -7,11 +7,11 @@ ghost use Rattle.pw_code.specs.Appends.{Appends};
 use crate::registers::{A0, A1, A7, RA, S1, SP, X0};
 use crate::words::put;
 use pw_base::NoMemory;
-use pw_front::FirstFun;
+use pw_first::Writer;
 use pw_isa::Inst;
 
 /// The number of words of a function: 15, and 3 for each output.
-pub fn function_size(fun: &FirstFun) -> u64
+pub fn function_size(fun: &Writer) -> u64
     requires { length fun.now.outs < 2 ^ 32 }
     ensures { result ≡ size (function_items fun.now) }
 {
@@ -138,7 +138,7 @@ fn put_tail(value: u16, to: &mut Vec<u32>) -> Result<(), NoMemory>
 }
 
 /// Appends the words of a function; where memory is refused, a front of them.
-pub fn put_function(fun: &FirstFun, to: &mut Vec<u32>) -> Result<(), NoMemory>
+pub fn put_function(fun: &Writer, to: &mut Vec<u32>) -> Result<(), NoMemory>
     requires { HasSmallNumbers fun.now }
     ensures { Appends (words (function_items fun.now)) to.old.items to.new.items result }
 {

@@ -3,14 +3,14 @@
 use crate::entry::put_entry;
 use crate::function::{function_size, put_function};
 use pw_base::Name;
-use pw_front::FirstFun;
+use pw_first::Writer;
 use sqlite_items::Items;
 use std::test::Fail;
 
 #[test]
 fn a_function_has_the_words_of_the_scheme(rt: HostRuntime) -> Result<(), Fail> {
     let alloc = rt.alloc();
-    let fun = FirstFun {
+    let fun = Writer {
         name: Name::read(alloc, b"main")?,
         line: 2,
         outs: Items::from_slice(alloc, &[72, 105])?,

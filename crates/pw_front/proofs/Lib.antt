@@ -1,7 +1,4 @@
-pub mod Turns
-pub mod Runs
-pub mod Next
-pub mod Steps
-pub mod Readings
-pub mod Whole
-pub mod Form
+pub mod Lines
+pub mod OneReading
+pub mod Weights
+pub mod Written

@@ -1,5 +1,3 @@
-pub mod Bytes
-pub mod Tokens
-pub mod Names
-pub mod Grammar
-pub mod Reading
+pub mod Units
+pub mod Weights
+pub mod Laws

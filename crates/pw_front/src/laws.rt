@@ -1,14 +1,8 @@
-//! Laws of the first form, each the contract of a function.
-ghost use Rattle.std.specs.Prelude.{◌≡◌, ℕ, ◌≤◌, List, length};
-ghost use Rattle.pw_front.specs.declared.function.FirstFun.{FirstFun};
-ghost use Rattle.pw_front.specs.Grammar.{IsFirstForm, IsFirstFun};
+//! Laws of whole texts, each the contract of a function.
+ghost use Rattle.pw_front.specs.Laws.{OneTypedUnit, UnitOrFault};
 
-/// A text has at most one list of functions.
+/// A text has one typed unit at most, and none where it has a fault.
 pub fn a_text_has_one_reading()
-    ensures { (text : List ℕ) (fs gs : List FirstFun) → IsFirstForm text fs → IsFirstForm text gs → fs ≡ gs }
-{}
-
-/// 8,192 tokens leave room for 1,636 outputs.
-pub fn outputs_are_few()
-    ensures { (f : FirstFun) → IsFirstFun f → length f.outs ≤ 1636 }
+    ensures one_unit { OneTypedUnit }
+    ensures not_both { UnitOrFault }
 {}

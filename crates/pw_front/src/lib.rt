@@ -1,18 +1,13 @@
-//! Reads a source text of the first form: functions that write numbers and return one. `first` gives the functions, or
-//! `Form` exactly where the text is not of that form.
+//! Reads a whole source text: its typed unit, or its first fault with the line. The law says that a text has one typed
+//! unit at most, and none where it has a fault.
 #![tactic(auto)]
 
 mod error;
-mod function;
 mod laws;
-mod parse;
-mod reader;
 #[cfg(test)]
 mod tests;
-mod text;
-mod words;
+mod unit;
 
 pub use error::FrontError;
-pub use function::{FirstFun, FirstFuns};
-pub use laws::{a_text_has_one_reading, outputs_are_few};
-pub use text::first;
+pub use laws::a_text_has_one_reading;
+pub use unit::front;

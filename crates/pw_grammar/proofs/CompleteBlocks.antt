@@ -6,13 +6,14 @@ use Rattle.pw_grammar.specs.declared.sort.Sort.TheVariants as s
 use Rattle.pw_grammar.specs.Terminals.{sort, first_sort, is_same}
 use Rattle.pw_grammar.specs.Expressions.{spelled}
 use Rattle.pw_grammar.specs.Statements as st
-use Rattle.pw_grammar.specs.Statements.{Statement, Statements, empty, block, declare, simple, if_only, if_else, while_do, do_while, for_do, leave, jump, nil, cons, spelled_statement, spelled_statements, IsStatement, AreStatements, open_ended, kind_of, tree_of_statement, trees_of_statements, spelled_simple, spelled_local, kind_of_local, first_line, statement_node, jump_of}
+use Rattle.pw_grammar.specs.Statements.{Statement, Statements, empty, block, declare, simple, if_only, if_else, while_do, do_while, for_do, leave, jump, nil, cons, spelled_statement, spelled_statements, IsStatement, AreStatements, open_ended, kind_of, tree_of_statement, trees_of_statements, spelled_simple, spelled_local, jump_of}
 use Rattle.pw_grammar.specs.Steps.{Place, Parser, ◌>>=◌, pure, next_sort}
 use Rattle.pw_grammar.specs.ReadingExpressions.{expression}
 use Rattle.pw_grammar.specs.ReadingStatements as r
 use Rattle.pw_grammar.proofs.CompleteTokens.{spot, then_, counted, done, valued, step_skip, step_expect, either_this, either_other, parted, told_apart, line_of_front, fits, node_is, ReadsExpressions}
 use Rattle.pw_grammar.proofs.CompleteTypes.{reads_local, local_begins}
-use Rattle.pw_grammar.proofs.CompleteStarts.{starts_expression, simple_starts, some_tokens, starts_statement, statement_too, begins_no_type, form_of_expression}
+use Rattle.pw_grammar.proofs.Lengths.{statement_length}
+use Rattle.pw_grammar.proofs.CompleteStarts.{starts_expression, simple_starts, starts_statement, statement_too, begins_no_type, form_of_expression}
 use Rattle.pw_grammar.proofs.CompleteStatements.{no_other, ReadsPart, reads_while, reads_if_only, reads_if_else, reads_do}
 use Rattle.pw_grammar.proofs.CompleteLoops.{reads_for, reads_return, reads_jump, reads_empty, reads_evaluated}
 use Rattle.pw_tree.specs.declared.expr.Expr.{Expr}
@@ -59,10 +60,6 @@ element_no y x ts e f (a_statement is) = told_apart starts_statement (statement_
 element_no y x ts e f (a_local l same is) =
     subst (λ y. first_sort (spelled_statement y ++ ts) ≢ x) (sym same) (told_apart r.begins_type (local_begins l ts is) f)
 
-no_type_ends : r.begins_type s.End ≡ false
-unfolding r.begins_type is_same
-no_type_ends = refl
-
 no_type_else : r.begins_type s.Else ≡ false
 unfolding r.begins_type is_same
 no_type_else = refl
@@ -70,14 +67,6 @@ no_type_else = refl
 no_type_brace : r.begins_type s.RightBrace ≡ false
 unfolding r.begins_type is_same
 no_type_brace = refl
-
-element_length : (y : Statement) → Kind y → 0 < length (spelled_statement y)
-unfolding spelled_statement
-element_length y (a_statement is) =
-    some_tokens starts_statement (spelled_statement y) refl
-    (subst (λ ts. starts_statement (first_sort ts) ≡ true) (append-nil (spelled_statement y)) (statement_starts y [] is))
-element_length y (a_local l same is) = subst (λ y. 0 < length (spelled_statement y)) (sym same)
-    (some_tokens r.begins_type (spelled_local l) no_type_ends (subst (λ ts. r.begins_type (first_sort ts) ≡ true) (append-nil (spelled_local l)) (local_begins l [] is)))
 
 -- ---- the elements of a block
 
@@ -161,7 +150,7 @@ reads_whole : (expr : Parser Expr) (stmt : Parser Stmt) (n : ℕ) (y : Statement
 unfolding r.whole r.form
 reads_whole expr stmt n y at ts x is begins reads =
     then_ _ (ap (λ x. r.form_by expr stmt n x (spot at (spelled_statement y ++ ts))) begins ∙ reads)
-    (node_is at _ _ _ _ (spelled_statement y) ts refl refl (line_of_front (spelled_statement y) ts (element_length y (a_statement is))))
+    (node_is at _ _ _ _ (spelled_statement y) ts refl refl (line_of_front (spelled_statement y) ts (statement_length y)))
 
 tested_fits : (t o : Token) (v : List Token) (c : Token) (w ts : List Token) (n : ℕ) → length ((t ∷ o ∷ (v ++ c ∷ w)) ++ ts) < suc n → length (w ++ ts) < n
 tested_fits t o v c w ts n short = omega (arith, length-append (v ++ c ∷ w) ts, length-append v (c ∷ w), length-append w ts)
@@ -290,4 +279,4 @@ mutual
       (λ is. reads_statement e n y at (spelled_statements ys ++ ts) is (λ p. rest_no ys ts are.1 end) (one_fits (spelled_statement y) (spelled_statements ys) ts n short))
       (reads_statements e m n turns ys (at + length (spelled_statement y)) ts are.1 end
       (rest_fits (spelled_statement y) (spelled_statements ys) ts n short) (rest_fits (spelled_statement y) (spelled_statements ys) ts m short1)
-      (cons_fits (spelled_statement y) (spelled_statements ys) ts turns (element_length y (kind_is y are.0)) short2))
+      (cons_fits (spelled_statement y) (spelled_statements ys) ts turns (statement_length y) short2))

@@ -8,11 +8,12 @@ use Rattle.pw_grammar.specs.Terminals.{sort, first_sort, is_same}
 use Rattle.pw_grammar.specs.Expressions.{name_in}
 use Rattle.pw_grammar.specs.Statements.{TypePhrase, word, unsigned, spelled_type, IsType, type_of, type_in, type_or, Statements, spelled_statements, trees_of_statements}
 use Rattle.pw_grammar.specs.Declarations as dc
-use Rattle.pw_grammar.specs.Declarations.{spelled_storage, IsStorage, IsDefining, linkage_of, linkage_by, ResultPhrase, spelled_result, IsResult, result_in, Parameters, spelled_parameters, AreParameters, HaveNames, parameters_of, Variable, spelled_variable, IsVariable, MayHave, count_in, extent, elements_of, Declaration, prototype, function, variable, spelled_declaration, IsDeclaration, name_at, behind_parameters, tree_of_declaration, UnitPhrase, spelled_unit, IsUnit, trees_of_declarations}
+use Rattle.pw_grammar.specs.Declarations.{spelled_storage, IsStorage, IsDefining, linkage_of, linkage_by, ResultPhrase, spelled_result, IsResult, result_in, Parameters, spelled_parameters, AreParameters, parameters_of, Variable, spelled_variable, IsVariable, MayHave, Declaration, prototype, function, variable, spelled_declaration, IsDeclaration, name_at, behind_parameters, tree_of_declaration, UnitPhrase, spelled_unit, IsUnit, trees_of_declarations}
 use Rattle.pw_grammar.specs.Steps.{Place, Parser, ◌>>=◌, pure, refuse, next_sort}
 use Rattle.pw_grammar.specs.ReadingExpressions.{expression}
 use Rattle.pw_grammar.specs.ReadingStatements as r
 use Rattle.pw_grammar.specs.ReadingDeclarations as rd
+use Rattle.pw_grammar.proofs.Lengths.{declaration_length}
 use Rattle.pw_grammar.proofs.CompleteTokens.{spot, then_, counted, done, valued, step_skip, step_expect, step_name, sees_it, sees_other, either_this, either_other, behind, parted, fits, ReadsExpressions}
 use Rattle.pw_grammar.proofs.CompleteStatements.{no_other}
 use Rattle.pw_grammar.proofs.CompleteBlocks.{ReadsElements, reads_statements}
@@ -265,15 +266,6 @@ declaration_no_end (function g y x o ps c b body e) ts is = subst (λ v. first_s
     (sym (body_parts (spelled_storage g) (spelled_result y) x o (spelled_parameters ps) c b (spelled_statements body) e ts)) (front_no_end g y _ (defines g is.0) is.1)
 declaration_no_end (variable g y x v e) ts is = subst (λ u. first_sort u ≢ s.End)
     (sym (variable_parts (spelled_storage g) (spelled_type y) x (spelled_variable v) e ts)) (front_no_end g (dc.value y) _ (stored g v is.3) is.0)
-
-one_between : (u v : List Token) (x : Token) (w : List Token) → 0 < length (u ++ (v ++ x ∷ w))
-one_between u v x w = omega (arith, length-append u (v ++ x ∷ w), length-append v (x ∷ w))
-
-declaration_length : (c : Declaration) → 0 < length (spelled_declaration c)
-declaration_length (prototype g y x o ps c e) = one_between (spelled_storage g) (spelled_result y) x (o ∷ (spelled_parameters ps ++ c ∷ e ∷ []))
-declaration_length (function g y x o ps c b body e) =
-    one_between (spelled_storage g) (spelled_result y) x (o ∷ (spelled_parameters ps ++ c ∷ b ∷ (spelled_statements body ++ e ∷ [])))
-declaration_length (variable g y x v e) = one_between (spelled_storage g) (spelled_type y) x (spelled_variable v ++ e ∷ [])
 
 next_declaration : ℕ → ℕ → List Decl → Parser (List Decl)
 next_declaration n turns found = do

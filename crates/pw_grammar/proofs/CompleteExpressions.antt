@@ -4,10 +4,11 @@ use Rattle.std.proofs.lemmas.List.{length-append}
 use Rattle.pw_grammar.specs.declared.sort.Sort.TheVariants as s
 use Rattle.pw_grammar.specs.Terminals.{sort, first_sort}
 use Rattle.pw_grammar.specs.Expressions.{Phrase, identifier, constant, bracketed, input, output, call, index, prefixed, binary, choice, spelled, IsAt, IsOperator, tree_of}
-use Rattle.pw_grammar.specs.Steps.{Parser, skip, expect}
+use Rattle.pw_grammar.specs.Steps.{Parser}
 use Rattle.pw_grammar.specs.ReadingExpressions as read
 use Rattle.pw_grammar.proofs.Lawful.{near_or_far}
-use Rattle.pw_grammar.proofs.CompleteSteps.{then_reads, at_rest, finishes, skips, sees_it, sees_other, expects, Stops, stops_less, operator_stops, question_stops, EndsExpression, ends_with, ends_stops, ends_no_question}
+use Rattle.pw_grammar.proofs.CompleteTokens.{then_, step_skip, sees_it, sees_other, step_expect, parted, finishes}
+use Rattle.pw_grammar.proofs.CompleteEnds.{Stops, stops_less, operator_stops, question_stops, EndsExpression, ends_with, ends_stops, ends_no_question}
 use Rattle.pw_grammar.proofs.CompletePhrases.{operator_low, operator_high, regroup_between, count_between}
 use Rattle.pw_grammar.proofs.CompletePrimary.{IsRead, Knows}
 use Rattle.pw_grammar.proofs.CompleteLevels.{Chained, chained_reads, lifted, reads_up, low_reads, binary_chained}
@@ -98,7 +99,7 @@ plain_reads : (p : Parser Expr) (n : ℕ) → Knows p n → (c : Phrase) (at : �
     → length (spelled c) + length r < suc n → IsRead (read.choice p (suc n)) c at r
 unfolding read.choice
 plain_reads p n knows c at r is ends short =
-    then_reads (read.level p (suc n) 10) _ _ (tree_of at c) (record { at = at + length (spelled c); rest = r }) _
+    then_ _
     (level_reads p n knows c 10 at r (omega arith) is (ends_stops 12 (first_sort r) ends) short)
     (rw (sees_other s.Question (record { at = at + length (spelled c); rest = r }) (ends_no_question (first_sort r) ends)) refl)
 
@@ -118,11 +119,11 @@ branches_read : (p : Parser Expr) (n : ℕ) → Knows p n → (first : ℕ) (tes
 unfolding read.branches
 branches_read p n knows first test q a m b at last r is_a colon is_b ends total short =
     let behind : length (spelled b ++ r) ≡ length (spelled b) + length r = length-append (spelled b) r in
-    then_reads skip _ _ q.line _ _ (skips at q _)
-    (then_reads p _ _ (tree_of (suc at) a) (record { at = suc at + length (spelled a); rest = m ∷ (spelled b ++ r) }) _
+    then_ _ (step_skip at q _)
+    (then_ _
     (knows a (suc at) (m ∷ (spelled b ++ r)) is_a (ends_with (sort m) s.Colon colon refl) (omega (arith, behind)))
-    (then_reads (expect s.Colon) _ _ m.line _ _ (expects s.Colon _ m (spelled b ++ r) colon)
-    (then_reads p _ _ (tree_of (suc (suc at + length (spelled a))) b) (record { at = suc (suc at + length (spelled a)) + length (spelled b); rest = r }) _
+    (then_ _ (step_expect s.Colon _ m (spelled b ++ r) colon)
+    (then_ _
     (knows b (suc (suc at + length (spelled a))) r is_b ends (omega arith))
     (finishes first q.line _ _ _ last r refl (sym total)))))
 
@@ -148,9 +149,9 @@ choice_reads p n knows (choice c q a m b) at r is ends short =
     = count_between (spelled c) q (spelled a ++ m ∷ spelled b) in
     let behind : length (spelled a ++ m ∷ (spelled b ++ r)) ≡ suc (length (spelled a) + length (spelled b ++ r)) = count_between (spelled a) m (spelled b ++ r) in
     let after : length (spelled b ++ r) ≡ length (spelled b) + length r = length-append (spelled b) r in
-    at_rest (read.choice p (suc n)) at _ (spelled c ++ q ∷ (spelled a ++ m ∷ (spelled b ++ r))) _
+    parted (read.choice p (suc n)) at
     (regroup_between (spelled c) q (spelled a ++ m ∷ spelled b) r ∙ ap (λ w. spelled c ++ q ∷ w) (regroup_between (spelled a) m (spelled b) r))
-    (then_reads (read.level p (suc n) 10) _ _ (tree_of at c) (record { at = at + length (spelled c); rest = q ∷ (spelled a ++ m ∷ (spelled b ++ r)) }) _
+    (then_ _
     (level_reads p n knows c 10 at _ (omega arith) is.1 (question_stops 12 (sort q) is.2) (omega (arith, count, inner, behind, after)))
     (rw (sees_it s.Question (record { at = at + length (spelled c); rest = q ∷ (spelled a ++ m ∷ (spelled b ++ r)) }) is.2)
     (branches_read p n knows at (tree_of at c) q a m b (at + length (spelled c)) _ r is.3 is.4 is.5 ends

@@ -4,9 +4,10 @@ use Rattle.std.proofs.lemmas.List.{append_assoc, append-nil, length-append}
 use Rattle.pw_grammar.specs.declared.sort.Sort.TheVariants as s
 use Rattle.pw_grammar.specs.Terminals.{sort, first_sort, prefix_of, binary_of, level_of}
 use Rattle.pw_grammar.specs.Expressions.{Phrase, identifier, constant, bracketed, input, output, call, index, prefixed, binary, choice, spelled, IsAt, IsOperator, IsPrefix, tree_of, prefix_in, prefix_or, binary_in, binary_or}
-use Rattle.pw_grammar.specs.Steps.{Place, Parser, and_then, on_option, ◌>>=◌, pure, next_sort, skip, finish}
+use Rattle.pw_grammar.specs.Steps.{Place, Parser, and_then, on_option, ◌>>=◌, pure, next_sort, finish}
 use Rattle.pw_grammar.specs.ReadingExpressions as read
-use Rattle.pw_grammar.proofs.CompleteSteps.{then_reads, at_rest, same_end, skips, sees_other, Stops, stops_less}
+use Rattle.pw_grammar.proofs.CompleteTokens.{then_, done, valued, step_skip, sees_other, parted}
+use Rattle.pw_grammar.proofs.CompleteEnds.{Stops, stops_less}
 use Rattle.pw_grammar.proofs.CompletePhrases.{operator_low, no_prefix, regroup_between, count_between}
 use Rattle.pw_grammar.proofs.CompletePrimary.{IsRead, Knows, postfix_suffixed}
 use Rattle.pw_tree.specs.declared.operator.Un.{Un}
@@ -65,7 +66,7 @@ prefix_operator_reads : (t : Token) (at : ℕ) (ts : List Token) → IsPrefix (s
     → read.prefix_operator (record { at = at; rest = t ∷ ts }) ≡ Ok (Some (prefix_in t, t.line), record { at = suc at; rest = ts })
 unfolding read.prefix_operator
 prefix_operator_reads t at ts o =
-    ap (λ x. read.prefix_by x (record { at = at; rest = t ∷ ts })) (prefix_is t o) ∙ then_reads skip _ _ t.line _ _ (skips at t ts) refl
+    ap (λ x. read.prefix_by x (record { at = at; rest = t ∷ ts })) (prefix_is t o) ∙ then_ _ (step_skip at t ts) refl
 
 operators_read : (c : Phrase) (turns : ℕ) (found : List (Un × ℕ)) (at : ℕ) (r : List Token) → IsAt 2 c → length (operators_of c) ≤ turns
     → read.operators turns found (record { at = at; rest = spelled c ++ r })
@@ -73,12 +74,12 @@ operators_read : (c : Phrase) (turns : ℕ) (found : List (Un × ℕ)) (at : ℕ
 unfolding read.operators IsAt spelled
 operators_read (prefixed t a) zero found at r is enough = absurd (omega arith)
 operators_read (prefixed t a) (suc turns) found at r is enough =
-    then_reads read.prefix_operator _ _ (Some (prefix_in t, t.line)) _ _ (prefix_operator_reads t at (spelled a ++ r) is.1)
+    then_ _ (prefix_operator_reads t at (spelled a ++ r) is.1)
     (operators_read a turns (found ++ (prefix_in t, t.line) ∷ []) (suc at) r is.2 (omega arith)
-    ∙ same_end _ _ _ _ _ (append_assoc found ((prefix_in t, t.line) ∷ []) (operators_of a)) (omega arith))
+    ∙ valued _ (done _ _ _ (omega arith)) (append_assoc found ((prefix_in t, t.line) ∷ []) (operators_of a)))
 operators_read c turns found at r is enough =
     no_operators turns found (record { at = at; rest = spelled c ++ r }) (no_prefix c r (operand_at c is))
-    ∙ same_end _ _ _ _ _ (sym (append-nil found)) (omega arith)
+    ∙ valued _ (done _ _ _ (omega arith)) (sym (append-nil found))
 
 suffixes_end : (p : Parser Expr) (n turns first : ℕ) (left : Expr) (i : Place) → Stops 1 (next_sort i)
     → read.suffixes p n turns first left i ≡ Ok (left, i)
@@ -94,11 +95,11 @@ prefix_reads p n knows c at r is stops short =
     let count : length (spelled c) ≡ length (operators_of c) + length (spelled (operand_of c)) = operand_counts c in
     let there : ℕ = at + length (operators_of c) in
     let back = postfix_suffixed p n knows (operand_of c) there r (operand_at c is) (omega (arith, count)) in
-    then_reads (read.operators (suc n) []) _ _ (operators_of c) (record { at = there; rest = spelled (operand_of c) ++ r }) _
+    then_ _
     (operators_read c (suc n) [] at r is (omega (arith, count)))
-    (then_reads (read.postfix p (suc n)) _ _ (tree_of there (operand_of c)) (record { at = there + length (spelled (operand_of c)); rest = r }) _
+    (then_ _
     (back.comes ∙ suffixes_end p (suc n) back.turns there _ (record { at = there + length (spelled (operand_of c)); rest = r }) stops)
-    (same_end _ _ _ _ r (wrapped_is c at _ (omega (arith, count))) (omega (arith, count))))
+    (valued _ (done _ _ r (omega (arith, count))) (wrapped_is c at _ (omega (arith, count)))))
 
 -- ---- binary operators
 
@@ -109,7 +110,7 @@ binary_operator_reads : (n : ℕ) (t : Token) (at : ℕ) (ts : List Token) → I
     → read.binary_operator n (record { at = at; rest = t ∷ ts }) ≡ Ok (Some (binary_in t, t.line), record { at = suc at; rest = ts })
 unfolding read.binary_operator
 binary_operator_reads n t at ts o =
-    ap (λ x. read.binary_by x (record { at = at; rest = t ∷ ts })) (binary_is n t o) ∙ then_reads skip _ _ t.line _ _ (skips at t ts) refl
+    ap (λ x. read.binary_by x (record { at = at; rest = t ∷ ts })) (binary_is n t o) ∙ then_ _ (step_skip at t ts) refl
 
 none_at_level : (n : ℕ) (o : Option Bin) → ((op : Bin) → o ≡ Some op → n < level_of op) → read.at_level n o ≡ None
 none_at_level n None h = refl
@@ -142,7 +143,7 @@ unfolding read.level
 lifted p n k c at r h short = record {
   turns = n;
   enough = short;
-  comes = then_reads (read.level p n k) _ _ (tree_of at c) _ _ h refl;
+  comes = then_ _ h refl;
 }
 
 -- a phrase of a level is read at each looser one
@@ -174,10 +175,10 @@ binary_chained p n k a t b at r is second (suc turns) enough comes =
     record {
       turns = turns;
       enough = omega (arith, behind);
-      comes = at_rest (read.level p n (suc k)) at _ (spelled a ++ t ∷ (spelled b ++ r)) _ (regroup_between (spelled a) t (spelled b) r)
-          (comes ∙ then_reads (read.binary_operator (suc k + 2)) _ _ (Some (binary_in t, t.line)) _ _
+      comes = parted (read.level p n (suc k)) at (regroup_between (spelled a) t (spelled b) r)
+          (comes ∙ then_ _
           (binary_operator_reads (suc k + 2) t (at + length (spelled a)) (spelled b ++ r) is)
-          (then_reads (read.level p n k) _ _ (tree_of (suc (at + length (spelled a))) b) _ _ second
+          (then_ _ second
           (ap (λ m. read.chain (suc k + 2) (read.level p n k) turns at
           (roll-Expr (record { first = at; last = m - 1; line = t.line; kind = e.Binary (binary_in t) (tree_of at a) (tree_of (suc (at + length (spelled a))) b) }))
           (record { at = m; rest = r })) (omega (arith, count)))));

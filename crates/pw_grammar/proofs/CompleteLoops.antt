@@ -6,10 +6,11 @@ use Rattle.pw_grammar.specs.declared.sort.Sort.TheVariants as s
 use Rattle.pw_grammar.specs.Terminals.{sort, first_sort}
 use Rattle.pw_grammar.specs.Expressions.{Phrase, spelled}
 use Rattle.pw_grammar.specs.Statements as st
-use Rattle.pw_grammar.specs.Statements.{Simple, spelled_simple, IsSimple, kind_of_simple, Start, no_start, local_start, simple_start, spelled_start, IsStart, tree_of_start, spelled_maybe, IsMaybe, tree_of_maybe, spelled_step, IsStep, tree_of_step, first_line, statement_node, jump_of, spelled_local, kind_of_local}
+use Rattle.pw_grammar.specs.Statements.{Simple, spelled_simple, IsSimple, Start, no_start, local_start, simple_start, spelled_start, IsStart, tree_of_start, spelled_maybe, IsMaybe, tree_of_maybe, spelled_step, IsStep, tree_of_step, spelled_local}
 use Rattle.pw_grammar.specs.Steps.{Place, Parser, pure, next_sort}
 use Rattle.pw_grammar.specs.ReadingStatements as r
-use Rattle.pw_grammar.proofs.CompleteTokens.{spot, then_, done, step_skip, step_expect, sees_it, sees_other, either_this, either_other, parted, told_apart, fits, ends_part, ReadsExpressions}
+use Rattle.pw_grammar.proofs.CompleteEnds.{ends_expression}
+use Rattle.pw_grammar.proofs.CompleteTokens.{spot, then_, done, step_skip, step_expect, sees_it, sees_other, either_this, either_other, parted, told_apart, fits, ReadsExpressions}
 use Rattle.pw_grammar.proofs.CompleteTypes.{reads_local, local_begins, no_type_is}
 use Rattle.pw_grammar.proofs.CompleteStarts.{starts_expression, phrase_starts, simple_starts, statement_too, begins_no_type}
 use Rattle.pw_grammar.proofs.CompleteSimple.{reads_simple, reads_simple_statement}
@@ -29,7 +30,7 @@ unfolding r.maybe_before r.some
 reads_maybe n expr reads None at ts is ends short = either_this s.Semicolon (pure None) (r.some expr) (spot at ts) ends ∙ done None _ ts (omega arith)
 reads_maybe n expr reads (Some a) at ts is ends short =
     either_other s.Semicolon (pure None) (r.some expr) (spot at (spelled a ++ ts)) (told_apart starts_expression (phrase_starts 13 a ts is) refl)
-    ∙ then_ _ (reads.reads a at ts is (ap ends_part ends) short) refl
+    ∙ then_ _ (reads.reads a at ts is (ap ends_expression ends) short) refl
 
 not_assign : (x : Sort) → x ≡ s.RightParen → x ≢ s.Assign
 not_assign x e = no_other e (λ p. cc)
@@ -43,7 +44,7 @@ reads_step n expr reads None at ts is ends short =
 reads_step n expr reads (Some a) at ts is ends short =
     either_other s.RightParen (pure None) (r.some (r.simple_statement expr)) (spot at (spelled_simple a ++ ts))
     (told_apart starts_expression (simple_starts a ts is) refl)
-    ∙ then_ _ (reads_simple_statement n expr reads a at ts is (ap ends_part ends) (not_assign (first_sort ts) ends) short) refl
+    ∙ then_ _ (reads_simple_statement n expr reads a at ts is (ap ends_expression ends) (not_assign (first_sort ts) ends) short) refl
 
 -- ---- the first part of a `for`
 
@@ -72,7 +73,7 @@ reads_start n expr reads (simple_start a e) at ts (is, is_e) short =
     parted (r.start expr) at parts
     (starts_with expr (spot at (spelled_simple a ++ e ∷ ts)) false (told_apart starts_expression (simple_starts a (e ∷ ts) is) refl)
     (begins_no_type _ (statement_too _ (simple_starts a (e ∷ ts) is)))
-    ∙ then_ _ (reads_simple_statement n expr reads a at (e ∷ ts) is (ap ends_part is_e) (no_other is_e (λ p. cc)) (fits _ _ n parts short))
+    ∙ then_ _ (reads_simple_statement n expr reads a at (e ∷ ts) is (ap ends_expression is_e) (no_other is_e (λ p. cc)) (fits _ _ n parts short))
     (then_ _ (step_expect s.Semicolon (at + length (spelled_simple a)) e ts is_e) (done _ _ ts (omega (arith, length-append (spelled_simple a) (e ∷ []))))))
 
 -- ---- `for`
@@ -149,5 +150,5 @@ unfolding r.evaluated st.spelled_statement st.kind_of
 reads_evaluated n expr reads at a e ts is_a is_e short =
     let parts : (spelled_simple a ++ e ∷ []) ++ ts ≡ spelled_simple a ++ e ∷ ts = append_assoc (spelled_simple a) (e ∷ []) ts in
     parted (r.evaluated expr) at parts
-    (then_ _ (reads_simple n expr reads a at (e ∷ ts) is_a (ap ends_part is_e) (no_other is_e (λ p. cc)) (fits _ _ n parts short))
+    (then_ _ (reads_simple n expr reads a at (e ∷ ts) is_a (ap ends_expression is_e) (no_other is_e (λ p. cc)) (fits _ _ n parts short))
     (then_ _ (step_expect s.Semicolon (at + length (spelled_simple a)) e ts is_e) (done _ _ ts (omega (arith, length-append (spelled_simple a) (e ∷ []))))))

@@ -12,20 +12,6 @@ use Rattle.pw_tree.specs.declared.operator.Bin.TheVariants as bin
 
 -- ---- levels
 
--- what may stand at a level may stand at each looser one
-pub goes_up : (m n : ℕ) (c : Phrase) → m ≤ n → IsAt m c → IsAt n c
-unfolding IsAt
-goes_up m n (identifier t) h is = is
-goes_up m n (constant t) h is = is
-goes_up m n (bracketed o a c) h is = is
-goes_up m n (input k o c) h is = is
-goes_up m n (output k o a c) h is = is
-goes_up m n (call f o xs c) h is = let k : 1 ≤ m = is.0 in (omega arith, is.1, is.2, is.3, is.4)
-goes_up m n (index a o i c) h is = let k : 1 ≤ m = is.0 in (omega arith, is.1, is.2, is.3, is.4)
-goes_up m n (prefixed t a) h is = let k : 2 ≤ m = is.0 in (omega arith, is.1, is.2)
-goes_up m n (binary a t b) h is = let k : suc is.0 ≤ m = is.1 in (is.0, omega arith, is.2, is.3, is.4)
-goes_up m n (choice c q a e b) h is = let k : 13 ≤ m = is.0 in (omega arith, is.1, is.2, is.3, is.4, is.5)
-
 pub level_low : (op : Bin) → 3 ≤ level_of op
 level_low bin.Mul = omega arith
 level_low _ = omega arith

@@ -5,9 +5,10 @@ use Rattle.pw_grammar.specs.declared.sort.Sort.{Sort}
 use Rattle.pw_grammar.specs.declared.sort.Sort.TheVariants as s
 use Rattle.pw_grammar.specs.Terminals.{sort, first_sort}
 use Rattle.pw_grammar.specs.Expressions.{Phrase, identifier, constant, bracketed, input, output, call, index, prefixed, binary, choice, Arguments, nothing, arguments, More, end, more, spelled, spelled_arguments, spelled_more, IsAt, AreArguments, AreMore, tree_of, trees_of, trees_of_more}
-use Rattle.pw_grammar.specs.Steps.{Place, Outcome, Parser, next_sort, take, skip, expect}
+use Rattle.pw_grammar.specs.Steps.{Place, Outcome, Parser, next_sort}
 use Rattle.pw_grammar.specs.ReadingExpressions as read
-use Rattle.pw_grammar.proofs.CompleteSteps.{then_reads, at_rest, same_end, finishes, takes, skips, sees_it, sees_other, expects, EndsExpression, ends_with}
+use Rattle.pw_grammar.proofs.CompleteTokens.{then_, done, valued, step_skip, step_take, sees_it, sees_other, step_expect, parted, finishes}
+use Rattle.pw_grammar.proofs.CompleteEnds.{EndsExpression, ends_with}
 use Rattle.pw_grammar.proofs.CompletePhrases.{operator_low, begins, begins_other, regroup_last, regroup_enclosed, count_last, count_enclosed}
 use Rattle.pw_tree.specs.declared.expr.Expr.{Expr, roll-Expr}
 use Rattle.pw_tree.specs.declared.expr.ExprKind.TheVariants as e
@@ -27,12 +28,12 @@ Knows p n = (c : Phrase) (at : ℕ) (r : List Token) → IsAt 13 c → EndsExpre
 identifier_reads : (t : Token) (at : ℕ) (r : List Token)
     → read.identifier (record { at = at; rest = t ∷ r }) ≡ Ok (tree_of at (identifier t), record { at = at + 1; rest = r })
 unfolding read.identifier tree_of
-identifier_reads t at r = then_reads take _ _ t _ _ (takes at t r) (finishes at t.line _ _ (suc at) (at + 1) r refl (omega arith))
+identifier_reads t at r = then_ _ (step_take at t r) (finishes at t.line _ _ (suc at) (at + 1) r refl (omega arith))
 
 constant_reads : (t : Token) (at : ℕ) (r : List Token)
     → read.constant (record { at = at; rest = t ∷ r }) ≡ Ok (tree_of at (constant t), record { at = at + 1; rest = r })
 unfolding read.constant tree_of
-constant_reads t at r = then_reads take _ _ t _ _ (takes at t r) (finishes at t.line _ _ (suc at) (at + 1) r refl (omega arith))
+constant_reads t at r = then_ _ (step_take at t r) (finishes at t.line _ _ (suc at) (at + 1) r refl (omega arith))
 
 bracketed_reads : (p : Parser Expr) (n : ℕ) → Knows p n → (o : Token) (a : Phrase) (c : Token) (at : ℕ) (r : List Token)
     → IsAt 13 a → sort c ≡ s.RightParen → suc (length (spelled a ++ c ∷ [])) + length r < suc n
@@ -40,20 +41,20 @@ bracketed_reads : (p : Parser Expr) (n : ℕ) → Knows p n → (o : Token) (a :
 unfolding read.bracketed spelled tree_of
 bracketed_reads p n knows o a c at r is closes short =
     let count : length (spelled a ++ c ∷ []) ≡ suc (length (spelled a)) = count_last (spelled a) c in
-    then_reads skip _ _ o.line _ _ (skips at o _)
-    (then_reads p _ _ (tree_of (suc at) a) (record { at = suc at + length (spelled a); rest = c ∷ r }) _
-    (at_rest p (suc at) _ (spelled a ++ c ∷ r) _ (regroup_last (spelled a) c r)
+    then_ _ (step_skip at o _)
+    (then_ _
+    (parted p (suc at) (regroup_last (spelled a) c r)
     (knows a (suc at) (c ∷ r) is (ends_with (sort c) s.RightParen closes refl) (omega (arith, count))))
-    (then_reads (expect s.RightParen) _ _ c.line _ _ (expects s.RightParen _ c r closes)
-    (same_end _ _ _ _ r refl (omega (arith, count)))))
+    (then_ _ (step_expect s.RightParen _ c r closes)
+    (done _ _ r (omega (arith, count)))))
 
 input_reads : (k o c : Token) (at : ℕ) (r : List Token) → sort o ≡ s.LeftParen → sort c ≡ s.RightParen
     → IsRead read.input (input k o c) at r
 unfolding read.input spelled tree_of
 input_reads k o c at r opens closes =
-    then_reads skip _ _ k.line _ _ (skips at k _)
-    (then_reads (expect s.LeftParen) _ _ o.line _ _ (expects s.LeftParen _ o _ opens)
-    (then_reads (expect s.RightParen) _ _ c.line _ _ (expects s.RightParen _ c r closes)
+    then_ _ (step_skip at k _)
+    (then_ _ (step_expect s.LeftParen _ o _ opens)
+    (then_ _ (step_expect s.RightParen _ c r closes)
     (finishes at k.line _ _ _ (at + 3) r refl (omega arith))))
 
 output_reads : (p : Parser Expr) (n : ℕ) → Knows p n → (k o : Token) (a : Phrase) (c : Token) (at : ℕ) (r : List Token)
@@ -62,12 +63,12 @@ output_reads : (p : Parser Expr) (n : ℕ) → Knows p n → (k o : Token) (a : 
 unfolding read.output spelled tree_of
 output_reads p n knows k o a c at r opens is closes short =
     let count : length (spelled a ++ c ∷ []) ≡ suc (length (spelled a)) = count_last (spelled a) c in
-    then_reads skip _ _ k.line _ _ (skips at k _)
-    (then_reads (expect s.LeftParen) _ _ o.line _ _ (expects s.LeftParen _ o _ opens)
-    (then_reads p _ _ (tree_of (suc (suc at)) a) (record { at = suc (suc at) + length (spelled a); rest = c ∷ r }) _
-    (at_rest p (suc (suc at)) _ (spelled a ++ c ∷ r) _ (regroup_last (spelled a) c r)
+    then_ _ (step_skip at k _)
+    (then_ _ (step_expect s.LeftParen _ o _ opens)
+    (then_ _
+    (parted p (suc (suc at)) (regroup_last (spelled a) c r)
     (knows a (suc (suc at)) (c ∷ r) is (ends_with (sort c) s.RightParen closes refl) (omega (arith, count))))
-    (then_reads (expect s.RightParen) _ _ c.line _ _ (expects s.RightParen _ c r closes)
+    (then_ _ (step_expect s.RightParen _ c r closes)
     (finishes at k.line _ _ _ _ r refl (omega (arith, count))))))
 
 -- the reader of primary expressions at a next token of this sort
@@ -106,17 +107,17 @@ unfolding read.more_arguments AreMore spelled_more trees_of_more
 more_reads p n knows xs zero found at r are closes short enough = absurd (omega arith)
 more_reads p n knows end (suc turns) found at r are closes short enough =
     rw (sees_other s.Comma (record { at = at; rest = r }) (λ h. let f : s.RightParen ≡ s.Comma = sym closes ∙ h in cc))
-    (same_end _ _ _ _ r (sym (append-nil found)) (omega arith))
+    (valued _ (done _ _ r (omega arith)) (sym (append-nil found)))
 more_reads p n knows (more t a xs) (suc turns) found at r are closes short enough =
     let count : length (spelled a ++ spelled_more xs) ≡ length (spelled a) + length (spelled_more xs) = length-append (spelled a) (spelled_more xs) in
     let behind : length (spelled_more xs ++ r) ≡ length (spelled_more xs) + length r = length-append (spelled_more xs) r in
     rw (sees_it s.Comma (record { at = at; rest = t ∷ ((spelled a ++ spelled_more xs) ++ r) }) are.0)
-    (then_reads skip _ _ t.line _ _ (skips at t _)
-    (then_reads p _ _ (tree_of (suc at) a) (record { at = suc at + length (spelled a); rest = spelled_more xs ++ r }) _
-    (at_rest p (suc at) _ (spelled a ++ (spelled_more xs ++ r)) _ (append_assoc (spelled a) (spelled_more xs) r)
+    (then_ _ (step_skip at t _)
+    (then_ _
+    (parted p (suc at) (append_assoc (spelled a) (spelled_more xs) r)
     (knows a (suc at) (spelled_more xs ++ r) are.1 (more_ends xs r are.2 closes) (omega (arith, count, behind))))
     (more_reads p n knows xs turns (found ++ tree_of (suc at) a ∷ []) (suc at + length (spelled a)) r are.2 closes (omega (arith, count)) (omega (arith, count))
-    ∙ same_end _ _ _ _ r (append_assoc found (tree_of (suc at) a ∷ []) (trees_of_more (suc at + length (spelled a)) xs)) (omega (arith, count)))))
+    ∙ valued _ (done _ _ r (omega (arith, count))) (append_assoc found (tree_of (suc at) a ∷ []) (trees_of_more (suc at + length (spelled a)) xs)))))
 
 arguments_read : (p : Parser Expr) (n turns : ℕ) → Knows p n → (xs : Arguments) (at : ℕ) (r : List Token)
     → AreArguments xs → first_sort r ≡ s.RightParen → length (spelled_arguments xs) + length r < n → length (spelled_arguments xs) + length r < turns
@@ -125,17 +126,17 @@ arguments_read : (p : Parser Expr) (n turns : ℕ) → Knows p n → (xs : Argum
 unfolding read.arguments read.some_arguments AreArguments spelled_arguments trees_of
 arguments_read p n turns knows nothing at r are closes short enough =
     rw (sees_it s.RightParen (record { at = at; rest = r }) closes)
-    (same_end [] [] at (at + 0) r refl (omega arith))
+    (done [] (at + 0) r (omega arith))
 arguments_read p n turns knows (arguments a xs) at r are closes short enough =
     let count : length (spelled a ++ spelled_more xs) ≡ length (spelled a) + length (spelled_more xs) = length-append (spelled a) (spelled_more xs) in
     let behind : length (spelled_more xs ++ r) ≡ length (spelled_more xs) + length r = length-append (spelled_more xs) r in
-    at_rest (read.arguments p turns) at _ (spelled a ++ (spelled_more xs ++ r)) _ (append_assoc (spelled a) (spelled_more xs) r)
+    parted (read.arguments p turns) at (append_assoc (spelled a) (spelled_more xs) r)
     (rw (sees_other s.RightParen (record { at = at; rest = spelled a ++ (spelled_more xs ++ r) })
     (begins_other _ s.RightParen (begins 13 a (spelled_more xs ++ r) are.0) refl))
-    (then_reads p _ _ (tree_of at a) (record { at = at + length (spelled a); rest = spelled_more xs ++ r }) _
+    (then_ _
     (knows a at (spelled_more xs ++ r) are.0 (more_ends xs r are.1 closes) (omega (arith, count, behind)))
     (more_reads p n knows xs turns (tree_of at a ∷ []) (at + length (spelled a)) r are.1 closes (omega (arith, count)) (omega (arith, count))
-    ∙ same_end _ _ _ _ r refl (omega (arith, count)))))
+    ∙ done _ _ r (omega (arith, count)))))
 
 -- ---- calls and indices
 
@@ -146,10 +147,10 @@ call_reads : (p : Parser Expr) (n turns : ℕ) → Knows p n → (first : ℕ) (
     ≡ Ok (roll-Expr (record { first = first; last = last - 1; line = o.line; kind = e.Call left (trees_of (suc at) xs) }), record { at = last; rest = r })
 unfolding read.call
 call_reads p n turns knows first left o xs c at last r are closes ends short enough =
-    then_reads skip _ _ o.line _ _ (skips at o _)
-    (then_reads (read.arguments p turns) _ _ (trees_of (suc at) xs) (record { at = suc at + length (spelled_arguments xs); rest = c ∷ r }) _
+    then_ _ (step_skip at o _)
+    (then_ _
     (arguments_read p n turns knows xs (suc at) (c ∷ r) are closes (omega arith) (omega arith))
-    (then_reads (expect s.RightParen) _ _ c.line _ _ (expects s.RightParen _ c r closes)
+    (then_ _ (step_expect s.RightParen _ c r closes)
     (finishes first o.line _ _ _ last r refl (sym ends))))
 
 index_reads : (p : Parser Expr) (n : ℕ) → Knows p n → (first : ℕ) (left : Expr) (o : Token) (i : Phrase) (c : Token) (at last : ℕ) (r : List Token)
@@ -158,10 +159,10 @@ index_reads : (p : Parser Expr) (n : ℕ) → Knows p n → (first : ℕ) (left 
     ≡ Ok (roll-Expr (record { first = first; last = last - 1; line = o.line; kind = e.Index left (tree_of (suc at) i) }), record { at = last; rest = r })
 unfolding read.index
 index_reads p n knows first left o i c at last r is closes ends short =
-    then_reads skip _ _ o.line _ _ (skips at o _)
-    (then_reads p _ _ (tree_of (suc at) i) (record { at = suc at + length (spelled i); rest = c ∷ r }) _
+    then_ _ (step_skip at o _)
+    (then_ _
     (knows i (suc at) (c ∷ r) is (ends_with (sort c) s.RightBracket closes refl) (omega arith))
-    (then_reads (expect s.RightBracket) _ _ c.line _ _ (expects s.RightBracket _ c r closes)
+    (then_ _ (step_expect s.RightBracket _ c r closes)
     (finishes first o.line _ _ _ last r refl (sym ends))))
 
 -- ---- the loop of suffixes
@@ -179,7 +180,7 @@ unfolding read.postfix
 primary_suffixed p n knows c at r is short = record {
   turns = suc n;
   enough = omega arith;
-  comes = then_reads (read.primary p) _ _ (tree_of at c) _ _ (primary_reads p n knows c at r is short) refl;
+  comes = then_ _ (primary_reads p n knows c at r is short) refl;
 }
 
 call_suffixed : (p : Parser Expr) (n : ℕ) → Knows p n → (f : Phrase) (o : Token) (xs : Arguments) (c : Token) (at : ℕ) (r : List Token)
@@ -196,9 +197,9 @@ call_suffixed p n knows f o xs c at r opens are closes short (suc turns) enough 
     record {
       turns = turns;
       enough = omega (arith, behind);
-      comes = at_rest (read.postfix p (suc n)) at _ (spelled f ++ o ∷ (spelled_arguments xs ++ c ∷ r)) _ (regroup_enclosed (spelled f) o (spelled_arguments xs) c r)
+      comes = parted (read.postfix p (suc n)) at (regroup_enclosed (spelled f) o (spelled_arguments xs) c r)
           (comes ∙ rw (sees_it s.LeftParen (record { at = at + length (spelled f); rest = o ∷ (spelled_arguments xs ++ c ∷ r) }) opens)
-          (then_reads (read.call p (suc n) at (tree_of at f)) _ _ _ _ _
+          (then_ _
           (call_reads p n (suc n) knows at (tree_of at f) o xs c (at + length (spelled f)) (at + length (spelled f ++ o ∷ (spelled_arguments xs ++ c ∷ []))) r are closes
           (omega (arith, count)) (omega (arith, count)) (omega (arith, count))) refl));
     }
@@ -217,10 +218,10 @@ index_suffixed p n knows a o i c at r opens is closes short (suc turns) enough c
     record {
       turns = turns;
       enough = omega (arith, behind);
-      comes = at_rest (read.postfix p (suc n)) at _ (spelled a ++ o ∷ (spelled i ++ c ∷ r)) _ (regroup_enclosed (spelled a) o (spelled i) c r)
+      comes = parted (read.postfix p (suc n)) at (regroup_enclosed (spelled a) o (spelled i) c r)
           (comes ∙ rw (sees_other s.LeftParen (record { at = at + length (spelled a); rest = o ∷ (spelled i ++ c ∷ r) }) (λ h. let f : s.LeftBracket ≡ s.LeftParen = sym opens ∙ h in cc))
           (rw (sees_it s.LeftBracket (record { at = at + length (spelled a); rest = o ∷ (spelled i ++ c ∷ r) }) opens)
-          (then_reads (read.index p at (tree_of at a)) _ _ _ _ _
+          (then_ _
           (index_reads p n knows at (tree_of at a) o i c (at + length (spelled a)) (at + length (spelled a ++ o ∷ (spelled i ++ c ∷ []))) r is closes
           (omega (arith, count)) (omega (arith, count))) refl)));
     }

@@ -7,8 +7,9 @@ use Rattle.pw_grammar.specs.Expressions.{Phrase, identifier, index, spelled, IsA
 use Rattle.pw_grammar.specs.Statements.{Simple, assign, assign_element, evaluate, spelled_simple, IsSimple, kind_of_simple, statement_node}
 use Rattle.pw_grammar.specs.Steps.{Parser, pure, either}
 use Rattle.pw_grammar.specs.ReadingStatements as r
-use Rattle.pw_grammar.proofs.CompleteTokens.{spot, then_, counted, step_skip, either_this, either_other, parted, line_of_front, fits, node_is, ends_part, ReadsExpressions}
-use Rattle.pw_grammar.proofs.CompleteStarts.{simple_length}
+use Rattle.pw_grammar.proofs.CompleteEnds.{EndsExpression, ends_expression}
+use Rattle.pw_grammar.proofs.CompleteTokens.{spot, then_, counted, step_skip, either_this, either_other, parted, line_of_front, fits, node_is, ReadsExpressions}
+use Rattle.pw_grammar.proofs.Lengths.{simple_length}
 use Rattle.pw_tree.specs.declared.expr.Expr.{Expr, roll-Expr}
 use Rattle.pw_tree.specs.declared.expr.Expr.{out-roll-Expr}
 use Rattle.pw_tree.specs.declared.expr.ExprKind.{out-roll-ExprKind}
@@ -64,7 +65,7 @@ target_element at x o i c = subst (λ n. r.target at (tree_of at (index (identif
 
 -- ---- what is read
 
-reads_word : (n : ℕ) (expr : Parser Expr) → ReadsExpressions n expr → (at : ℕ) (x : Token) (ts : List Token) → sort x ≡ s.Name → ends_part (first_sort ts) ≡ true
+reads_word : (n : ℕ) (expr : Parser Expr) → ReadsExpressions n expr → (at : ℕ) (x : Token) (ts : List Token) → sort x ≡ s.Name → EndsExpression (first_sort ts)
     → length (x ∷ ts) < n → expr (spot at (x ∷ ts)) ≡ Ok (tree_of at (identifier x), spot (suc at) ts)
 unfolding spelled IsAt
 reads_word n expr reads at x ts is_x ends short = counted (suc at) (reads.reads (identifier x) at ts is_x ends short) (omega arith)
@@ -73,7 +74,7 @@ element_parts : (x o : Token) (v : List Token) (c : Token) (ts : List Token) →
 element_parts x o v c ts = ap (λ w. x ∷ o ∷ w) (append_assoc v (c ∷ []) ts)
 
 reads_element : (n : ℕ) (expr : Parser Expr) → ReadsExpressions n expr → (at : ℕ) (x o : Token) (i : Phrase) (c : Token) (ts : List Token)
-    → sort x ≡ s.Name → sort o ≡ s.LeftBracket → IsAt 13 i → sort c ≡ s.RightBracket → ends_part (first_sort ts) ≡ true
+    → sort x ≡ s.Name → sort o ≡ s.LeftBracket → IsAt 13 i → sort c ≡ s.RightBracket → EndsExpression (first_sort ts)
     → length (x ∷ o ∷ (spelled i ++ c ∷ ts)) < n
     → expr (spot at (x ∷ o ∷ (spelled i ++ c ∷ ts))) ≡ Ok (tree_of at (index (identifier x) o i c), spot (suc (suc (suc at) + length (spelled i))) ts)
 unfolding spelled IsAt
@@ -89,7 +90,7 @@ assigned_parts x o v c q w ts = ap (λ u. x ∷ o ∷ u) (append_assoc v (c ∷ 
 -- behind what is assigned to, `= e`
 reads_assigned : (n : ℕ) (expr : Parser Expr) → ReadsExpressions n expr
     → (to : Option (List ℕ × Option Expr)) (x : List ℕ) (i : Option Expr) (at : ℕ) (q : Token) (a : Phrase)
-    (other : Parser StmtKind) (ts : List Token) → to ≡ Some (x, i) → sort q ≡ s.Assign → IsAt 13 a → ends_part (first_sort ts) ≡ true → length (spelled a ++ ts) < n
+    (other : Parser StmtKind) (ts : List Token) → to ≡ Some (x, i) → sort q ≡ s.Assign → IsAt 13 a → EndsExpression (first_sort ts) → length (spelled a ++ ts) < n
     → either s.Assign (r.assigned expr to) other (spot at (q ∷ (spelled a ++ ts))) ≡ Ok (k.Set x i (tree_of (suc at) a), spot (suc at + length (spelled a)) ts)
 reads_assigned n expr reads to x i at q a other ts is is_q is_a ends short =
     either_this s.Assign (r.assigned expr to) other (spot at (q ∷ (spelled a ++ ts))) is_q
@@ -97,17 +98,17 @@ reads_assigned n expr reads to x i at q a other ts is is_q is_a ends short =
     ∙ then_ _ (step_skip at q (spelled a ++ ts)) (then_ _ (reads.reads a (suc at) ts is_a ends short) refl))
 
 pub reads_simple : (n : ℕ) (expr : Parser Expr) → ReadsExpressions n expr → (c : Simple) (at : ℕ) (ts : List Token) → IsSimple c
-    → ends_part (first_sort ts) ≡ true → first_sort ts ≢ s.Assign → length (spelled_simple c ++ ts) < n
+    → EndsExpression (first_sort ts) → first_sort ts ≢ s.Assign → length (spelled_simple c ++ ts) < n
     → r.simple expr (spot at (spelled_simple c ++ ts)) ≡ Ok (kind_of_simple at c, spot (at + length (spelled_simple c)) ts)
 unfolding r.simple
 reads_simple n expr reads (assign x q a) at ts (is_x, is_q, is_a) ends other short =
-    then_ _ (reads_word n expr reads at x (q ∷ (spelled a ++ ts)) is_x (ap ends_part is_q) short)
+    then_ _ (reads_word n expr reads at x (q ∷ (spelled a ++ ts)) is_x (ap ends_expression is_q) short)
     (counted _ (reads_assigned n expr reads _ (name_in x.kind) None (suc at) q a (pure (k.Eval (tree_of at (identifier x)))) ts (target_word at x) is_q is_a ends
     (omega arith)) (omega arith))
 reads_simple n expr reads (assign_element x o i c q a) at ts (is_x, is_o, is_i, is_c, is_q, is_a) ends other short =
     let inner : length (x ∷ o ∷ (spelled i ++ c ∷ q ∷ (spelled a ++ ts))) < n = fits _ _ n (assigned_parts x o (spelled i) c q (spelled a) ts) short in
     parted (r.simple expr) at (assigned_parts x o (spelled i) c q (spelled a) ts)
-    (then_ _ (reads_element n expr reads at x o i c (q ∷ (spelled a ++ ts)) is_x is_o is_i is_c (ap ends_part is_q) inner)
+    (then_ _ (reads_element n expr reads at x o i c (q ∷ (spelled a ++ ts)) is_x is_o is_i is_c (ap ends_expression is_q) inner)
     (counted _ (reads_assigned n expr reads _ (name_in x.kind) (Some (tree_of (suc (suc at)) i)) (suc (suc (suc at) + length (spelled i))) q a
     (pure (k.Eval (tree_of at (index (identifier x) o i c)))) ts
     (target_element at x o i c) is_q is_a ends (omega (arith, length-append (spelled i) (c ∷ q ∷ (spelled a ++ ts)))))
@@ -117,10 +118,10 @@ reads_simple n expr reads (evaluate a) at ts is ends other short =
     (either_other s.Assign (r.assigned expr (r.target at (tree_of at a))) (pure (k.Eval (tree_of at a))) (spot (at + length (spelled a)) ts) other)
 
 pub reads_simple_statement : (n : ℕ) (expr : Parser Expr) → ReadsExpressions n expr → (c : Simple) (at : ℕ) (ts : List Token) → IsSimple c
-    → ends_part (first_sort ts) ≡ true → first_sort ts ≢ s.Assign → length (spelled_simple c ++ ts) < n
+    → EndsExpression (first_sort ts) → first_sort ts ≢ s.Assign → length (spelled_simple c ++ ts) < n
     → r.simple_statement expr (spot at (spelled_simple c ++ ts))
     ≡ Ok (statement_node at (spelled_simple c) (kind_of_simple at c), spot (at + length (spelled_simple c)) ts)
 unfolding r.simple_statement
 reads_simple_statement n expr reads c at ts is ends other short =
     then_ _ (reads_simple n expr reads c at ts is ends other short)
-    (node_is at _ _ _ _ (spelled_simple c) ts refl refl (line_of_front (spelled_simple c) ts (simple_length c is)))
+    (node_is at _ _ _ _ (spelled_simple c) ts refl refl (line_of_front (spelled_simple c) ts (simple_length c)))

@@ -1,6 +1,6 @@
 -- With which sorts expressions and statements begin.
-use Rattle.std.proofs.Common.{◌≡◌, refl, sym, ◌∙◌, ap, subst, ℕ, suc, ◌<◌, List, [], ◌∷◌, ◌++◌, length, inl, inr, Bool, true, false, ◌||◌, Option, Some, None, arith}
-use Rattle.std.proofs.lemmas.List.{append_assoc, append-nil}
+use Rattle.std.proofs.Common.{◌≡◌, refl, sym, ◌∙◌, ap, subst, ℕ, suc, List, ◌++◌, inl, inr, Bool, true, false, ◌||◌, Option, Some, None}
+use Rattle.std.proofs.lemmas.List.{append_assoc}
 use Rattle.pw_grammar.specs.declared.sort.Sort.{Sort}
 use Rattle.pw_grammar.specs.declared.sort.Sort.TheVariants as s
 use Rattle.pw_grammar.specs.Terminals.{sort, first_sort, is_same, prefix_of}
@@ -66,18 +66,6 @@ pub simple_starts : (c : Simple) (ts : List Token) → IsSimple c → starts_exp
 simple_starts (assign x q a) ts e = ap starts_expression e.0
 simple_starts (assign_element x o i c q a) ts e = ap starts_expression e.0
 simple_starts (evaluate a) ts e = phrase_starts 13 a ts e
-
--- what begins as an expression is not empty
-pub some_tokens : (f : Sort → Bool) (ts : List Token) → f s.End ≡ false → f (first_sort ts) ≡ true → 0 < length ts
-some_tokens f [] end e = absurd (both (sym end ∙ e))
-  where
-    both : false ≡ true → ⊥
-    both p = cc
-some_tokens f (t ∷ ts) end e = omega arith
-
-pub simple_length : (c : Simple) → IsSimple c → 0 < length (spelled_simple c)
-simple_length c e = some_tokens starts_expression (spelled_simple c) refl
-    (subst (λ ts. starts_expression (first_sort ts) ≡ true) (append-nil (spelled_simple c)) (simple_starts c [] e))
 
 -- a statement begins so
 abbrev pub starts_statement : Sort → Bool

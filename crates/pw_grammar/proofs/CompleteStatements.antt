@@ -6,10 +6,10 @@ use Rattle.pw_grammar.specs.declared.sort.Sort.TheVariants as s
 use Rattle.pw_grammar.specs.Terminals.{sort, first_sort}
 use Rattle.pw_grammar.specs.Expressions.{Phrase, spelled, IsAt, tree_of}
 use Rattle.pw_grammar.specs.Statements as st
-use Rattle.pw_grammar.specs.Statements.{Simple, spelled_simple, IsSimple, kind_of_simple, Start, spelled_start, IsStart, tree_of_start, spelled_maybe, IsMaybe, tree_of_maybe, spelled_step, IsStep, tree_of_step, first_line, statement_node, jump_of, spelled_local, kind_of_local}
 use Rattle.pw_grammar.specs.Steps.{Parser, pure}
 use Rattle.pw_grammar.specs.ReadingStatements as r
-use Rattle.pw_grammar.proofs.CompleteTokens.{spot, then_, done, step_skip, step_expect, either_this, either_other, parted, fits, ends_part, ReadsExpressions}
+use Rattle.pw_grammar.proofs.CompleteEnds.{ends_expression}
+use Rattle.pw_grammar.proofs.CompleteTokens.{spot, then_, done, step_skip, step_expect, either_this, either_other, parted, fits, ReadsExpressions}
 use Rattle.pw_tree.specs.declared.expr.Expr.{Expr}
 use Rattle.pw_tree.specs.declared.stmt.Stmt.{Stmt}
 use Rattle.pw_lex.specs.declared.token.Token.{Token}
@@ -26,7 +26,7 @@ pub reads_test : (n : ℕ) (expr : Parser Expr) → ReadsExpressions n expr → 
 unfolding r.test
 reads_test n expr reads at o a c ts is_o is_a is_c short =
     then_ _ (step_expect s.LeftParen at o (spelled a ++ c ∷ ts) is_o)
-    (then_ _ (reads.reads a (suc at) (c ∷ ts) is_a (ap ends_part is_c) short)
+    (then_ _ (reads.reads a (suc at) (c ∷ ts) is_a (ap ends_expression is_c) short)
     (then_ _ (step_expect s.RightParen (suc at + length (spelled a)) c ts is_c) refl))
 
 -- ---- a part of another statement, as it is read

@@ -1,14 +1,16 @@
 -- What the steps of a reader do at tokens that they take: the tokens are there, so each step succeeds.
-use Rattle.std.proofs.Common.{◌≡◌, ◌≢◌, refl, sym, ◌∙◌, ap, subst, ℕ, suc, ◌+◌, ◌<◌, List, [], ◌∷◌, ◌++◌, length, Ok, Bool, true, false, if◌then◌else◌, arith}
+use Rattle.std.proofs.Common.{◌≡◌, ◌≢◌, refl, sym, ◌∙◌, ap, ap₂, subst, ℕ, suc, ◌+◌, ◌-◌, ◌<◌, List, [], ◌∷◌, ◌++◌, length, Ok, Bool, true, false, if◌then◌else◌, arith}
 use Rattle.std.proofs.lemmas.List.{length-append}
 use Rattle.pw_grammar.specs.declared.sort.Sort.{Sort}
 use Rattle.pw_grammar.specs.declared.sort.Sort.TheVariants as s
 use Rattle.pw_grammar.specs.Terminals.{sort, first_sort}
 use Rattle.pw_grammar.specs.Expressions.{Phrase, spelled, IsAt, tree_of, name_in}
 use Rattle.pw_grammar.specs.Statements.{first_line, statement_node}
-use Rattle.pw_grammar.specs.Steps.{Place, Outcome, Parser, and_then, pure, refuse, next_sort, sees, take, take_from, skip, expect, name, either, finish_statement}
+use Rattle.pw_grammar.specs.Steps.{Place, Outcome, Parser, and_then, finish, pure, refuse, next_sort, sees, take, take_from, skip, expect, name, either, finish_statement}
 use Rattle.pw_grammar.proofs.Branches.{sorts_same, sorts_other}
-use Rattle.pw_tree.specs.declared.expr.Expr.{Expr}
+use Rattle.pw_grammar.proofs.CompleteEnds.{EndsExpression}
+use Rattle.pw_tree.specs.declared.expr.Expr.{Expr, roll-Expr}
+use Rattle.pw_tree.specs.declared.expr.ExprKind.{ExprKind}
 use Rattle.pw_tree.specs.declared.stmt.StmtKind.{StmtKind}
 use Rattle.pw_lex.specs.declared.token.Token.{Token}
 
@@ -95,17 +97,16 @@ pub node_is : (first line n : ℕ) (kind kind' : StmtKind) (tokens r : List Toke
     → finish_statement first line kind (spot n r) ≡ Ok (statement_node first tokens kind', spot (first + length tokens) r)
 node_is first line n kind kind' tokens r same counts lines = cc
 
--- ---- the reader of expressions
+-- a node, by where it ends and what it is
+pub finishes : (first line : ℕ) (kind other : ExprKind) (m n : ℕ) (r : List Token) → kind ≡ other → m ≡ n
+    → finish first line kind (spot m r)
+    ≡ Ok (roll-Expr (record { first = first; last = n - 1; line = line; kind = other }), spot n r)
+finishes first line kind other m n r e f =
+    ap₂ (λ a k. Ok (roll-Expr (record { first = first; last = k - 1; line = line; kind = a }), spot k r)) e f
 
--- what follows an expression that stands in a statement
-abbrev pub ends_part : Sort → Bool
-ends_part s.RightParen = true
-ends_part s.RightBracket = true
-ends_part s.Semicolon = true
-ends_part s.Assign = true
-ends_part _ = false
+-- ---- the reader of expressions
 
 -- a reader of expressions, with fewer than n tokens left
 pub record ReadsExpressions (n : ℕ) (expr : Parser Expr) : Type 0 where
-  pub reads : (c : Phrase) (at : ℕ) (r : List Token) → IsAt 13 c → ends_part (first_sort r) ≡ true → length (spelled c ++ r) < n
+  pub reads : (c : Phrase) (at : ℕ) (r : List Token) → IsAt 13 c → EndsExpression (first_sort r) → length (spelled c ++ r) < n
       → expr (spot at (spelled c ++ r)) ≡ Ok (tree_of at c, spot (at + length (spelled c)) r)

@@ -9,7 +9,9 @@ use Rattle.pw_grammar.specs.Statements.{TypePhrase, word, unsigned, type_of, spe
 use Rattle.pw_grammar.specs.Steps.{Place, Parser, pure, next_sort}
 use Rattle.pw_grammar.specs.ReadingStatements as r
 use Rattle.pw_grammar.proofs.Branches.{sorts_same}
-use Rattle.pw_grammar.proofs.CompleteTokens.{spot, then_, counted, step_skip, step_expect, step_name, sees_it, sees_other, either_this, either_other, parted, same_line, fits, node_is, ends_part, ReadsExpressions}
+use Rattle.pw_grammar.proofs.Lengths.{type_length}
+use Rattle.pw_grammar.proofs.CompleteEnds.{EndsExpression, ends_expression}
+use Rattle.pw_grammar.proofs.CompleteTokens.{spot, then_, counted, step_skip, step_expect, step_name, sees_it, sees_other, either_this, either_other, parted, same_line, fits, node_is, ReadsExpressions}
 use Rattle.pw_grammar.proofs.CompleteStarts.{starts_statement, begins_no_type}
 use Rattle.pw_tree.specs.declared.ty.Ty.{Ty}
 use Rattle.pw_tree.specs.declared.ty.Ty.TheVariants as ty
@@ -53,10 +55,6 @@ type_begins (word t) ts (y, e) = begins_or (is_same (sort t) s.Unsigned) (type_o
     begins_or false o e = ap r.is_some e
 type_begins (unsigned u l) ts (e, f) = ap (λ b. b || r.is_some (type_of (sort u))) (sorts_same (sort u) s.Unsigned e)
 
-pub type_length : (c : TypePhrase) → 0 < length (spelled_type c)
-type_length (word t) = omega arith
-type_length (unsigned u l) = omega arith
-
 pub local_begins : (l : Local) (ts : List Token) → IsLocal l → r.begins_type (first_sort (spelled_local l ++ ts)) ≡ true
 local_begins (plain c x e) ts is = subst (λ v. r.begins_type (first_sort v) ≡ true) (sym (append_assoc (spelled_type c) (x ∷ e ∷ []) ts))
     (type_begins c (x ∷ e ∷ ts) is.0)
@@ -73,7 +71,7 @@ no_type_is x y e f = λ same. not_both (r.begins_type x) e (ap r.begins_type sam
 -- ---- values
 
 pub step_value : (n : ℕ) (expr : Parser Expr) → ReadsExpressions n expr → (at : ℕ) (q : Token) (a : Phrase) (ts : List Token)
-    → sort q ≡ s.Assign → IsAt 13 a → ends_part (first_sort ts) ≡ true → length (spelled a ++ ts) < n
+    → sort q ≡ s.Assign → IsAt 13 a → EndsExpression (first_sort ts) → length (spelled a ++ ts) < n
     → r.maybe_value expr (spot at (q ∷ (spelled a ++ ts))) ≡ Ok (Some (tree_of (suc at) a), spot (suc at + length (spelled a)) ts)
 unfolding r.maybe_value r.value
 step_value n expr reads at q a ts is_q is_a ends short =
@@ -118,7 +116,7 @@ reads_local n expr reads (set c x q a e) at ts (is_c, is_x, is_q, is_a, is_e) sh
     parted (r.local expr) at (set_parts (spelled_type c) x q (spelled a) e ts)
     (then_ _ (step_type c at (x ∷ q ∷ (spelled a ++ e ∷ ts)) is_c)
     (then_ _ (step_name (at + length (spelled_type c)) x (q ∷ (spelled a ++ e ∷ ts)) is_x)
-    (then_ _ (step_value n expr reads (suc (at + length (spelled_type c))) q a (e ∷ ts) is_q is_a (ap ends_part is_e)
+    (then_ _ (step_value n expr reads (suc (at + length (spelled_type c))) q a (e ∷ ts) is_q is_a (ap ends_expression is_e)
     (set_fits (spelled_type c) x q (spelled a ++ e ∷ ts) n (fits _ _ n (set_parts (spelled_type c) x q (spelled a) e ts) short)))
     (then_ _ (step_expect s.Semicolon (suc (suc (at + length (spelled_type c))) + length (spelled a)) e ts is_e)
     (node_is at _ _ _ _ (spelled_type c ++ x ∷ q ∷ (spelled a ++ e ∷ [])) ts refl (set_count at (spelled_type c) x q (spelled a) e)

@@ -1,5 +1,5 @@
 -- What is known of the reader of units and of the limits, gathered; and that no list has two trees.
-use Rattle.std.proofs.Common.{◌≡◌, refl, sym, ◌∙◌, ap, subst, ℕ, suc, ◌<◌, List, [], length, Ok, Err, true, false, arith}
+use Rattle.std.proofs.Common.{◌≡◌, sym, ◌∙◌, ap, subst, ℕ, suc, ◌<◌, List, [], length, Ok, Err, arith}
 use Rattle.pw_grammar.specs.Declarations.{UnitPhrase, spelled_unit, IsUnit, trees_of_declarations}
 use Rattle.pw_grammar.specs.Steps.{Outcome}
 use Rattle.pw_grammar.specs.ReadingExpressions.{expression}
@@ -7,13 +7,9 @@ use Rattle.pw_grammar.specs.ReadingDeclarations.{unit}
 use Rattle.pw_grammar.specs.Laws.{ReadingTells, OneTree}
 use Rattle.pw_grammar.proofs.Lawful.{Within, within}
 use Rattle.pw_grammar.proofs.LawfulUnits as b
-use Rattle.pw_grammar.proofs.CompleteSteps.{EndsExpression}
 use Rattle.pw_grammar.proofs.CompleteExpressions.{reads_expression}
 use Rattle.pw_grammar.proofs.LawfulChains.{lawful_expression}
-use Rattle.pw_grammar.specs.declared.sort.Sort.{Sort}
-use Rattle.pw_grammar.specs.declared.sort.Sort.TheVariants as s
-use Rattle.pw_grammar.specs.Terminals.{first_sort}
-use Rattle.pw_grammar.proofs.CompleteTokens.{ReadsExpressions, ends_part}
+use Rattle.pw_grammar.proofs.CompleteTokens.{ReadsExpressions}
 use Rattle.pw_grammar.proofs.CompleteDeclarations.{reads_unit}
 use Rattle.pw_grammar.proofs.LawfulUnits.{unit_ends}
 use Rattle.pw_grammar.proofs.Whole.{Knows, AUnit, from_start}
@@ -24,15 +20,8 @@ use Rattle.pw_lex.specs.declared.token.Token.{Token}
 use Rattle.pw_tree.specs.declared.decl.Unit.{Unit}
 use Rattle.pw_tree.specs.declared.decl.Decl.{Decl}
 
-part_ends : (x : Sort) → ends_part x ≡ true → EndsExpression x
-part_ends s.RightParen e = refl
-part_ends s.RightBracket e = refl
-part_ends s.Semicolon e = refl
-part_ends s.Assign e = refl
-part_ends _ e = absurd (let f : false ≡ true = e in cc)
-
 reads_expressions : (n : ℕ) → ReadsExpressions n (expression n)
-reads_expressions n = record { reads = λ c at r is ends short. reads_expression n c at r is (part_ends (first_sort r) ends) short }
+reads_expressions n = record { reads = λ c at r is ends short. reads_expression n c at r is ends short }
 
 unit_at : Within b.AUnit AUnit
 unit_at at ds u x r = record { phrase = r.phrase; is = r.is; spells = r.spells; trees = r.value_is }

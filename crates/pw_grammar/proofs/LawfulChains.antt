@@ -7,7 +7,7 @@ use Rattle.pw_grammar.specs.declared.sort.Sort.TheVariants as s
 use Rattle.pw_grammar.specs.declared.error.SyntaxError.TheVariants.{At}
 use Rattle.pw_grammar.specs.Terminals.{binary_of, level_of, sort, sort_of, is_same}
 use Rattle.pw_grammar.specs.Expressions as g
-use Rattle.pw_grammar.specs.Expressions.{Phrase, Arguments, More, spelled, spelled_arguments, spelled_more, IsAt, AreArguments, AreMore, tree_of, trees_of, trees_of_more, node, IsOperator, IsPrefix, prefix_or, prefix_in, binary_or, binary_in}
+use Rattle.pw_grammar.specs.Expressions.{spelled, IsAt, tree_of, binary_or}
 use Rattle.pw_grammar.specs.Steps.{on_option, Place, Parser, and_then, ◌>>=◌, pure, refuse, next_sort, sees, skip, finish}
 use Rattle.pw_grammar.specs.ReadingExpressions as r
 use Rattle.pw_grammar.proofs.Lawful.{Language, GoesOn, Lawful, Within, within, Seq, bind, leads_nowhere}

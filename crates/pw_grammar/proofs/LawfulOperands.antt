@@ -5,7 +5,7 @@ use Rattle.pw_grammar.specs.declared.sort.Sort.{Sort}
 use Rattle.pw_grammar.specs.declared.sort.Sort.TheVariants as s
 use Rattle.pw_grammar.specs.Terminals.{sort, sort_of, is_same}
 use Rattle.pw_grammar.specs.Expressions as g
-use Rattle.pw_grammar.specs.Expressions.{Phrase, Arguments, More, spelled, spelled_arguments, spelled_more, IsAt, AreArguments, AreMore, tree_of, trees_of, trees_of_more, node}
+use Rattle.pw_grammar.specs.Expressions.{Phrase, Arguments, More, spelled, spelled_arguments, spelled_more, IsAt, AreArguments, AreMore, tree_of, trees_of, trees_of_more}
 use Rattle.pw_grammar.specs.Steps.{Place, Outcome, Parser, and_then, ◌>>=◌, pure, sees, here, skip}
 use Rattle.pw_grammar.specs.ReadingExpressions as r
 use Rattle.pw_grammar.proofs.Lawful.{Language, GoesOn, Says, Lawful, Within, Lax, within, Seq, bind, Leaves, leaves_fewer, Pure, lawful_pure}

@@ -5,7 +5,7 @@ use Rattle.std.specs.Bool.{⊤}
 use Rattle.pw_grammar.specs.declared.sort.Sort.TheVariants as s
 use Rattle.pw_grammar.specs.Terminals.{prefix_of, sort}
 use Rattle.pw_grammar.specs.Expressions as g
-use Rattle.pw_grammar.specs.Expressions.{Phrase, Arguments, More, spelled, spelled_arguments, spelled_more, IsAt, AreArguments, AreMore, tree_of, trees_of, trees_of_more, node, IsOperator, IsPrefix, prefix_or, prefix_in, binary_or, binary_in}
+use Rattle.pw_grammar.specs.Expressions.{Phrase, spelled, IsAt, tree_of, IsPrefix, prefix_or, prefix_in}
 use Rattle.pw_grammar.specs.Steps.{on_option, Place, Outcome, Parser, and_then, ◌>>=◌, pure, next_sort, skip}
 use Rattle.pw_grammar.specs.ReadingExpressions as r
 use Rattle.pw_grammar.proofs.Lawful.{Language, GoesOn, Lawful, Within, within, Seq, bind, Pure, lawful_pure, leads_nowhere}

@@ -9,7 +9,9 @@ pub mod Whole
 pub mod LawfulOperands
 pub mod LawfulPrefixes
 pub mod LawfulChains
-pub mod CompleteSteps
+pub mod Lengths
+pub mod CompleteEnds
+pub mod CompleteTokens
 pub mod CompletePhrases
 pub mod CompletePrimary
 pub mod CompleteLevels
@@ -18,7 +20,6 @@ pub mod FirstFault
 pub mod LateFunctions
 pub mod LateUnits
 pub mod Nested
-pub mod CompleteTokens
 pub mod CompleteTypes
 pub mod CompleteStarts
 pub mod CompleteSimple
@@ -43,3 +44,12 @@ pub mod LawfulFunctions
 pub mod LawfulDeclarations
 pub mod LawfulUnits
 pub mod Known
+pub mod PlainNodes
+pub mod PlacedExpressions
+pub mod PlacedForms
+pub mod PlacedStatements
+pub mod PlacedParts
+pub mod PlacedDeclarations
+pub mod Typed
+pub mod Written
+pub mod Weighed

@@ -1,12 +1,15 @@
 -- Laws of the grammar.
-use Rattle.std.specs.Prelude.{◌≡◌, ℕ, ◌<◌, List, length, Result, Ok, Err}
+use Rattle.std.specs.Prelude.{◌≡◌, ℕ, ◌^◌, ◌<◌, ◌≤◌, List, length, sum_by, Result, Ok, Err}
 use Rattle.pw_grammar.specs.declared.error.SyntaxError.{SyntaxError}
 use Rattle.pw_grammar.specs.Declarations.{UnitPhrase, spelled_unit, IsUnit, trees_of_declarations, Derives}
 use Rattle.pw_grammar.specs.Faults.{IsFault, IsFirstFault}
 use Rattle.pw_grammar.specs.Reading.{parsed}
+use Rattle.pw_grammar.specs.Weights.{weight}
 use Rattle.pw_lex.specs.declared.token.Token.{Token}
 use Rattle.pw_tree.specs.declared.decl.Decl.{Decl}
 use Rattle.pw_tree.specs.declared.decl.Unit.{Unit}
+use Rattle.pw_tree.specs.Declarations.{declarations_of, written_unit_of}
+use Rattle.pw_tree.specs.Placed.{IsWritten}
 
 -- the tokens have no fault, and the grammar derives these declarations from them
 pub record HasTree (tokens : List Token) (decls : List Decl) : Type 0 where
@@ -27,3 +30,11 @@ ReadingTells = (n : ℕ) (tokens : List Token) → length tokens < n → Tells t
 -- no list of tokens has two trees
 abbrev pub OneTree : Type 0
 OneTree = (tokens : List Token) (a b : Unit) → Derives tokens a → Derives tokens b → a ≡ b
+
+-- the trees of a unit stand in its tokens, of which there are fewer than 2 to the 32nd
+abbrev pub TreesAreWritten : Type 0
+TreesAreWritten = (tokens : List Token) (unit : Unit) → Derives tokens unit → length tokens < 2 ^ 32 → IsWritten (written_unit_of unit)
+
+-- a unit has no fewer tokens than the definitions of its functions need
+abbrev pub UnitsAreNoLonger : Type 0
+UnitsAreNoLonger = (tokens : List Token) (unit : Unit) → Derives tokens unit → sum_by weight (declarations_of unit) ≤ length tokens

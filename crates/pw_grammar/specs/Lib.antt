@@ -9,4 +9,5 @@ pub mod ReadingDeclarations
 pub mod Faults
 pub mod Limits
 pub mod Reading
+pub mod Weights
 pub mod Laws

@@ -3,7 +3,7 @@ use Rattle.std.specs.Prelude.{◌≡◌, ℕ, ◌<◌, ◌≤◌, List, length, 
 use Rattle.std.specs.declared.alloc.Global.{Global}
 use Rattle.pw_io.specs.declared.ports.StoreError.{StoreError}
 use Rattle.pw_io.specs.declared.ports.StoreError.TheVariants.{Failed, TooLong}
-use Rattle.pw_io.specs.Faults.{Rises}
+use Rattle.pw_io.specs.Faults.{Rises, risen}
 use Rattle.pw_io.specs.Store.{StoreState}
 
 -- the store of the current folder, seen as its count of faults, tells nothing else
@@ -16,7 +16,7 @@ ReadsAll left limit (Ok bytes) = (length bytes.items ≤ limit) × IfSome left (
 ReadsAll left limit (Err (TooLong most)) = (most ≡ limit) × IfSome left (λ known. limit < length known)
 ReadsAll left limit (Err _) = Unit {0}
 
--- the count after an error: it rises at a failure, and stays at every other
+-- the count after an error: it rises by one at a failure, up to 2^64-1, and stays at every other
 abbrev pub Counts : ℕ → StoreError → ℕ → Type 0
-Counts old Failed new = Rises old new
+Counts old Failed new = Rises old new × (new ≡ risen old)
 Counts old _ new = new ≡ old

@@ -1,6 +1,7 @@
 //! The current folder as a store of files.
-ghost use Rattle.std.specs.Prelude.{◌≡◌, OnOk};
+ghost use Rattle.std.specs.Prelude.{◌≡◌, OnOk, IfErr};
 ghost use Rattle.std.specs.Io.KnownBytes.{Appends};
+ghost use Rattle.pw_io.specs.Store.{Reads, Writes};
 ghost use Rattle.pw_io.specs.Folder.{silent_store, ReadsAll, Counts};
 
 use crate::ports::{Failed, Store, StoreError};
@@ -128,8 +129,11 @@ impl<'a, F: Files> DirStore<'a, F> {
 impl<'a, F: Files> Store for DirStore<'a, F> {
     ghost state = { silent_store };
 
-    /// Reads the file, at most one byte past the limit.
-    fn read(&mut self, alloc: Global, name: &Name, limit: u64) -> Result<Vec<u8>, StoreError> {
+    /// Reads the file, at most one byte past the limit; each failure is one fault.
+    fn read(&mut self, alloc: Global, name: &Name, limit: u64) -> Result<Vec<u8>, StoreError>
+        ensures reads { Reads (silent_store self.old) name.now limit (silent_store self.new) result }
+        ensures one_fault { IfErr result (λ error. Counts self.old error self.new) }
+    {
         match self.read_file(alloc, name, limit) {
             Ok(bytes) => Ok(bytes),
             Err(error) => {
@@ -139,8 +143,11 @@ impl<'a, F: Files> Store for DirStore<'a, F> {
         }
     }
 
-    /// Makes or empties the file, and writes the bytes.
-    fn write(&mut self, name: &Name, bytes: &[u8]) -> Result<(), StoreError> {
+    /// Makes or empties the file, and writes the bytes; each failure is one fault.
+    fn write(&mut self, name: &Name, bytes: &[u8]) -> Result<(), StoreError>
+        ensures writes { Writes (silent_store self.old) name.now bytes.now (silent_store self.new) result }
+        ensures one_fault { IfErr result (λ error. Counts self.old error self.new) }
+    {
         match self.write_file(name, bytes) {
             Ok(()) => Ok(()),
             Err(Failed) => {

@@ -1,6 +1,7 @@
 //! A sink of bytes over a writer of std, such as standard output or standard error.
 ghost use Rattle.std.specs.Prelude.{◌≡◌, [], ◌∷◌, OnOk, OnErr};
 ghost use Rattle.std.specs.Io.KnownBytes.{Appends, Keeps};
+ghost use Rattle.pw_io.specs.Faults.{risen};
 ghost use Rattle.pw_io.specs.Sink.{SinkFails, wrote, flushed_all};
 ghost use Rattle.pw_io.specs.Adapter.{silent_sink};
 
@@ -43,12 +44,13 @@ impl<W> StdSink<W> {
 impl<W: Write> Sink for StdSink<W> {
     ghost state = { silent_sink };
 
-    /// Writes the byte.
+    /// Writes the byte; each failure is one fault.
     fn put(&mut self, byte: u8) -> Result<(), Failed>
         ensures ok { OnOk result (silent_sink self.new ≡ wrote (byte ∷ []) (silent_sink self.old)) }
         ensures err { OnErr result (SinkFails (silent_sink self.old) (silent_sink self.new)) }
         ensures written { OnOk result (Appends (W.contents self.old.inner) (W.contents self.new.inner) (byte ∷ [])) }
         ensures refused { OnErr result (Appends (W.contents self.old.inner) (W.contents self.new.inner) []) }
+        ensures one_fault { OnErr result (self.new.faults ≡ risen self.old.faults) }
     {
         let buffer = [byte];
         match self.writer.write(&buffer) {
@@ -60,11 +62,12 @@ impl<W: Write> Sink for StdSink<W> {
         }
     }
 
-    /// Flushes the writer.
+    /// Flushes the writer; each failure is one fault.
     fn flush(&mut self) -> Result<(), Failed>
         ensures ok { OnOk result (silent_sink self.new ≡ flushed_all (silent_sink self.old)) }
         ensures err { OnErr result (SinkFails (silent_sink self.old) (silent_sink self.new)) }
         ensures kept { Keeps (W.contents self.old.inner) (W.contents self.new.inner) }
+        ensures one_fault { OnErr result (self.new.faults ≡ risen self.old.faults) }
     {
         match self.writer.flush() {
             Ok(()) => Ok(()),

@@ -1,5 +1,6 @@
 //! A source of bytes over a reader of std, such as standard input.
 ghost use Rattle.std.specs.Prelude.{◌≡◌};
+ghost use Rattle.pw_io.specs.Faults.{risen};
 ghost use Rattle.pw_io.specs.Source.{Gives};
 ghost use Rattle.pw_io.specs.Adapter.{silent_source, TakesFrom};
 
@@ -42,10 +43,11 @@ impl<R> StdSource<R> {
 impl<R: Read> Source for StdSource<R> {
     ghost state = { silent_source };
 
-    /// The reader's next byte, or the end where it gives none.
+    /// The reader's next byte, or the end where it gives none; each failure is one fault.
     fn next(&mut self) -> Next
         ensures gives { Gives (silent_source self.old) result (silent_source self.new) }
         ensures reader { TakesFrom (R.remaining self.old.inner) result (R.remaining self.new.inner) }
+        ensures one_fault { result ≡ Next.Failed → self.new.faults ≡ risen self.old.faults }
     {
         let mut buffer = [0u8; 1];
         match self.reader.read(&mut buffer) {

@@ -3,3 +3,6 @@ pub mod Wrapping
 pub mod Leaves
 pub mod Levels
 pub mod Wholes
+pub mod Heads
+pub mod Nesting
+pub mod Shorter

@@ -3,6 +3,7 @@ pub mod Values
 pub mod Numbers
 pub mod Nests
 pub mod NestsStatements
-pub mod Loops
+pub mod Heads
+pub mod Nesting
 pub mod Walk
 pub mod Whole

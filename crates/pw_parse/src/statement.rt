@@ -4,15 +4,17 @@ ghost use Rattle.std.specs.Prelude.{◌≡◌, []};
 ghost use Rattle.pw_grammar.specs.Steps.{Reads};
 ghost use Rattle.pw_grammar.specs.ReadingExpressions as expressions;
 ghost use Rattle.pw_grammar.specs.ReadingStatements as spec;
+ghost use Rattle.pw_parse.specs.Heads as fronts;
 ghost use Rattle.pw_parse.specs.NestsStatements.{NestsStatements};
 
 use crate::cursor::Cursor;
+use crate::head::{Front, Head, maybe_head, resume, whole};
 use crate::header::maybe_expression;
-use crate::simple::{evaluated, finished, local, test};
+use crate::simple::{evaluated, local};
 use crate::types::begins_type;
 use pw_grammar::{Sort, SyntaxError};
 use pw_tree::{Stmt, StmtKind};
-use sqlite_items::{Boxed, Items};
+use sqlite_items::Items;
 use std::alloc::Global;
 
 /// The rules of statements, over a reader of those that stand in others.
@@ -34,16 +36,27 @@ pub(crate) fn statement(
 ) -> Result<Stmt, SyntaxError>
     ensures { Reads (spec.statement depth cursor.old) result cursor.new }
 {
-    if depth == 0 {
-        return Err(cursor.refuse());
+    let mut heads = Items::new(alloc);
+    'inward: loop {
+        let left = depth - heads.len();
+        if left == 0 {
+            return Err(cursor.refuse());
+        }
+        let reader = Statements {
+            alloc,
+            depth: left,
+            inner: left - 1,
+            stmt: statement,
+        };
+        match reader.front(cursor)? {
+            Front::Head(head) => heads.push(head)?,
+            Front::Whole(stmt) => {
+                if let Some(whole) = resume(alloc, cursor, depth, &mut heads, stmt)? {
+                    return Ok(whole);
+                }
+            }
+        }
     }
-    Statements {
-        alloc,
-        depth,
-        inner: depth - 1,
-        stmt: statement,
-    }
-    .whole(cursor)
 }
 
 /// The statements of a function's body.
@@ -112,15 +125,6 @@ impl<S: Fn(Global, &mut Cursor<'_>, usize) -> Result<Stmt, SyntaxError>> Stateme
         (self.stmt)(self.alloc, cursor, self.inner)
     }
 
-    /// A statement that stands in another, in a box.
-    pub fn boxed(&self, cursor: &mut Cursor<'_>) -> Result<Boxed<Stmt>, SyntaxError>
-        requires { NestsStatements self.now.inner (S.pre self.now.stmt) (S.post self.now.stmt) }
-        ensures { Reads (spec.statement self.now.inner cursor.old) result cursor.new }
-    {
-        let part = self.part(cursor)?;
-        Ok(Boxed::new(self.alloc, part)?)
-    }
-
     /// A statement of a block, or a local's declaration.
     #[tactic(auto, unfolding(pw_grammar::specs::ReadingStatements::element))]
     fn element(&self, cursor: &mut Cursor<'_>) -> Result<Stmt, SyntaxError>
@@ -161,45 +165,14 @@ impl<S: Fn(Global, &mut Cursor<'_>, usize) -> Result<Stmt, SyntaxError>> Stateme
         Ok(StmtKind::Block(body))
     }
 
-    /// `else` and a statement, or nothing.
-    #[tactic(auto, unfolding(pw_grammar::specs::ReadingStatements::maybe_else, pw_grammar::specs::ReadingStatements::alternative))]
-    fn maybe_else(&self, cursor: &mut Cursor<'_>) -> Result<Option<Boxed<Stmt>>, SyntaxError>
+    /// What a statement without a head is, by its first token.
+    fn headless(&self, cursor: &mut Cursor<'_>, sort: Sort) -> Result<StmtKind, SyntaxError>
         requires { NestsStatements self.now.inner (S.pre self.now.stmt) (S.post self.now.stmt) }
-        ensures { Reads (spec.maybe_else (spec.statement self.now.inner) cursor.old) result cursor.new }
+        ensures { Reads (fronts.headless_by (expressions.expression self.now.depth) (spec.statement self.now.inner) self.now.depth sort cursor.old) result cursor.new }
     {
-        if !cursor.sees(Sort::Else) {
-            return Ok(None);
-        }
-        cursor.skip()?;
-        Ok(Some(self.boxed(cursor)?))
-    }
-
-    /// `if ( e ) s`, and `else s` or nothing.
-    #[tactic(auto, unfolding(pw_grammar::specs::ReadingStatements::conditional))]
-    fn conditional(&self, cursor: &mut Cursor<'_>) -> Result<StmtKind, SyntaxError>
-        requires { NestsStatements self.now.inner (S.pre self.now.stmt) (S.post self.now.stmt) }
-        ensures { Reads (spec.conditional (expressions.expression self.now.depth) (spec.statement self.now.inner) cursor.old) result cursor.new }
-    {
-        cursor.skip()?;
-        let test = test(self.alloc, cursor, self.depth)?;
-        let yes = self.boxed(cursor)?;
-        let no = self.maybe_else(cursor)?;
-        Ok(StmtKind::If(test, yes, no))
-    }
-
-    /// What a statement is, by its first token.
-    #[tactic(auto, unfolding(pw_grammar::specs::ReadingStatements::form))]
-    fn form(&self, cursor: &mut Cursor<'_>) -> Result<StmtKind, SyntaxError>
-        requires { NestsStatements self.now.inner (S.pre self.now.stmt) (S.post self.now.stmt) }
-        ensures { Reads (spec.form (expressions.expression self.now.depth) (spec.statement self.now.inner) self.now.depth cursor.old) result cursor.new }
-    {
-        match cursor.peek() {
+        match sort {
             Sort::Semicolon => empty(cursor),
             Sort::LeftBrace => self.block(cursor),
-            Sort::If => self.conditional(cursor),
-            Sort::While => self.while_loop(cursor),
-            Sort::Do => self.do_loop(cursor),
-            Sort::For => self.for_loop(cursor),
             Sort::Return => leave(self.alloc, cursor, self.depth),
             Sort::Break => break_off(cursor),
             Sort::Continue => go_on(cursor),
@@ -207,15 +180,19 @@ impl<S: Fn(Global, &mut Cursor<'_>, usize) -> Result<Stmt, SyntaxError>> Stateme
         }
     }
 
-    /// A whole statement.
-    #[tactic(auto, unfolding(pw_grammar::specs::ReadingStatements::whole))]
-    fn whole(&self, cursor: &mut Cursor<'_>) -> Result<Stmt, SyntaxError>
+    /// A statement's head, or a whole statement without one.
+    #[tactic(auto, unfolding(crate::specs::Heads::front))]
+    fn front(&self, cursor: &mut Cursor<'_>) -> Result<Front, SyntaxError>
         requires { NestsStatements self.now.inner (S.pre self.now.stmt) (S.post self.now.stmt) }
-        ensures { Reads (spec.whole (expressions.expression self.now.depth) (spec.statement self.now.inner) self.now.depth cursor.old) result cursor.new }
+        ensures { Reads (fronts.front (expressions.expression self.now.depth) (spec.statement self.now.inner) self.now.depth cursor.old) result cursor.new }
     {
         let first = cursor.at();
         let line = cursor.line();
-        let kind = self.form(cursor)?;
-        Ok(finished(cursor, first, line, kind))
+        let sort = cursor.peek();
+        if let Some(form) = maybe_head(self.alloc, cursor, self.depth, sort)? {
+            return Ok(Front::Head(Head { first, line, form }));
+        }
+        let kind = self.headless(cursor, sort)?;
+        Ok(whole(cursor, first, line, kind))
     }
 }

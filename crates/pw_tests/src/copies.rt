@@ -1,6 +1,6 @@
 //! With ample memory each part of a tree is copied, whole.
-use pw_base::Name;
-use pw_tree::{Ext, Init, InitItem, InitKind, Param, Ref, Sig, TVar, Ty, TypeText};
+use pw_base::{Name, TypeText};
+use pw_tree::{Ext, Init, InitItem, InitKind, Param, Ref, Sig, TVar, Ty};
 use sqlite_items::Items;
 use std::alloc::Global;
 use std::test::Fail;
@@ -20,14 +20,17 @@ fn a_signature_and_a_name_of_a_type_are_copied(rt: HostRuntime) -> Result<(), Fa
     let copy = sig.copy(rt.alloc())?;
     assert_eq!(rt; copy.result, Ty::Ulong);
     assert_eq!(rt; copy.params.as_slice(), [Ty::Long, Ty::Fn(2)].as_slice());
-    let text = TypeText::from_bytes(Vec::from_slice(rt.alloc(), b"long")?);
+    let Some(text) = TypeText::read(rt.alloc(), b"u(l2)")? else {
+        assert!(rt; false);
+        return Ok(());
+    };
     let ext = Ext {
         name: name(rt.alloc())?,
         text: text.copy(rt.alloc())?,
     };
     let ext = ext.copy(rt.alloc())?;
     assert_eq!(rt; ext.name.bytes(), b"f".as_slice());
-    assert_eq!(rt; ext.text.bytes(), b"long".as_slice());
+    assert_eq!(rt; ext.text.bytes(), b"u(l2)".as_slice());
     Ok(())
 }
 

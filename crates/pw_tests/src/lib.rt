@@ -5,3 +5,5 @@
 mod copies;
 #[cfg(test)]
 mod division;
+#[cfg(test)]
+mod units;

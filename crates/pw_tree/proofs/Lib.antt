@@ -12,3 +12,5 @@ pub mod DepthRows
 pub mod Growth
 pub mod Follows
 pub mod LawProofs
+pub mod Nesting
+pub mod Parts

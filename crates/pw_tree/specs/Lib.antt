@@ -1,6 +1,7 @@
 pub mod Phrases
 pub mod Statements
 pub mod Declarations
+pub mod Placed
 pub mod Trees
 pub mod Commands
 pub mod Units
@@ -14,3 +15,4 @@ pub mod Meaning
 pub mod Depends
 pub mod Binding
 pub mod Laws
+pub mod Nested

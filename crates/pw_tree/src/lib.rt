@@ -5,6 +5,7 @@ mod copies;
 mod decl;
 mod expr;
 mod laws;
+mod nested;
 mod operator;
 mod stmt;
 #[cfg(test)]
@@ -13,7 +14,6 @@ mod texpr;
 mod tstmt;
 mod tunit;
 mod ty;
-mod type_text;
 
 pub use decl::{Decl, DeclKind, InitItem, InitKind, Linkage, Param, Unit};
 pub use expr::{Expr, ExprKind};
@@ -24,4 +24,3 @@ pub use texpr::{TExpr, TKind};
 pub use tstmt::TStmt;
 pub use tunit::{Ext, Init, TFun, TUnit, TVar};
 pub use ty::{Ref, Sig, Ty};
-pub use type_text::TypeText;

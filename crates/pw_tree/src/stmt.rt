@@ -1,8 +1,12 @@
 //! Statements as they are written.
-ghost use Rattle.std.specs.Prelude.{◌≡◌, IfOk};
+ghost use Rattle.std.specs.Prelude.{◌≡◌, IfOk, slice_get, option_copied, [], ◌∷◌};
 ghost use Rattle.pw_tree.specs.declared.stmt.StmtKind.TheVariants.{Set, If, For};
+ghost use Rattle.pw_tree.specs.Nested.{before, parts_of, parts_of_kind};
 
 use crate::expr::Expr;
+use crate::nested::{
+    Nested, copy_nested, only_copy, only_part, part_of_for, part_of_if, pop_boxed, pop_boxed_option,
+};
 use crate::ty::Ty;
 use pw_base::{Name, NoMemory};
 use sqlite_items::{Boxed, Items};
@@ -42,65 +46,13 @@ pub enum StmtKind {
 
 impl Stmt {
     /// An equal statement.
-    #[cycle(copy_stmt)]
     pub fn copy(&self, alloc: Global) -> Result<Stmt, NoMemory>
         ensures { IfOk result (λ copy. copy ≡ self.now) }
     {
-        Ok(Stmt {
-            first: self.first,
-            last: self.last,
-            line: self.line,
-            kind: self.kind.copy(alloc)?,
-        })
-    }
-
-    /// An equal statement in a box of its own.
-    #[cycle(copy_stmt)]
-    fn copy_boxed(&self, alloc: Global) -> Result<Boxed<Stmt>, NoMemory>
-        ensures { IfOk result (λ copy. copy ≡ self.now) }
-    {
-        Ok(Boxed::new(alloc, self.copy(alloc)?)?)
-    }
-
-    /// An equal statement in a box of its own, or none.
-    #[cycle(copy_stmt)]
-    fn copy_boxed_option(
-        alloc: Global,
-        stmt: &Option<Boxed<Stmt>>,
-    ) -> Result<Option<Boxed<Stmt>>, NoMemory>
-        ensures { IfOk result (λ copy. copy ≡ stmt.now) }
-    {
-        match stmt {
-            Some(stmt) => Ok(Some(stmt.get().copy_boxed(alloc)?)),
-            None => Ok(None),
-        }
-    }
-
-    /// `if (c) self else b`, copied but for `b`, which it takes.
-    #[cycle(copy_stmt)]
-    fn copy_if(&self, alloc: Global, c: &Expr, b: Option<Boxed<Stmt>>) -> Result<StmtKind, NoMemory>
-        ensures { IfOk result (λ copy. copy ≡ If c.now self.now b) }
-    {
-        Ok(StmtKind::If(c.copy(alloc)?, self.copy_boxed(alloc)?, b))
-    }
-
-    /// `for (first; c; last) self`, copied but for `first` and `last`, which it takes.
-    #[cycle(copy_stmt)]
-    fn copy_for(
-        &self,
-        alloc: Global,
-        first: Option<Boxed<Stmt>>,
-        c: &Option<Expr>,
-        last: Option<Boxed<Stmt>>,
-    ) -> Result<StmtKind, NoMemory>
-        ensures { IfOk result (λ copy. copy ≡ For first c.now last self.now) }
-    {
-        let c = Expr::copy_option(alloc, c)?;
-        Ok(StmtKind::For(first, c, last, self.copy_boxed(alloc)?))
+        copy_nested(alloc, self)
     }
 
     /// Equal statements.
-    #[cycle(copy_stmt)]
     pub fn copy_all(alloc: Global, stmts: &[Stmt]) -> Result<Items<Stmt>, NoMemory>
         ensures { IfOk result (λ copy. copy ≡ stmts.now) }
     {
@@ -112,37 +64,108 @@ impl Stmt {
     }
 }
 
+impl Nested for Stmt {
+    ghost parts = { parts_of };
+
+    fn part(&self, number: usize) -> Option<&Stmt> {
+        self.kind.part(number)
+    }
+
+    fn around(&self, alloc: Global, copies: Items<Stmt>) -> Result<Stmt, NoMemory>
+        requires { copies ≡ parts_of self.now }
+        ensures { IfOk result (λ copy. copy ≡ self.now) }
+    {
+        Ok(Stmt {
+            first: self.first,
+            last: self.last,
+            line: self.line,
+            kind: self.kind.around(alloc, copies)?,
+        })
+    }
+}
+
+/// An equal `for`, from copies of its statements.
+fn copy_for(
+    alloc: Global,
+    first: &Option<Boxed<Stmt>>,
+    c: &Option<Expr>,
+    last: &Option<Boxed<Stmt>>,
+    body: &Boxed<Stmt>,
+    copies: Items<Stmt>,
+) -> Result<StmtKind, NoMemory>
+    requires { copies ≡ before first.now (before last.now (body.now ∷ [])) }
+    ensures { IfOk result (λ copy. copy ≡ For first.now c.now last.now body.now) }
+{
+    let mut copies = copies;
+    let body = pop_boxed(alloc, &mut copies)?;
+    let last = pop_boxed_option(alloc, &mut copies, last)?;
+    let first = pop_boxed_option(alloc, &mut copies, first)?;
+    Ok(StmtKind::For(first, Expr::copy_option(alloc, c)?, last, body))
+}
+
+/// An equal `if`, from copies of its statements.
+fn copy_if(
+    alloc: Global,
+    c: &Expr,
+    yes: &Boxed<Stmt>,
+    no: &Option<Boxed<Stmt>>,
+    copies: Items<Stmt>,
+) -> Result<StmtKind, NoMemory>
+    requires { copies ≡ yes.now ∷ before no.now [] }
+    ensures { IfOk result (λ copy. copy ≡ If c.now yes.now no.now) }
+{
+    let mut copies = copies;
+    let no = pop_boxed_option(alloc, &mut copies, no)?;
+    let yes = pop_boxed(alloc, &mut copies)?;
+    Ok(StmtKind::If(c.copy(alloc)?, yes, no))
+}
+
 impl StmtKind {
-    /// An equal form.
-    #[cycle(copy_stmt)]
-    pub fn copy(&self, alloc: Global) -> Result<StmtKind, NoMemory>
+    /// The statement of this number that stands right in it, from 0.
+    #[tactic(auto, using(crate::proofs::Parts::parts_of_empty, crate::proofs::Parts::parts_of_block, crate::proofs::Parts::parts_of_local, crate::proofs::Parts::parts_of_set, crate::proofs::Parts::parts_of_eval, crate::proofs::Parts::parts_of_if, crate::proofs::Parts::parts_of_while, crate::proofs::Parts::parts_of_do, crate::proofs::Parts::parts_of_for, crate::proofs::Parts::parts_of_return, crate::proofs::Parts::parts_of_break, crate::proofs::Parts::parts_of_continue))]
+    fn part(&self, number: usize) -> Option<&Stmt>
+        ensures { option_copied result ≡ slice_get (parts_of_kind self.now) number }
+    {
+        match self {
+            StmtKind::Block(body) => body.get(number),
+            StmtKind::If(_, yes, no) => part_of_if(yes, no, number),
+            StmtKind::While(_, body) => only_part(body, number),
+            StmtKind::Do(body, _) => only_part(body, number),
+            StmtKind::For(first, _, last, body) => part_of_for(first, last, body, number),
+            StmtKind::Empty
+            | StmtKind::Local(_, _, _)
+            | StmtKind::Set(_, _, _)
+            | StmtKind::Eval(_)
+            | StmtKind::Return(_)
+            | StmtKind::Break
+            | StmtKind::Continue => None,
+        }
+    }
+
+    /// An equal form, from copies of the statements that stand right in it.
+    #[tactic(auto, using(crate::proofs::Parts::parts_of_empty, crate::proofs::Parts::parts_of_block, crate::proofs::Parts::parts_of_local, crate::proofs::Parts::parts_of_set, crate::proofs::Parts::parts_of_eval, crate::proofs::Parts::parts_of_if, crate::proofs::Parts::parts_of_while, crate::proofs::Parts::parts_of_do, crate::proofs::Parts::parts_of_for, crate::proofs::Parts::parts_of_return, crate::proofs::Parts::parts_of_break, crate::proofs::Parts::parts_of_continue))]
+    fn around(&self, alloc: Global, copies: Items<Stmt>) -> Result<StmtKind, NoMemory>
+        requires { copies ≡ parts_of_kind self.now }
         ensures { IfOk result (λ copy. copy ≡ self.now) }
     {
         match self {
+            StmtKind::Block(_) => Ok(StmtKind::Block(copies)),
+            StmtKind::If(c, yes, no) => copy_if(alloc, c, yes, no, copies),
+            StmtKind::While(c, body) => {
+                let body = only_copy(alloc, body, copies)?;
+                Ok(StmtKind::While(c.copy(alloc)?, body))
+            }
+            StmtKind::Do(body, c) => {
+                let body = only_copy(alloc, body, copies)?;
+                Ok(StmtKind::Do(body, c.copy(alloc)?))
+            }
+            StmtKind::For(first, c, last, body) => copy_for(alloc, first, c, last, body, copies),
             StmtKind::Empty => Ok(StmtKind::Empty),
-            StmtKind::Block(body) => Ok(StmtKind::Block(Stmt::copy_all(alloc, body.as_slice())?)),
             StmtKind::Local(ty, name, value) => {
                 Ok(StmtKind::Local(*ty, name.copy(alloc)?, Expr::copy_option(alloc, value)?))
             }
             StmtKind::Set(name, index, value) => StmtKind::copy_set(alloc, name, index, value),
             StmtKind::Eval(e) => Ok(StmtKind::Eval(e.copy(alloc)?)),
-            StmtKind::If(c, a, b) => {
-                let b = Stmt::copy_boxed_option(alloc, b)?;
-                a.get().copy_if(alloc, c, b)
-            }
-            StmtKind::While(c, body) => Ok(StmtKind::While(
-                c.copy(alloc)?,
-                body.get().copy_boxed(alloc)?,
-            )),
-            StmtKind::Do(body, c) => Ok(StmtKind::Do(
-                body.get().copy_boxed(alloc)?,
-                c.copy(alloc)?,
-            )),
-            StmtKind::For(first, c, last, body) => {
-                let first = Stmt::copy_boxed_option(alloc, first)?;
-                let last = Stmt::copy_boxed_option(alloc, last)?;
-                body.get().copy_for(alloc, first, c, last)
-            }
             StmtKind::Return(value) => Ok(StmtKind::Return(Expr::copy_option(alloc, value)?)),
             StmtKind::Break => Ok(StmtKind::Break),
             StmtKind::Continue => Ok(StmtKind::Continue),

@@ -1,7 +1,11 @@
 //! Typed statements.
-ghost use Rattle.std.specs.Prelude.{◌≡◌, IfOk};
-ghost use Rattle.pw_tree.specs.declared.tstmt.TStmt.TheVariants.{SetElem, If, While, Do, For};
+ghost use Rattle.std.specs.Prelude.{◌≡◌, IfOk, slice_get, option_copied, [], ◌∷◌};
+ghost use Rattle.pw_tree.specs.declared.tstmt.TStmt.TheVariants.{SetElem, If, For};
+ghost use Rattle.pw_tree.specs.Nested.{before, typed_parts_of};
 
+use crate::nested::{
+    Nested, copy_nested, only_copy, only_part, part_of_for, part_of_if, pop_boxed, pop_boxed_option,
+};
 use crate::texpr::TExpr;
 use crate::ty::Ref;
 use pw_base::NoMemory;
@@ -30,36 +34,21 @@ pub enum TStmt {
 
 impl TStmt {
     /// An equal statement.
-    #[cycle(copy_tstmt)]
     pub fn copy(&self, alloc: Global) -> Result<TStmt, NoMemory>
         ensures { IfOk result (λ copy. copy ≡ self.now) }
     {
-        match self {
-            TStmt::Eval(e) => Ok(TStmt::Eval(e.copy(alloc)?)),
-            TStmt::SetLocal(number, value) => Ok(TStmt::SetLocal(
-                *number,
-                TExpr::copy_option(alloc, value)?,
-            )),
-            TStmt::SetVar(name, value) => Ok(TStmt::SetVar(name.copy(alloc)?, value.copy(alloc)?)),
-            TStmt::SetElem(name, size, line, index, value) => {
-                TStmt::copy_set_elem(alloc, name, *size, *line, index, value)
-            }
-            TStmt::Block(body) => Ok(TStmt::Block(TStmt::copy_all(alloc, body.as_slice())?)),
-            TStmt::If(c, a, b) => {
-                let b = TStmt::copy_boxed_option(alloc, b)?;
-                a.get().copy_if(alloc, c, b)
-            }
-            TStmt::While(c, body) => body.get().copy_while(alloc, c),
-            TStmt::Do(body, c) => body.get().copy_do(alloc, c),
-            TStmt::For(first, c, last, body) => {
-                let first = TStmt::copy_boxed_option(alloc, first)?;
-                let last = TStmt::copy_boxed_option(alloc, last)?;
-                body.get().copy_for(alloc, first, c, last)
-            }
-            TStmt::Return(value) => Ok(TStmt::Return(TExpr::copy_option(alloc, value)?)),
-            TStmt::Break => Ok(TStmt::Break),
-            TStmt::Continue => Ok(TStmt::Continue),
+        copy_nested(alloc, self)
+    }
+
+    /// Equal statements.
+    pub fn copy_all(alloc: Global, stmts: &[TStmt]) -> Result<Items<TStmt>, NoMemory>
+        ensures { IfOk result (λ copy. copy ≡ stmts.now) }
+    {
+        let mut copies = Items::new(alloc);
+        for stmt in stmts {
+            copies.push(stmt.copy(alloc)?)?;
         }
+        Ok(copies)
     }
 
     /// `name[index] = value`, copied.
@@ -82,76 +71,97 @@ impl TStmt {
         ))
     }
 
-    /// `if (c) self else b`, copied but for `b`, which it takes.
-    #[cycle(copy_tstmt)]
-    fn copy_if(&self, alloc: Global, c: &TExpr, b: Option<Boxed<TStmt>>) -> Result<TStmt, NoMemory>
-        ensures { IfOk result (λ copy. copy ≡ If c.now self.now b) }
-    {
-        Ok(TStmt::If(c.copy(alloc)?, self.copy_boxed(alloc)?, b))
-    }
-
-    /// `while (c) self`, copied.
-    #[cycle(copy_tstmt)]
-    fn copy_while(&self, alloc: Global, c: &TExpr) -> Result<TStmt, NoMemory>
-        ensures { IfOk result (λ copy. copy ≡ While c.now self.now) }
-    {
-        Ok(TStmt::While(c.copy(alloc)?, self.copy_boxed(alloc)?))
-    }
-
-    /// `do self while (c)`, copied.
-    #[cycle(copy_tstmt)]
-    fn copy_do(&self, alloc: Global, c: &TExpr) -> Result<TStmt, NoMemory>
-        ensures { IfOk result (λ copy. copy ≡ Do self.now c.now) }
-    {
-        Ok(TStmt::Do(self.copy_boxed(alloc)?, c.copy(alloc)?))
-    }
-
-    /// `for (first; c; last) self`, copied but for `first` and `last`, which it takes.
-    #[cycle(copy_tstmt)]
-    fn copy_for(
-        &self,
+    /// An equal `if`, from copies of its statements.
+    fn copy_if(
         alloc: Global,
-        first: Option<Boxed<TStmt>>,
-        c: &Option<TExpr>,
-        last: Option<Boxed<TStmt>>,
+        c: &TExpr,
+        yes: &Boxed<TStmt>,
+        no: &Option<Boxed<TStmt>>,
+        copies: Items<TStmt>,
     ) -> Result<TStmt, NoMemory>
-        ensures { IfOk result (λ copy. copy ≡ For first c.now last self.now) }
+        requires { copies ≡ yes.now ∷ before no.now [] }
+        ensures { IfOk result (λ copy. copy ≡ If c.now yes.now no.now) }
     {
-        let c = TExpr::copy_option(alloc, c)?;
-        Ok(TStmt::For(first, c, last, self.copy_boxed(alloc)?))
+        let mut copies = copies;
+        let no = pop_boxed_option(alloc, &mut copies, no)?;
+        let yes = pop_boxed(alloc, &mut copies)?;
+        Ok(TStmt::If(c.copy(alloc)?, yes, no))
     }
 
-    /// An equal statement in a box of its own.
-    #[cycle(copy_tstmt)]
-    fn copy_boxed(&self, alloc: Global) -> Result<Boxed<TStmt>, NoMemory>
+    /// An equal `for`, from copies of its statements.
+    fn copy_for(
+        alloc: Global,
+        first: &Option<Boxed<TStmt>>,
+        c: &Option<TExpr>,
+        last: &Option<Boxed<TStmt>>,
+        body: &Boxed<TStmt>,
+        copies: Items<TStmt>,
+    ) -> Result<TStmt, NoMemory>
+        requires { copies ≡ before first.now (before last.now (body.now ∷ [])) }
+        ensures { IfOk result (λ copy. copy ≡ For first.now c.now last.now body.now) }
+    {
+        let mut copies = copies;
+        let body = pop_boxed(alloc, &mut copies)?;
+        let last = pop_boxed_option(alloc, &mut copies, last)?;
+        let first = pop_boxed_option(alloc, &mut copies, first)?;
+        Ok(TStmt::For(first, TExpr::copy_option(alloc, c)?, last, body))
+    }
+}
+
+impl Nested for TStmt {
+    ghost parts = { typed_parts_of };
+
+    #[tactic(auto, using(crate::proofs::Parts::typed_parts_of_eval, crate::proofs::Parts::typed_parts_of_set_local, crate::proofs::Parts::typed_parts_of_set_var, crate::proofs::Parts::typed_parts_of_set_elem, crate::proofs::Parts::typed_parts_of_block, crate::proofs::Parts::typed_parts_of_if, crate::proofs::Parts::typed_parts_of_while, crate::proofs::Parts::typed_parts_of_do, crate::proofs::Parts::typed_parts_of_for, crate::proofs::Parts::typed_parts_of_return, crate::proofs::Parts::typed_parts_of_break, crate::proofs::Parts::typed_parts_of_continue))]
+    fn part(&self, number: usize) -> Option<&TStmt>
+        ensures { option_copied result ≡ slice_get (typed_parts_of self.now) number }
+    {
+        match self {
+            TStmt::Block(body) => body.get(number),
+            TStmt::If(_, yes, no) => part_of_if(yes, no, number),
+            TStmt::While(_, body) => only_part(body, number),
+            TStmt::Do(body, _) => only_part(body, number),
+            TStmt::For(first, _, last, body) => part_of_for(first, last, body, number),
+            TStmt::Eval(_)
+            | TStmt::SetLocal(_, _)
+            | TStmt::SetVar(_, _)
+            | TStmt::SetElem(_, _, _, _, _)
+            | TStmt::Return(_)
+            | TStmt::Break
+            | TStmt::Continue => None,
+        }
+    }
+
+    #[tactic(auto, using(crate::proofs::Parts::typed_parts_of_eval, crate::proofs::Parts::typed_parts_of_set_local, crate::proofs::Parts::typed_parts_of_set_var, crate::proofs::Parts::typed_parts_of_set_elem, crate::proofs::Parts::typed_parts_of_block, crate::proofs::Parts::typed_parts_of_if, crate::proofs::Parts::typed_parts_of_while, crate::proofs::Parts::typed_parts_of_do, crate::proofs::Parts::typed_parts_of_for, crate::proofs::Parts::typed_parts_of_return, crate::proofs::Parts::typed_parts_of_break, crate::proofs::Parts::typed_parts_of_continue))]
+    fn around(&self, alloc: Global, copies: Items<TStmt>) -> Result<TStmt, NoMemory>
+        requires { copies ≡ typed_parts_of self.now }
         ensures { IfOk result (λ copy. copy ≡ self.now) }
     {
-        Ok(Boxed::new(alloc, self.copy(alloc)?)?)
-    }
-
-    /// An equal statement in a box of its own, or none.
-    #[cycle(copy_tstmt)]
-    fn copy_boxed_option(
-        alloc: Global,
-        stmt: &Option<Boxed<TStmt>>,
-    ) -> Result<Option<Boxed<TStmt>>, NoMemory>
-        ensures { IfOk result (λ copy. copy ≡ stmt.now) }
-    {
-        match stmt {
-            Some(stmt) => Ok(Some(stmt.get().copy_boxed(alloc)?)),
-            None => Ok(None),
+        match self {
+            TStmt::Block(_) => Ok(TStmt::Block(copies)),
+            TStmt::If(c, yes, no) => TStmt::copy_if(alloc, c, yes, no, copies),
+            TStmt::While(c, body) => {
+                let body = only_copy(alloc, body, copies)?;
+                Ok(TStmt::While(c.copy(alloc)?, body))
+            }
+            TStmt::Do(body, c) => {
+                let body = only_copy(alloc, body, copies)?;
+                Ok(TStmt::Do(body, c.copy(alloc)?))
+            }
+            TStmt::For(first, c, last, body) => {
+                TStmt::copy_for(alloc, first, c, last, body, copies)
+            }
+            TStmt::Eval(e) => Ok(TStmt::Eval(e.copy(alloc)?)),
+            TStmt::SetLocal(number, value) => Ok(TStmt::SetLocal(
+                *number,
+                TExpr::copy_option(alloc, value)?,
+            )),
+            TStmt::SetVar(name, value) => Ok(TStmt::SetVar(name.copy(alloc)?, value.copy(alloc)?)),
+            TStmt::SetElem(name, size, line, index, value) => {
+                TStmt::copy_set_elem(alloc, name, *size, *line, index, value)
+            }
+            TStmt::Return(value) => Ok(TStmt::Return(TExpr::copy_option(alloc, value)?)),
+            TStmt::Break => Ok(TStmt::Break),
+            TStmt::Continue => Ok(TStmt::Continue),
         }
-    }
-
-    /// Equal statements.
-    #[cycle(copy_tstmt)]
-    pub fn copy_all(alloc: Global, stmts: &[TStmt]) -> Result<Items<TStmt>, NoMemory>
-        ensures { IfOk result (λ copy. copy ≡ stmts.now) }
-    {
-        let mut copies = Items::new(alloc);
-        for stmt in stmts {
-            copies.push(stmt.copy(alloc)?)?;
-        }
-        Ok(copies)
     }
 }

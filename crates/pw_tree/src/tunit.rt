@@ -4,8 +4,7 @@ ghost use Rattle.std.specs.Prelude.{◌≡◌, IfOk};
 use crate::copies::{Duplicate, copy_all};
 use crate::tstmt::TStmt;
 use crate::ty::{Ref, Sig, Ty};
-use crate::type_text::TypeText;
-use pw_base::{Name, NoMemory};
+use pw_base::{Name, NoMemory, TypeText};
 use sqlite_items::Items;
 use std::alloc::Global;
 

@@ -1,5 +1,4 @@
 -- The sentence, the end of the line, and the flush.
-use Rattle.std.proofs.Common.{refl, ◌∙◌}
 use Rattle.pw_cmd.proofs.Lines.{line_ends, put_more}
 use Rattle.pw_cmd.proofs.message.put_line.Goals as goal
 

@@ -1,0 +1,36 @@
+-- The typed functions of declarations weigh what the declarations do.
+use Rattle.std.proofs.Common.{◌≡◌, suc, List, [], ◌∷◌, sum_by, refl, ap, arith}
+use Rattle.std.proofs.lemmas.List.Sums.{sum_by-append, sum_by-cons}
+use Rattle.pw_grammar.specs.Weights as written
+use Rattle.pw_tree.specs.Declarations.{Declaration, DeclarationForm, prototype, definition, variable}
+use Rattle.pw_tree.specs.Statements.{Statements, nil, cons}
+use Rattle.pw_types.specs.Blocks.{Setting, Block, behind}
+use Rattle.pw_types.specs.Commands.{commands_of}
+use Rattle.pw_types.specs.Declarations.{Whole, declared_by, file_scope, outermost, setting}
+use Rattle.pw_types.specs.declared.names.File.{File}
+use Rattle.pw_types.specs.Units.{typed_functions_of, typed_functions}
+use Rattle.pw_front.specs.Weights.{statement_count, weight}
+
+-- a typed body has as many statements as the body
+same_count : (x : Setting) (b : Block) (ss : Statements) → statement_count (commands_of x b ss) ≡ written.statement_count ss
+unfolding commands_of statement_count written.statement_count
+same_count x b nil = refl
+same_count x b (cons s ss) = ap suc (same_count x (behind s b) ss)
+
+form_weighs : (w : Whole) (files : List File) (d : Declaration) (form : DeclarationForm)
+    → sum_by weight (typed_functions_of w files d form) ≡ written.form_weight form
+form_weighs w files d (prototype result params) = refl
+form_weighs w files d (definition result params body) =
+    omega (arith, same_count (setting w.lines result) (outermost (file_scope w files) params) body)
+form_weighs w files d (variable ty size items) = refl
+
+pub functions_weigh : (w : Whole) (files : List File) (ds : List Declaration)
+    → sum_by weight (typed_functions w files ds) ≡ sum_by written.weight ds
+unfolding typed_functions
+functions_weigh w files [] = refl
+functions_weigh w files (d ∷ ds) =
+    let here = form_weighs w (declared_by d files) d d.form in
+    let later = functions_weigh w (declared_by d files) ds in
+    let sums = sum_by-append weight (typed_functions_of w (declared_by d files) d d.form) (typed_functions w (declared_by d files) ds) in
+    let last = sum_by-cons written.weight d ds in
+    omega (arith, here, later, sums, last)

@@ -1,6 +1,0 @@
-use Rattle.std.proofs.Common.{◌≡◌, ◌-◌, []}
-use Rattle.pw_front.specs.Reading as spec
-use Rattle.pw_front.proofs.parse.functions.Given as goal
-
-abbrev pub invariant-loop-turn : goal.invariant-loop-turn
-invariant-loop-turn l = spec.functions l.most [] l.initial.reader ≡ spec.functions (l.most - l._turn) l.found l.reader

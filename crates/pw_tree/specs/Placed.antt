@@ -1,0 +1,218 @@
+-- How the trees of a unit that was read stand in its tokens: the parts of a phrase in order of text, none over another, and
+-- within the phrase; and which types stand where.
+use Rattle.std.specs.Prelude.{◌≡◌, ℕ, suc, ◌+◌, ◌-◌, ◌^◌, ◌<◌, ◌≤◌, Bool, true, false, if◌then◌else◌, List, [], ◌∷◌, length, Option, Some, None, is_some, ⊤}
+use Rattle.pw_tree.specs.declared.ty.Ty.{Ty}
+use Rattle.pw_tree.specs.declared.ty.Ty.TheVariants.{Void, Long, Ulong, Fn}
+use Rattle.pw_tree.specs.declared.decl.Param.{Param}
+use Rattle.pw_tree.specs.declared.decl.InitItem.{InitItem}
+use Rattle.pw_tree.specs.Phrases.{Place, Phrase, Phrases, constant, word, unary, binary, conditional, call, index, input, output}
+use Rattle.pw_tree.specs.Phrases as phrase
+use Rattle.pw_tree.specs.Statements.{Statement, Statements, Maybe, empty, block, local, set, evaluate, if_else, while_loop, do_loop, for_loop, returns, breaks, continues, nil, cons, absent, present}
+use Rattle.pw_tree.specs.Declarations.{Declaration, DeclarationForm, prototype, definition, variable, WrittenUnit}
+
+-- ---- expressions
+
+abbrev pub place_of : Phrase → Place
+place_of (constant at n unsigned) = at
+place_of (word at name) = at
+place_of (unary at op e) = at
+place_of (binary at op l r) = at
+place_of (conditional at c a b) = at
+place_of (call at f es) = at
+place_of (index at b i) = at
+place_of (input at) = at
+place_of (output at e) = at
+
+-- a place among the tokens from `low` to `high`
+pub record IsWithin (low high : ℕ) (at : Place) : Type 0 where
+  pub from : low ≤ at.first
+  pub some : at.first ≤ at.last
+  pub to : at.last ≤ high
+
+-- the token behind an expression
+abbrev pub behind : Phrase → ℕ
+behind e = suc (place_of e).last
+
+unfoldable mutual
+  -- the expression stands among these tokens, and its parts in order within it
+  pub IsPlaced : ℕ → ℕ → Phrase → Type 0
+  IsPlaced low high (constant at n unsigned) = IsWithin low high at
+  IsPlaced low high (word at name) = IsWithin low high at
+  IsPlaced low high (unary at op e) = IsWithin low high at × IsPlaced at.first at.last e
+  IsPlaced low high (binary at op l r) = IsWithin low high at × IsPlaced at.first at.last l × IsPlaced (behind l) at.last r
+  IsPlaced low high (conditional at c a b) =
+      IsWithin low high at × IsPlaced at.first at.last c × IsPlaced (behind c) at.last a × IsPlaced (behind a) at.last b
+  IsPlaced low high (call at f es) = IsWithin low high at × IsPlaced at.first at.last f × ArePlaced (behind f) at.last es
+  IsPlaced low high (index at b i) = IsWithin low high at × IsPlaced at.first at.last b × IsPlaced (behind b) at.last i
+  IsPlaced low high (input at) = IsWithin low high at
+  IsPlaced low high (output at e) = IsWithin low high at × IsPlaced at.first at.last e
+
+  -- each stands behind the last
+  pub ArePlaced : ℕ → ℕ → Phrases → Type 0
+  ArePlaced low high phrase.nil = ⊤
+  ArePlaced low high (phrase.cons e es) = IsPlaced low high e × ArePlaced (behind e) high es
+
+abbrev pub IsOptionPlaced : ℕ → ℕ → Option Phrase → Type 0
+IsOptionPlaced low high None = ⊤
+IsOptionPlaced low high (Some e) = IsPlaced low high e
+
+-- the token behind an expression, where there is one, or else this one
+abbrev pub behind_option : ℕ → Option Phrase → ℕ
+behind_option low None = low
+behind_option low (Some e) = behind e
+
+-- ---- statements
+
+-- the name of a local stands behind its type, which has one token, or two
+abbrev pub local_name_at : Place → Ty → ℕ
+local_name_at at Ulong = at.first + 2
+local_name_at at Void = at.first + 1
+local_name_at at Long = at.first + 1
+local_name_at at (Fn k) = at.first + 1
+
+-- the `]` of `name[i]`: as many brackets stand round the index behind it as before it
+abbrev pub index_end : Place → Phrase → ℕ
+index_end at i = (place_of i).last + ((place_of i).first - (at.first + 2)) + 1
+
+abbrev pub statement_place : Statement → Place
+statement_place (empty at) = at
+statement_place (block at ss) = at
+statement_place (local at ty name e) = at
+statement_place (set at name i e) = at
+statement_place (evaluate at e) = at
+statement_place (if_else at c a b) = at
+statement_place (while_loop at c s) = at
+statement_place (do_loop at s c) = at
+statement_place (for_loop at first c last s) = at
+statement_place (returns at e) = at
+statement_place (breaks at) = at
+statement_place (continues at) = at
+
+abbrev pub behind_statement : Statement → ℕ
+behind_statement s = suc (statement_place s).last
+
+abbrev pub behind_maybe : ℕ → Maybe → ℕ
+behind_maybe low absent = low
+behind_maybe low (present s) = behind_statement s
+
+-- the last token of an assignment: a part of a `for` has no `;` of its own
+abbrev pub set_end : Bool → Place → ℕ
+set_end in_head at = if in_head then at.last else at.last - 1
+
+-- the value stands behind the name, or behind the `]` of the index
+abbrev pub IsSetPlaced : ℕ → Place → Option Phrase → Phrase → Type 0
+IsSetPlaced end at None e = IsPlaced (at.first + 1) end e
+IsSetPlaced end at (Some i) e = IsPlaced (at.first + 2) end i × IsPlaced (suc (index_end at i)) end e
+
+unfoldable mutual
+  -- The statement stands among these tokens, and its parts in order within it; `in_head` says that it is a part of a `for`.
+  pub IsStatementPlaced : Bool → ℕ → ℕ → Statement → Type 0
+  IsStatementPlaced in_head low high (empty at) = IsWithin low high at
+  IsStatementPlaced in_head low high (block at ss) = IsWithin low high at × AreStatementsPlaced at.first at.last ss
+  IsStatementPlaced in_head low high (local at ty name e) =
+      IsWithin low high at × (local_name_at at ty ≤ at.last) × IsOptionPlaced (suc (local_name_at at ty)) at.last e
+  IsStatementPlaced in_head low high (set at name i e) = IsWithin low high at × IsSetPlaced (set_end in_head at) at i e
+  IsStatementPlaced in_head low high (evaluate at e) = IsWithin low high at × IsPlaced at.first at.last e
+  IsStatementPlaced in_head low high (if_else at c a b) =
+      IsWithin low high at × IsPlaced at.first at.last c × IsStatementPlaced false (behind c) at.last a
+      × IsMaybePlaced false (behind_statement a) at.last b
+  IsStatementPlaced in_head low high (while_loop at c s) =
+      IsWithin low high at × IsPlaced at.first at.last c × IsStatementPlaced false (behind c) at.last s
+  IsStatementPlaced in_head low high (do_loop at s c) =
+      IsWithin low high at × IsStatementPlaced false at.first at.last s × IsPlaced (behind_statement s) at.last c
+  IsStatementPlaced in_head low high (for_loop at first c last s) =
+      IsWithin low high at × IsMaybePlaced true at.first at.last first
+      × IsOptionPlaced (behind_maybe at.first first) at.last c
+      × IsMaybePlaced true (behind_option (behind_maybe at.first first) c) at.last last
+      × IsStatementPlaced false (behind_maybe (behind_option (behind_maybe at.first first) c) last) at.last s
+  IsStatementPlaced in_head low high (returns at e) = IsWithin low high at × IsOptionPlaced at.first at.last e
+  IsStatementPlaced in_head low high (breaks at) = IsWithin low high at
+  IsStatementPlaced in_head low high (continues at) = IsWithin low high at
+
+  pub AreStatementsPlaced : ℕ → ℕ → Statements → Type 0
+  AreStatementsPlaced low high nil = ⊤
+  AreStatementsPlaced low high (cons s ss) =
+      IsStatementPlaced false low high s × AreStatementsPlaced (behind_statement s) high ss
+
+  pub IsMaybePlaced : Bool → ℕ → ℕ → Maybe → Type 0
+  IsMaybePlaced in_head low high absent = ⊤
+  IsMaybePlaced in_head low high (present s) = IsStatementPlaced in_head low high s
+
+-- ---- declarations
+
+unfoldable pub AreParametersPlaced : ℕ → ℕ → List Param → Type 0
+AreParametersPlaced low high [] = ⊤
+AreParametersPlaced low high (p ∷ ps) =
+    (low ≤ p.first) × (p.first ≤ p.last) × (p.last ≤ high) × AreParametersPlaced (suc p.last) high ps
+
+unfoldable pub AreElementsPlaced : ℕ → ℕ → List InitItem → Type 0
+AreElementsPlaced low high [] = ⊤
+AreElementsPlaced low high (item ∷ items) =
+    (low ≤ item.first) × (item.first ≤ item.last) × (item.last ≤ high) × AreElementsPlaced (suc item.last) high items
+
+abbrev pub IsInitialiserPlaced : ℕ → ℕ → Option (List InitItem) → Type 0
+IsInitialiserPlaced low high None = ⊤
+IsInitialiserPlaced low high (Some items) = AreElementsPlaced low high items
+
+-- parameters stand between the name and the declarator's end, the rest behind it
+abbrev pub IsFormPlaced : Declaration → DeclarationForm → Type 0
+IsFormPlaced d (prototype result params) = AreParametersPlaced (suc d.name_at) d.declarator params
+IsFormPlaced d (definition result params body) =
+    AreParametersPlaced (suc d.name_at) d.declarator params × AreStatementsPlaced (suc d.declarator) d.last body
+IsFormPlaced d (variable ty size init) = IsInitialiserPlaced (suc d.declarator) d.last init
+
+pub record IsDeclarationPlaced (low high : ℕ) (d : Declaration) : Type 0 where
+  pub from : low ≤ d.first
+  pub name : d.first ≤ d.name_at
+  pub declarator : d.name_at ≤ d.declarator
+  pub end : d.declarator ≤ d.last
+  pub to : d.last < high
+  pub form : IsFormPlaced d d.form
+
+-- each stands behind the last, before this token
+unfoldable pub AreDeclarationsPlaced : ℕ → ℕ → List Declaration → Type 0
+AreDeclarationsPlaced low high [] = ⊤
+AreDeclarationsPlaced low high (d ∷ ds) = IsDeclarationPlaced low high d × AreDeclarationsPlaced (suc d.last) high ds
+
+-- ---- types
+
+-- pointers are to functions with at most 6 parameters
+abbrev pub IsType : Ty → Type 0
+IsType Void = ⊤
+IsType Long = ⊤
+IsType Ulong = ⊤
+IsType (Fn k) = k ≤ 6
+
+-- the same, and it is not void
+abbrev pub IsValueType : Ty → Type 0
+IsValueType Void = ⊥
+IsValueType Long = ⊤
+IsValueType Ulong = ⊤
+IsValueType (Fn k) = k ≤ 6
+
+unfoldable pub HaveValueTypes : List Param → Type 0
+HaveValueTypes [] = ⊤
+HaveValueTypes (p ∷ ps) = IsValueType p.ty × HaveValueTypes ps
+
+-- each has a name
+unfoldable pub HaveNames : List Param → Type 0
+HaveNames [] = ⊤
+HaveNames (p ∷ ps) = (is_some p.name ≡ true) × HaveNames ps
+
+-- a definition's parameters have names (C17, 6.9.1)
+abbrev pub HasTypes : DeclarationForm → Type 0
+HasTypes (prototype result params) = IsType result × HaveValueTypes params
+HasTypes (definition result params body) = IsType result × HaveValueTypes params × HaveNames params
+HasTypes (variable ty size init) = IsValueType ty
+
+unfoldable pub HaveTypes : List Declaration → Type 0
+HaveTypes [] = ⊤
+HaveTypes (d ∷ ds) = HasTypes d.form × HaveTypes ds
+
+-- ---- units
+
+-- The unit is one that was read: fewer than 2 to the 32nd tokens, in which it is placed, and types where they may stand.
+pub record IsWritten (unit : WrittenUnit) : Type 0 where
+  pub few : length unit.lines < 2 ^ 32
+  pub placed : AreDeclarationsPlaced 0 (length unit.lines) unit.declarations
+  pub types : HaveTypes unit.declarations

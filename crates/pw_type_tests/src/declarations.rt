@@ -1,0 +1,58 @@
+//! Faults of declarations.
+
+use crate::told::told;
+use std::test::Fail;
+
+/// Values that do not fit a variable.
+const INITIALISERS: [(&str, &str); 5] = [
+    ("fn1 p = 3;", "Initialiser at line 1 token 3"),
+    (
+        "long f(void) { return 0; } long a = f;",
+        "Initialiser at line 1 token 13",
+    ),
+    (
+        "long f(void) { return 0; } fn1 p = f;",
+        "Initialiser at line 1 token 13",
+    ),
+    ("long a; fn0 p = a;", "Initialiser at line 1 token 6"),
+    ("long t[2] = { 1, 2, 3 };", "Initialiser at line 1 token 11"),
+];
+
+/// Arrays of no elements or too many, and functions of too many parameters.
+const SIZES: [(&str, &str); 6] = [
+    ("long t[0];", "ArraySize at line 1 token 4"),
+    ("long t[65537];", "ArraySize at line 1 token 4"),
+    ("extern long t[65537];", "ArraySize at line 1 token 5"),
+    (
+        "extern long t[9223372036854775807];",
+        "ArraySize at line 1 token 5",
+    ),
+    (
+        "long f(long, long, long, long, long, long, long);",
+        "TooManyParameters at line 1 token 15",
+    ),
+    (
+        "long f(long a, long b, long c, long d, long e, long g, long h) { return 0; }",
+        "TooManyParameters at line 1 token 22",
+    ),
+];
+
+#[test]
+fn a_variable_begins_with_what_fits(rt: HostRuntime) -> Result<(), Fail> {
+    for (text, expected) in INITIALISERS {
+        assert!(rt; text.len() < 10_000);
+        let told = told(rt.alloc(), text.as_bytes())?;
+        assert_eq!(rt; told.as_str(), expected, "in {text:?}");
+    }
+    Ok(())
+}
+
+#[test]
+fn sizes_are_limited(rt: HostRuntime) -> Result<(), Fail> {
+    for (text, expected) in SIZES {
+        assert!(rt; text.len() < 10_000);
+        let told = told(rt.alloc(), text.as_bytes())?;
+        assert_eq!(rt; told.as_str(), expected, "in {text:?}");
+    }
+    Ok(())
+}

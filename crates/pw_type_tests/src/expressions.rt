@@ -1,0 +1,134 @@
+//! Faults of expressions.
+
+use crate::told::told;
+use std::test::Fail;
+
+/// Values and operands of other types than are wanted.
+const OPERANDS: [(&str, &str); 8] = [
+    (
+        "void v(void) { } long main(void) { return v() + 1; }",
+        "NotValue at line 1 token 16",
+    ),
+    (
+        "void v(void) { } long main(void) { long a = v(); return a; }",
+        "NotValue at line 1 token 18",
+    ),
+    (
+        "long g(unsigned long a) { return a; } long main(void) { return g; }",
+        "NotValue at line 1 token 19",
+    ),
+    (
+        "fn1 p; long main(void) { return p + 1; }",
+        "Operands at line 1 token 12",
+    ),
+    (
+        "fn0 p; fn1 q; long main(void) { return p == q; }",
+        "Operands at line 1 token 15",
+    ),
+    (
+        "fn0 p; long main(void) { return 1 ? p : 2; }",
+        "Operands at line 1 token 14",
+    ),
+    (
+        "long t[2]; fn0 p; long main(void) { return t[p]; }",
+        "Operands at line 1 token 19",
+    ),
+    (
+        "long t[2]; fn0 p; long main(void) { t[p] = 1; return 0; }",
+        "Operands at line 1 token 18",
+    ),
+];
+
+/// Calls of what is no function, or with other arguments.
+const CALLS: [(&str, &str); 6] = [
+    (
+        "long f(long a) { return a; }\nlong main(void) { return f(); }",
+        "ArgCount at line 2 token 20",
+    ),
+    (
+        "long f(void) { return 0; } long main(void) { return f(1); }",
+        "ArgCount at line 1 token 20",
+    ),
+    (
+        "fn0 p; long main(void) { __out(p); return 0; }",
+        "ArgType at line 1 token 11",
+    ),
+    (
+        "fn0 p; long f(long a) { return a; } long main(void) { return f(p); }",
+        "ArgType at line 1 token 23",
+    ),
+    (
+        "long a; long main(void) { return a(1); }",
+        "NotCallable at line 1 token 10",
+    ),
+    (
+        "long main(void) { return 1(2); }",
+        "NotCallable at line 1 token 7",
+    ),
+];
+
+/// Arrays without an index, an index without an array, and assignments to what does not fit.
+const ARRAYS: [(&str, &str); 8] = [
+    (
+        "long a; long main(void) { return a[1]; }",
+        "NotArray at line 1 token 10",
+    ),
+    (
+        "long a; long main(void) { a[1] = 2; return 0; }",
+        "NotArray at line 1 token 9",
+    ),
+    (
+        "long main(void) { long a; return a[1]; }",
+        "NotArray at line 1 token 10",
+    ),
+    (
+        "long t[3]; long main(void) { return t; }",
+        "NeedsIndex at line 1 token 13",
+    ),
+    (
+        "long t[3]; long main(void) { t = 1; return 0; }",
+        "NeedsIndex at line 1 token 12",
+    ),
+    (
+        "fn0 p; long main(void) { long a; a = p; return 0; }",
+        "AssignType at line 1 token 14",
+    ),
+    (
+        "long f(void) { return 0; } long main(void) { f = 1; return 0; }",
+        "AssignType at line 1 token 16",
+    ),
+    (
+        "fn0 p; long main(void) { p = 1; return 0; }",
+        "AssignType at line 1 token 11",
+    ),
+];
+
+#[test]
+fn operators_take_numbers_or_two_equal_pointers(rt: HostRuntime) -> Result<(), Fail> {
+    for (text, expected) in OPERANDS {
+        assert!(rt; text.len() < 10_000);
+        let told = told(rt.alloc(), text.as_bytes())?;
+        assert_eq!(rt; told.as_str(), expected, "in {text:?}");
+    }
+    Ok(())
+}
+
+#[test]
+fn a_call_has_the_arguments_that_its_callee_takes(rt: HostRuntime) -> Result<(), Fail> {
+    for (text, expected) in CALLS {
+        assert!(rt; text.len() < 10_000);
+        let told = told(rt.alloc(), text.as_bytes())?;
+        assert_eq!(rt; told.as_str(), expected, "in {text:?}");
+    }
+    Ok(())
+}
+
+#[test]
+fn an_array_stands_with_an_index(rt: HostRuntime) -> Result<(), Fail> {
+    for (text, expected) in ARRAYS {
+        assert!(rt; text.len() < 10_000);
+        let told = told(rt.alloc(), text.as_bytes())?;
+        assert_eq!(rt; told.as_str(), expected, "in {text:?}");
+    }
+    Ok(())
+}

@@ -1,0 +1,140 @@
+//! Faults of names.
+
+use crate::told::told;
+use std::test::Fail;
+
+/// Names that are not visible, and static functions that are not defined.
+const UNKNOWN: [(&str, &str); 7] = [
+    (
+        "long main(void) { return x; }",
+        "Unknown at line 1 token 7 of x",
+    ),
+    (
+        "long main(void) {\n  x = 1;\n  return 0;\n}",
+        "Unknown at line 2 token 6 of x",
+    ),
+    (
+        "long main(void) { x[0] = 1; return 0; }",
+        "Unknown at line 1 token 6 of x",
+    ),
+    (
+        "static long f(void);\nlong main(void) { return f(); }\n",
+        "Unknown at line 2 token 18 of f",
+    ),
+    (
+        "static long f(void); static long g(void);",
+        "Unknown at line 1 token 13 of f",
+    ),
+    (
+        "fn0 p = f; long f(void) { return 0; }",
+        "Unknown at line 1 token 3 of f",
+    ),
+    ("fn0 p[2] = { f, 0 };", "Unknown at line 1 token 7 of f"),
+];
+
+/// Names that are defined twice.
+const REDECLARED: [(&str, &str); 5] = [
+    ("long a; long a;", "Redeclared at line 1 token 4 of a"),
+    (
+        "long f(void) { return 1; } long f(void) { return 2; }",
+        "Redeclared at line 1 token 11 of f",
+    ),
+    (
+        "long f(long a, long a) { return a; }",
+        "Redeclared at line 1 token 7 of a",
+    ),
+    (
+        "long main(void) { long a; long a; return 0; }",
+        "Redeclared at line 1 token 10 of a",
+    ),
+    (
+        "long main(long a) { long a; return 0; }",
+        "Redeclared at line 1 token 8 of a",
+    ),
+];
+
+/// Names that are declared otherwise before.
+const CONFLICTS: [(&str, &str); 7] = [
+    (
+        "long f(long a); unsigned long f(long a) { return a; }",
+        "Conflict at line 1 token 13 of f",
+    ),
+    (
+        "long f(long a); long f(unsigned long a) { return 1; }",
+        "Conflict at line 1 token 13 of f",
+    ),
+    (
+        "long f(long a); long f(void) { return 1; }",
+        "Conflict at line 1 token 11 of f",
+    ),
+    (
+        "static long f(void); long f(void) { return 1; }",
+        "Conflict at line 1 token 11 of f",
+    ),
+    (
+        "extern long a[3]; long a[4];",
+        "Conflict at line 1 token 11 of a",
+    ),
+    (
+        "extern long a; long a[1];",
+        "Conflict at line 1 token 8 of a",
+    ),
+    ("long a; long a(void);", "Conflict at line 1 token 7 of a"),
+];
+
+/// Names that no declaration may have.
+const RESERVED: [(&str, &str); 4] = [
+    ("long __a;", "Reserved at line 1 token 1 of __a"),
+    (
+        "long _start(void) { return 0; }",
+        "Reserved at line 1 token 1 of _start",
+    ),
+    (
+        "long f(long register);",
+        "Reserved at line 1 token 4 of register",
+    ),
+    (
+        "long main(void) { long sizeof; return 0; }",
+        "Reserved at line 1 token 7 of sizeof",
+    ),
+];
+
+#[test]
+fn a_name_is_declared_before_it_is_used(rt: HostRuntime) -> Result<(), Fail> {
+    for (text, expected) in UNKNOWN {
+        assert!(rt; text.len() < 10_000);
+        let told = told(rt.alloc(), text.as_bytes())?;
+        assert_eq!(rt; told.as_str(), expected, "in {text:?}");
+    }
+    Ok(())
+}
+
+#[test]
+fn a_name_is_defined_once(rt: HostRuntime) -> Result<(), Fail> {
+    for (text, expected) in REDECLARED {
+        assert!(rt; text.len() < 10_000);
+        let told = told(rt.alloc(), text.as_bytes())?;
+        assert_eq!(rt; told.as_str(), expected, "in {text:?}");
+    }
+    Ok(())
+}
+
+#[test]
+fn the_declarations_of_a_name_agree(rt: HostRuntime) -> Result<(), Fail> {
+    for (text, expected) in CONFLICTS {
+        assert!(rt; text.len() < 10_000);
+        let told = told(rt.alloc(), text.as_bytes())?;
+        assert_eq!(rt; told.as_str(), expected, "in {text:?}");
+    }
+    Ok(())
+}
+
+#[test]
+fn some_names_are_reserved(rt: HostRuntime) -> Result<(), Fail> {
+    for (text, expected) in RESERVED {
+        assert!(rt; text.len() < 10_000);
+        let told = told(rt.alloc(), text.as_bytes())?;
+        assert_eq!(rt; told.as_str(), expected, "in {text:?}");
+    }
+    Ok(())
+}

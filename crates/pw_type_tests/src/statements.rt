@@ -1,0 +1,32 @@
+//! Faults of statements.
+
+use crate::told::told;
+use std::test::Fail;
+
+/// Statements that leave a function or a loop.
+const LEAVING: [(&str, &str); 5] = [
+    ("void f(void) { return 1; }", "ReturnType at line 1 token 8"),
+    ("long f(void) { return; }", "ReturnType at line 1 token 7"),
+    (
+        "fn0 p; long f(void) { return p; }",
+        "ReturnType at line 1 token 11",
+    ),
+    (
+        "long main(void) { break; return 0; }",
+        "OutsideLoop at line 1 token 7",
+    ),
+    (
+        "long main(void) { while (1) { break; } continue; return 0; }",
+        "OutsideLoop at line 1 token 15",
+    ),
+];
+
+#[test]
+fn a_statement_leaves_with_what_is_wanted(rt: HostRuntime) -> Result<(), Fail> {
+    for (text, expected) in LEAVING {
+        assert!(rt; text.len() < 10_000);
+        let told = told(rt.alloc(), text.as_bytes())?;
+        assert_eq!(rt; told.as_str(), expected, "in {text:?}");
+    }
+    Ok(())
+}

@@ -1,0 +1,54 @@
+//! What typed units have.
+
+use crate::told::told;
+use std::test::Fail;
+
+/// Texts without faults, and their functions, variables and external names.
+const UNITS: [(&str, &str); 10] = [
+    ("", ""),
+    ("long a;", "var a external size 0 values 0;name a l;"),
+    (
+        "static long a; long b[3] = { 1, -2 };",
+        "var a internal size 0 values 0;var b external size 3 values 2;name b l[3];",
+    ),
+    (
+        "extern long e; extern long g(unsigned long a, fn3 p); long main(void) { return 0; }",
+        "fun main external line 1 locals 0 held 0;name main l();",
+    ),
+    (
+        "extern long e; long f(long a); fn1 p = f; static long g(void) { return e; }\nlong f(long a) { long b = a + (1 + 2); g(); return b; }",
+        "fun g internal line 1 locals 0 held 0;fun f external line 2 locals 2 held 2;var p external size 0 values 1;name e l;name f l(l);name p 1;",
+    ),
+    (
+        "extern fn2 p[16]; void q(void); long main(long a, fn2 b) { p[a] = b; q(); return a; }",
+        "fun main external line 1 locals 2 held 1;name p 2[16];name q v();name main l(l2);",
+    ),
+    (
+        "static long a; long b;",
+        "var a internal size 0 values 0;var b external size 0 values 0;name b l;",
+    ),
+    (
+        "static long f(long x) { return x; } fn1 t[2] = { f, f }; long main(void) { return t[0](1); }",
+        "fun f internal line 1 locals 1 held 0;fun main external line 1 locals 0 held 1;var t external size 2 values 2;name t 1[2];name main l();",
+    ),
+    (
+        "long f(void); long f(void); long f(void) { { long a; } { long a; long b; } return 0; }",
+        "fun f external line 1 locals 3 held 0;name f l();",
+    ),
+    (
+        "extern long a; extern long a; long a = 5;",
+        "var a external size 0 values 1;name a l;",
+    ),
+];
+
+#[test]
+fn a_unit_has_what_it_defines_and_the_external_names_that_it_uses(
+    rt: HostRuntime,
+) -> Result<(), Fail> {
+    for (text, expected) in UNITS {
+        assert!(rt; text.len() < 10_000);
+        let told = told(rt.alloc(), text.as_bytes())?;
+        assert_eq!(rt; told.as_str(), expected, "in {text:?}");
+    }
+    Ok(())
+}

@@ -1,0 +1,231 @@
+-- What an assignment comes to.
+use Rattle.std.proofs.Common.{◌≡◌, ℕ, suc, ◌+◌, ◌≤◌, min, max, Bool, true, false, not, List, [], ◌∷◌, ◌++◌, length, Option, Some, None, option_map, refl, sym, ap, ◌∙◌, subst, append_assoc, arith, nat_lt, slice_index_or}
+use Rattle.std.specs.Option.{option_map_or}
+use Rattle.std.proofs.lemmas.Bool.Decides.{nat_tests}
+use Rattle.pw_tree.specs.Phrases.{Place, Phrase}
+use Rattle.pw_tree.specs.Trees.{Tree, tree_of}
+use Rattle.pw_tree.specs.Statements.{Statement, set}
+use Rattle.pw_tree.specs.Placed.{set_end, index_end}
+use Rattle.pw_tree.specs.Commands.{Command}
+use Rattle.pw_tree.specs.Commands as command
+use Rattle.pw_tree.specs.declared.ty.Ty.{Ty}
+use Rattle.pw_tree.specs.declared.ty.Ref.{Ref}
+use Rattle.pw_tree.specs.declared.texpr.TExpr.{TExpr}
+use Rattle.pw_tree.specs.declared.tstmt.TStmt.TheVariants as kinds
+use Rattle.pw_tree.proofs.CommandFolds.{command_of-SetLocal, command_of-SetVar, command_of-SetElem}
+use Rattle.pw_types.specs.declared.names.Kind.{Kind}
+use Rattle.pw_types.specs.declared.names.File.{File}
+use Rattle.pw_types.specs.declared.fault.Fault.{Fault}
+use Rattle.pw_types.specs.declared.role.Role.TheVariants as roles
+use Rattle.pw_types.specs.declared.rule.Rule.TheVariants as rules
+use Rattle.pw_types.specs.declared.typed.Typed.{Typed}
+use Rattle.pw_types.specs.declared.statement_walk.Walk.{Walk}
+use Rattle.pw_types.specs.declared.statement_step.Setting.{Setting as Given}
+use Rattle.pw_types.specs.declared.statement_set.Array.{Array}
+use Rattle.pw_types.specs.declared.fault.Stop.{Stop}
+use Rattle.pw_types.specs.Faults.{broken}
+use Rattle.pw_types.specs.Scopes.{Scope, Meaning, meaning, declared}
+use Rattle.pw_types.specs.Held.{held, held_option, held_by, held_element}
+use Rattle.pw_types.specs.Uses.{uses, uses_of_meaning, uses_of_name}
+use Rattle.pw_types.specs.Typed.{typed, array_of_meaning, array_of_kind, array_named}
+use Rattle.pw_types.specs.Typed as typed_trees
+use Rattle.pw_types.specs.Expressions.{faults}
+use Rattle.pw_types.specs.Blocks.{Setting, Block, behind, uses_by, uses_of_option}
+use Rattle.pw_types.specs.Statements.{faults_of_target, faults_of_array, faults_by, type_of_target, type_of_kind, holds_too_many, element_holds_too_many}
+use Rattle.pw_types.specs.Commands.{tree_in, command_of, assigned, element_assigned, bracket_line}
+use Rattle.pw_types.specs.CheckingStatements.{Outcome, outcome, judged, block_of, outcome_at, judged_at, setting_of, Fails}
+use Rattle.pw_types.specs.StatementValues.{Notes, IsValue}
+use Rattle.pw_types.specs.StatementTargets.{IsFile, IsLocal, IsArray, IsIndex, IsElementValue, faults_of_index, faults_of_element_value, holds_too_many_beside}
+use Rattle.pw_types.proofs.EnclosingStatements.{same, in_front, tree_is}
+use Rattle.pw_types.proofs.SimpleStatements.{noted}
+use Rattle.pw_types.proofs.Failing.{fails_in_front, fails_as}
+
+-- ---- what is noted by several
+
+pub zero_held : (n : ℕ) → max 0 n ≡ n
+zero_held n = omega arith
+
+pub notes_behind : (us vs : List ℕ) (k : ℕ) (a b c : Walk) → Notes us 0 a b → Notes vs k b c → Notes (us ++ vs) k a c
+notes_behind us vs k a b c first second = record {
+  scope = second.scope ∙ first.scope;
+  start = second.start ∙ first.start;
+  count = second.count ∙ first.count;
+  used = second.used ∙ (ap (λ (u : List ℕ). u ++ vs) first.used ∙ append_assoc a.used.items us vs);
+  held = omega (arith, second.held, first.held);
+}
+
+-- a statement that declares nothing, without faults
+pub comes_to : (f : List Fault) (c d : Command) (us vs : List ℕ) (old new : Walk)
+    → f ≡ [] → c ≡ d → us ≡ vs → Notes vs (held_by d) old new
+    → let w : Outcome = record { faults = f; command = c; used = old.used.items ++ us; held = max old.held (held_by c); block = block_of old } in
+    w ≡ judged_at d new
+comes_to f c d us vs old new none is uses notes =
+    same none is (ap (λ (u : List ℕ). old.used.items ++ u) uses) (ap (λ (x : Command). max old.held (held_by x)) is) refl
+    ∙ noted d vs (held_by d) old new notes
+
+-- ---- a name
+
+-- the faults of the value that is assigned at a type
+abbrev faults_at : Scope → Option Ty → Phrase → ℕ → List Fault
+faults_at scope ty e end = faults scope (roles.Assigned ty) e ++ broken rules.TooDeep end (holds_too_many (typed scope e))
+
+pub sets_local : (x : Given) (old new : Walk) (at : Place) (name : List ℕ) (e : Phrase) (n : ℕ) (ty : Ty) (t : TExpr)
+    → faults_of_target old.scope name at.first ≡ [] → IsLocal old.scope name n ty
+    → faults_at old.scope (Some ty) e (set_end x.in_head at) ≡ [] → IsValue e old new t
+    → outcome_at x old (set at name None e) ≡ judged_at (command.command_of (kinds.SetLocal n (Some t))) new
+unfolding faults_by command_of uses_by held_by
+sets_local x old new at name e n ty t free target none value =
+    let is = tree_is old.scope e (tree_of t) value.tree in
+    let value_faults : faults_at old.scope (type_of_target (meaning old.scope name)) e (set_end x.in_head at) ≡ [] =
+    ap (λ (m : Meaning). faults_at old.scope (type_of_target m) e (set_end x.in_head at)) target.means
+    ∙ (ap (λ (u : Ty). faults_at old.scope (Some u) e (set_end x.in_head at)) (sym target.type_is) ∙ none) in
+    comes_to _ (assigned old.scope (meaning old.scope name) (tree_in old.scope e)) (command.set_local n (Some (tree_of t))) _ (uses old.scope e) old new
+    (in_front free ∙ value_faults)
+    (ap (λ (m : Meaning). assigned old.scope m (tree_in old.scope e)) target.means
+    ∙ (ap (λ (k : ℕ). command.set_local k (Some (tree_in old.scope e))) (sym target.number) ∙ ap (λ (v : Tree). command.set_local n (Some v)) is))
+    (ap (λ (m : Meaning). uses_of_meaning old.scope m ++ uses old.scope e) target.means)
+    value.notes
+    ∙ ap (λ (c : Command). judged_at c new) (sym (command_of-SetLocal n (Some t)))
+
+pub sets_variable : (x : Given) (old mid new : Walk) (at : Place) (name : List ℕ) (e : Phrase) (n : ℕ) (r : Ref) (ty : Ty) (t : TExpr)
+    → faults_of_target old.scope name at.first ≡ [] → IsFile old.scope name n r ty None → Notes (n ∷ []) 0 old mid
+    → faults_at mid.scope (Some ty) e (set_end x.in_head at) ≡ [] → IsValue e mid new t
+    → outcome_at x old (set at name None e) ≡ judged_at (command.command_of (kinds.SetVar r t)) new
+unfolding faults_by command_of uses_by held_by
+sets_variable x old mid new at name e n r ty t free target note none value =
+    let f = target.file in
+    let is = tree_is old.scope e (tree_of t) (ap (λ (s : Scope). typed s e) (sym note.scope) ∙ value.tree) in
+    let kind : type_of_target (meaning old.scope name) ≡ Some ty = ap type_of_target target.means ∙ ap type_of_kind target.kind in
+    let value_faults : faults_at old.scope (type_of_target (meaning old.scope name)) e (set_end x.in_head at) ≡ [] =
+    ap (λ (u : Option Ty). faults_at old.scope u e (set_end x.in_head at)) kind
+    ∙ (ap (λ (s : Scope). faults_at s (Some ty) e (set_end x.in_head at)) (sym note.scope) ∙ none) in
+    comes_to _ (assigned old.scope (meaning old.scope name) (tree_in old.scope e)) (command.set_variable r (tree_of t)) _ ((n ∷ []) ++ uses mid.scope e) old new
+    (in_front free ∙ value_faults)
+    (ap (λ (m : Meaning). assigned old.scope m (tree_in old.scope e)) target.means
+    ∙ (ap (λ (u : Ref). command.set_variable u (tree_in old.scope e)) (sym target.reference) ∙ ap (λ (v : Tree). command.set_variable r v) is))
+    (ap (λ (m : Meaning). uses_of_meaning old.scope m ++ uses old.scope e) target.means
+    ∙ (ap (λ (k : ℕ). k ∷ uses old.scope e) (sym target.number) ∙ ap (λ (s : Scope). n ∷ uses s e) (sym note.scope)))
+    (notes_behind (n ∷ []) (uses mid.scope e) (held (tree_of t)) old mid new note value.notes)
+    ∙ ap (λ (c : Command). judged_at c new) (sym (command_of-SetVar r t))
+
+-- ---- an element
+
+-- more than 100 values, where what the index holds is told up to 101
+pub capped : (h v : ℕ) → nat_lt 100 (max (min h 101) (1 + v)) ≡ nat_lt 100 (max h (1 + v))
+capped h v = grind (arith, nat_tests)
+
+pub exact : (h v : ℕ) → nat_lt 100 (max h (1 + v)) ≡ false → max (min h 101) (1 + v) ≡ max h (1 + v)
+exact h v few = grind (arith, nat_tests)
+
+not_broken : (at : ℕ) (b : Bool) → broken rules.TooDeep at b ≡ [] → b ≡ false
+not_broken at true none = cc
+not_broken at false none = refl
+
+none_behind : (xs ys : List Fault) → xs ++ ys ≡ [] → ys ≡ []
+none_behind [] ys none = none
+none_behind (f ∷ xs) ys none = cc
+
+none_before : (xs ys : List Fault) → xs ++ ys ≡ [] → xs ≡ []
+none_before [] ys none = refl
+none_before (f ∷ xs) ys none = cc
+
+-- what the assignment holds too many of, in one way and in the other
+same_too_many : (index value : Option Tree) (i : Tree) → index ≡ Some i
+    → holds_too_many_beside (min (held i) 101) value ≡ element_holds_too_many index value
+same_too_many index value i index_is = of_value value ∙ ap (λ (o : Option Tree). element_holds_too_many o value) (sym index_is)
+  where
+    of_value : (o : Option Tree) → holds_too_many_beside (min (held i) 101) o ≡ element_holds_too_many (Some i) o
+    of_value None = refl
+    of_value (Some v) = capped (held i) (held v)
+
+array_is : (scope : Scope) (name : List ℕ) (n : ℕ) (r : Ref) (ty : Ty) (size : ℕ) → IsFile scope name n r ty (Some size)
+    → array_named scope name ≡ Some (record { reference = r; ty = ty; size = size })
+array_is scope name n r ty size target =
+    ap (array_of_meaning scope) target.means
+    ∙ (ap (array_of_kind scope target.file) target.kind
+    ∙ ap (λ (u : Ref). let a : Option typed_trees.Array = Some (record { reference = u; ty = ty; size = size }) in a) (sym target.reference))
+
+-- the faults of the value that an element of an array of this name is assigned
+abbrev rest_of_faults : Scope → List ℕ → Phrase → Phrase → ℕ → List Fault
+rest_of_faults scope name i e end =
+    faults scope (roles.Assigned (option_map (λ (b : typed_trees.Array). b.ty) (array_named scope name))) e
+    ++ broken rules.TooDeep end (element_holds_too_many (typed scope i) (typed scope e))
+
+-- what stands before the value in an assignment to an element, which is judged so far
+pub record IsPrepared (old noted mid : Walk) (at : Place) (name : List ℕ) (i : Phrase) (a : Array) (index : Typed) : Type 0 where
+  pub free : faults_of_array old.scope name at.first ≡ []
+  pub target : IsArray old.scope name a
+  pub note : Notes (a.number ∷ []) 0 old noted
+  pub index_free : faults_of_index noted.scope at i ≡ []
+  pub index_is : IsIndex i noted mid index
+
+module _ (x : Given) (old noted mid : Walk) (at : Place) (name : List ℕ) (i e : Phrase) (a : Array) (index : Typed)
+    (p : IsPrepared old noted mid at name i a index) where
+  from : mid.scope ≡ old.scope
+  from = p.index_is.notes.scope ∙ p.note.scope
+
+  array : array_named old.scope name ≡ Some (record { reference = a.reference; ty = a.ty; size = a.size })
+  array = array_is old.scope name a.number a.reference a.ty a.size p.target
+
+  index_tree : typed old.scope i ≡ Some (tree_of index.tree)
+  index_tree = ap (λ (s : Scope). typed s i) (sym p.note.scope) ∙ p.index_is.tree
+
+  value_faults : (end : ℕ) → faults_of_element_value mid.scope index.held a.ty e end ≡ rest_of_faults old.scope name i e end
+  value_faults end =
+      ap (λ (s : Scope). faults_of_element_value s index.held a.ty e end) from
+      ∙ (ap (λ (o : Option typed_trees.Array). faults old.scope (roles.Assigned (option_map (λ (b : typed_trees.Array). b.ty) o)) e
+      ++ broken rules.TooDeep end (holds_too_many_beside index.held (typed old.scope e))) (sym array)
+      ∙ ap (λ (b : Bool). faults old.scope (roles.Assigned (option_map (λ (b' : typed_trees.Array). b'.ty) (array_named old.scope name))) e ++ broken rules.TooDeep end b)
+      (ap (λ (n : ℕ). holds_too_many_beside n (typed old.scope e)) p.index_is.held ∙ same_too_many (typed old.scope i) (typed old.scope e) (tree_of index.tree) index_tree))
+
+  pub all_faults : faults_by (setting_of x) (block_of old) (set at name (Some i) e) ≡ rest_of_faults old.scope name i e (set_end x.in_head at)
+  unfolding faults_by
+  all_faults =
+      in_front p.free ∙ (sym (append_assoc (faults old.scope roles.Value i) _ _)
+      ∙ in_front (ap (λ (s : Scope). faults_of_index s at i) (sym p.note.scope) ∙ p.index_free))
+
+  pub value_fails : (stop : Stop) → Fails (faults_of_element_value mid.scope index.held a.ty e (set_end x.in_head at)) stop
+      → Fails (faults_by (setting_of x) (block_of old) (set at name (Some i) e)) stop
+  value_fails stop is = fails_as _ _ stop (value_faults (set_end x.in_head at) ∙ sym all_faults) is
+
+  pub sets_element : (new : Walk) (value : TExpr) (line : ℕ)
+      → faults_of_element_value mid.scope index.held a.ty e (set_end x.in_head at) ≡ [] → IsElementValue index.held e mid new value
+      → line ≡ slice_index_or x.lines.now (suc at.first) 0
+      → outcome_at x old (set at name (Some i) e) ≡ judged_at (command.command_of (kinds.SetElem a.reference a.size line index.tree value)) new
+  unfolding command_of uses_by held_by
+  sets_element new value line value_none value_is line_is =
+      let it = tree_of index.tree in
+      let vt = tree_of value in
+      let end = set_end x.in_head at in
+      let value_tree : typed old.scope e ≡ Some vt = ap (λ (s : Scope). typed s e) (sym from) ∙ value_is.tree in
+      let few : nat_lt 100 (max (min (held it) 101) (1 + held vt)) ≡ false =
+      ap (λ (n : ℕ). nat_lt 100 (max n (1 + held vt))) (sym p.index_is.held)
+      ∙ (sym (ap (holds_too_many_beside index.held) value_is.tree)
+      ∙ not_broken end _ (none_behind (faults mid.scope (roles.Assigned (Some a.ty)) e) _ value_none)) in
+      let most : max index.held (1 + held vt) ≡ held_element it vt =
+      ap (λ (n : ℕ). max n (1 + held vt)) p.index_is.held ∙ exact (held it) (held vt) (sym (capped (held it) (held vt)) ∙ few) in
+      comes_to _ (element_assigned (array_named old.scope name) (bracket_line (setting_of x) at) (tree_in old.scope i) (tree_in old.scope e))
+      (command.set_element a.reference a.size line it vt)
+      _ ((a.number ∷ []) ++ (uses noted.scope i ++ uses mid.scope e)) old new
+      (all_faults ∙ (sym (value_faults end) ∙ value_none))
+      (ap (λ (o : Option typed_trees.Array). element_assigned o (bracket_line (setting_of x) at) (tree_in old.scope i) (tree_in old.scope e)) array
+      ∙ (ap (λ (l : ℕ). command.set_element a.reference a.size l (tree_in old.scope i) (tree_in old.scope e)) (sym line_is)
+      ∙ (ap (λ (v : Tree). command.set_element a.reference a.size line v (tree_in old.scope e)) (tree_is old.scope i it index_tree)
+      ∙ ap (λ (v : Tree). command.set_element a.reference a.size line it v) (tree_is old.scope e vt value_tree))))
+      (ap (λ (m : Meaning). uses_of_meaning old.scope m ++ (uses old.scope i ++ uses old.scope e)) p.target.means
+      ∙ (ap (λ (k : ℕ). k ∷ (uses old.scope i ++ uses old.scope e)) (sym p.target.number)
+      ∙ (ap (λ (s : Scope). a.number ∷ (uses s i ++ uses old.scope e)) (sym p.note.scope)
+      ∙ ap (λ (s : Scope). a.number ∷ (uses noted.scope i ++ uses s e)) (sym from))))
+      (notes_behind (a.number ∷ []) (uses noted.scope i ++ uses mid.scope e) (held_element it vt) old noted new p.note
+      (notes_behind (uses noted.scope i) (uses mid.scope e) (held_element it vt) noted mid new p.index_is.notes
+      (subst (λ (n : ℕ). Notes (uses mid.scope e) n mid new) most value_is.notes)))
+      ∙ ap (λ (c : Command). judged_at c new) (sym (command_of-SetElem a.reference a.size line index.tree value))
+
+pub index_fails : (x : Given) (old noted : Walk) (at : Place) (name : List ℕ) (i e : Phrase) (us : List ℕ) (stop : Stop)
+    → faults_of_array old.scope name at.first ≡ [] → Notes us 0 old noted → Fails (faults_of_index noted.scope at i) stop
+    → Fails (faults_by (setting_of x) (block_of old) (set at name (Some i) e)) stop
+unfolding faults_by
+index_fails x old noted at name i e us stop free note is =
+    let here = fails_as _ _ stop (ap (λ (s : Scope). faults_of_index s at i) note.scope) is in
+    fails_as _ _ stop (append_assoc (faults old.scope roles.Value i) _ _ ∙ sym (in_front free))
+    (fails_in_front (faults_of_index old.scope at i) (rest_of_faults old.scope name i e (set_end x.in_head at)) stop here)

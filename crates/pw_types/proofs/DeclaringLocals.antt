@@ -1,0 +1,54 @@
+-- What a local's declaration comes to.
+use Rattle.std.proofs.Common.{◌≡◌, ℕ, suc, ◌+◌, ◌<◌, ◌≤◌, max, Bool, true, false, if◌then◌else◌, List, [], ◌∷◌, ◌++◌, ◌||◌, length, drop, Option, Some, None, option_map, refl, sym, ap, ◌∙◌, subst, cond, add-one, arith, bytes_eq, is_some, nat_le}
+use Rattle.std.specs.List.{list_any}
+use Rattle.std.proofs.lemmas.List.{append-nil}
+use Rattle.pw_tree.specs.Phrases.{Place, Phrase}
+use Rattle.pw_tree.specs.Trees.{Tree, tree_of}
+use Rattle.pw_tree.specs.Statements.{Statement, local}
+use Rattle.pw_tree.specs.Placed.{local_name_at}
+use Rattle.pw_tree.specs.Commands.{Command}
+use Rattle.pw_tree.specs.Commands as command
+use Rattle.pw_tree.specs.declared.ty.Ty.{Ty}
+use Rattle.pw_tree.specs.declared.texpr.TExpr.{TExpr}
+use Rattle.pw_tree.specs.declared.tstmt.TStmt.TheVariants as kinds
+use Rattle.pw_tree.proofs.CommandFolds.{command_of-SetLocal}
+use Rattle.pw_types.specs.declared.names.Local.{Local}
+use Rattle.pw_types.specs.declared.fault.Fault.{Fault}
+use Rattle.pw_types.specs.declared.role.Role.TheVariants as roles
+use Rattle.pw_types.specs.declared.statement_walk.Walk.{Walk}
+use Rattle.pw_types.specs.declared.statement_step.Setting.{Setting as Given}
+use Rattle.pw_types.specs.Scopes.{Scope, local_named}
+use Rattle.pw_types.specs.Held.{held, held_option, held_by}
+use Rattle.pw_types.specs.Blocks.{Block, with_local, declaring, behind, uses_by, uses_of_option}
+use Rattle.pw_types.specs.Statements.{faults_of_name, faults_of_option, faults_by}
+use Rattle.pw_types.specs.Commands.{tree_in, command_of}
+use Rattle.pw_types.specs.CheckingStatements.{Outcome, outcome, judged, block_of, outcome_at, judged_at}
+use Rattle.pw_types.specs.StatementValues.{Notes, IsMaybeValue, Declares}
+use Rattle.pw_types.proofs.EnclosingStatements.{same, in_front}
+
+same_block : (old new : Walk) (name : List ℕ) (ty : Ty)
+    → new.scope ≡ with_local name ty old.count old.scope → new.start ≡ old.start → new.count ≡ suc old.count
+    → declaring name ty (block_of old) ≡ block_of new
+same_block old new name ty scope start count = cc
+
+behind_value : (name : List ℕ) (ty : Ty) (old mid : Walk) → mid.scope ≡ old.scope → mid.start ≡ old.start → mid.count ≡ old.count
+    → declaring name ty (block_of old) ≡ declaring name ty (block_of mid)
+behind_value name ty old mid scope start count =
+    let same_blocks : block_of old ≡ block_of mid = cc in ap (declaring name ty) same_blocks
+
+pub declares_local : (x : Given) (old mid new : Walk) (at : Place) (ty : Ty) (name : List ℕ) (e : Option Phrase) (t : Option TExpr) (n : ℕ)
+    → faults_of_name (block_of old) name (local_name_at at ty) ≡ [] → faults_of_option old.scope (roles.Assigned (Some ty)) e ≡ []
+    → IsMaybeValue e old mid t → Declares name ty mid new n
+    → outcome_at x old (local at ty name e) ≡ judged_at (command.command_of (kinds.SetLocal n t)) new
+unfolding faults_by command_of uses_by held_by
+declares_local x old mid new at ty name e t n free none value declared =
+    let number : old.count ≡ n = sym (declared.number ∙ value.notes.count) in
+    let ends : declaring name ty (block_of old) ≡ block_of new =
+    behind_value name ty old mid value.notes.scope value.notes.start value.notes.count
+    ∙ same_block mid new name ty declared.scope declared.start declared.count in
+    same (in_front free ∙ none)
+    (ap (λ (m : ℕ). command.set_local m (option_map (tree_in old.scope) e)) number
+    ∙ (ap (λ (v : Option Tree). command.set_local n v) value.tree ∙ sym (command_of-SetLocal n t)))
+    (sym (declared.used ∙ value.notes.used))
+    (ap (λ (v : Option Tree). max old.held (held_option v)) value.tree ∙ sym (declared.held ∙ value.notes.held))
+    ends

@@ -1,0 +1,14 @@
+use Rattle.std.proofs.Common.{◌≡◌, ap, sym, ◌∙◌}
+use Rattle.pw_types.specs.Scopes.{Meaning, missing, meaning}
+use Rattle.pw_types.specs.Judging.{Judge}
+use Rattle.pw_types.specs.CheckingExpressions.{Valued, named_value}
+use Rattle.pw_types.proofs.Answered.{given}
+use Rattle.pw_types.proofs.expression_name.named_value.Goals as goal
+
+pub returns-in-Missing : goal.returns-in-Missing
+returns-in-Missing c =
+    let p : Meaning → Judge Valued = λ m. named_value c.args.scope.now c.args.head c.args.name.now m in
+    let means : meaning c.args.scope.now c.args.name.now ≡ missing =
+    ap (meaning c.args.scope.now) (sym c.bytes.ensures.bytes) ∙ c.in-Missing.ensures in
+    given (p (meaning c.args.scope.now c.args.name.now)) (p missing) c.args.used.now.items c.args.used.now.items c.unknown.result
+    (ap (λ m. p m c.args.used.now.items) means) c.unknown.ensures

@@ -1,0 +1,5 @@
+use Rattle.pw_types.proofs.ClimbingUnits.{faults_are_within}
+use Rattle.pw_types.proofs.laws.faults_are_within_the_unit.Goals as goal
+
+pub returns : goal.returns
+returns c = faults_are_within

@@ -1,0 +1,5 @@
+use Rattle.pw_types.proofs.ClimbingUnits.{faults_ascend}
+use Rattle.pw_types.proofs.laws.faults_ascend.Goals as goal
+
+pub returns : goal.returns
+returns c = faults_ascend

@@ -1,0 +1,5 @@
+use Rattle.pw_types.proofs.ClimbingUnits.{first_ends_first}
+use Rattle.pw_types.proofs.laws.the_first_fault_ends_first.Goals as goal
+
+pub returns : goal.returns
+returns c = first_ends_first

@@ -1,0 +1,13 @@
+use Rattle.std.proofs.lemmas.Result.{err_from_is_err_and}
+use Rattle.pw_types.proofs.EnteringStatements.{enters_while, while_fails}
+use Rattle.pw_types.proofs.statement_walk.Walk.enter_while.Goals as goal
+
+pub returns-in_err-c-clause-judged : goal.returns-in_err-c-clause-judged
+returns-in_err-c-clause-judged c =
+    let p = err_from_is_err_and c.from_residual.result c.from_residual.ensures.1 in
+    λ at. rw (p.1, p.2) (while_fails c.args.setting.now c.args.self.now c.value.new.self at _ _ c.in_err-c.field-0.0 c.in_err-c.ensures)
+
+pub returns-clause-judged : goal.returns-clause-judged
+returns-clause-judged c =
+    λ at. enters_while c.args.setting.now c.body.result c.outer-outer.result c.args.self.now c.value.new.self at _ c.args.body.now c.in_ok-c.c
+    c.in_ok-c.ensures.0 c.in_ok-c.ensures.1 c.outer-outer.ensures c.body.ensures

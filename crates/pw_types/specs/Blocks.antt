@@ -1,0 +1,129 @@
+-- Where a statement stands: what is visible, and how blocks and declarations change it (C17, 6.2.1).
+use Rattle.std.specs.Prelude.{ℕ, suc, ◌+◌, Bool, false, true, List, [], ◌∷◌, ◌++◌, length, drop, Option, Some, None, is_some}
+use Rattle.pw_tree.specs.declared.ty.Ty.{Ty}
+use Rattle.pw_tree.specs.Phrases.{Phrase}
+use Rattle.pw_tree.specs.Statements.{Statement, Statements, Maybe, empty, block, local, set, evaluate, if_else, while_loop, do_loop, for_loop, returns, breaks, continues, nil, cons, absent, present}
+use Rattle.pw_types.specs.Scopes.{Scope, local_named}
+use Rattle.pw_types.specs.Uses.{uses, uses_of_name}
+
+-- What a function's statements have in common: its result's type and the line of each token of the unit. And whether a loop
+-- is round a statement, and whether it is a part of a `for`, which ends without `;`.
+pub record Setting : Type 0 where
+  pub result : Ty
+  pub lines : List ℕ
+  pub in_loop : Bool
+  pub in_head : Bool
+
+-- a statement in another, in a loop's body, and as a part of a `for`
+abbrev pub part : Setting → Setting
+part x = record x { in_head = false }
+
+abbrev pub body : Setting → Setting
+body x = record x { in_loop = true; in_head = false }
+
+abbrev pub head : Setting → Setting
+head x = record x { in_head = true }
+
+-- Where a statement stands: what is visible, where the block's own locals begin among those visible, and how many the
+-- function has so far.
+pub record Block : Type 0 where
+  pub scope : Scope
+  pub start : ℕ
+  pub count : ℕ
+
+-- a block in another
+abbrev pub inner : Block → Block
+inner b = record b { start = length b.scope.locals }
+
+-- a local of this name stands in this block
+abbrev pub has_own : Block → List ℕ → Bool
+has_own b name = is_some (local_named name (drop b.start b.scope.locals))
+
+-- the locals with one more
+abbrev pub with_local : List ℕ → Ty → ℕ → Scope → Scope
+with_local name ty number scope =
+    record scope { locals = scope.locals ++ record { name = name; ty = ty; number = number } ∷ [] }
+
+-- behind a local's declaration
+abbrev pub declaring : List ℕ → Ty → Block → Block
+declaring name ty b = record b { scope = with_local name ty b.count b.scope; count = suc b.count }
+
+unfoldable mutual
+  -- how many locals a statement declares
+  pub locals_in : Statement → ℕ
+  locals_in (empty at) = 0
+  locals_in (block at ss) = locals_in_all ss
+  locals_in (local at ty name e) = 1
+  locals_in (set at name i e) = 0
+  locals_in (evaluate at e) = 0
+  locals_in (if_else at c a b) = locals_in a + locals_in_maybe b
+  locals_in (while_loop at c s) = locals_in s
+  locals_in (do_loop at s c) = locals_in s
+  locals_in (for_loop at first c last s) = locals_in_maybe first + (locals_in_maybe last + locals_in s)
+  locals_in (returns at e) = 0
+  locals_in (breaks at) = 0
+  locals_in (continues at) = 0
+
+  pub locals_in_all : Statements → ℕ
+  locals_in_all nil = 0
+  locals_in_all (cons s ss) = locals_in s + locals_in_all ss
+
+  pub locals_in_maybe : Maybe → ℕ
+  locals_in_maybe absent = 0
+  locals_in_maybe (present s) = locals_in s
+
+-- behind statements that declare so many locals, none of which is visible any longer
+abbrev pub past : ℕ → Block → Block
+past n b = record b { count = b.count + n }
+
+-- behind a statement: a declaration is visible from here on
+abbrev pub behind : Statement → Block → Block
+behind (local at ty name e) b = declaring name ty b
+behind (empty at) b = b
+behind (block at ss) b = past (locals_in_all ss) b
+behind (set at name i e) b = b
+behind (evaluate at e) b = b
+behind (if_else at c a d) b = past (locals_in (if_else at c a d)) b
+behind (while_loop at c s) b = past (locals_in s) b
+behind (do_loop at s c) b = past (locals_in s) b
+behind (for_loop at first c last s) b = past (locals_in (for_loop at first c last s)) b
+behind (returns at e) b = b
+behind (breaks at) b = b
+behind (continues at) b = b
+
+abbrev pub behind_maybe : Maybe → Block → Block
+behind_maybe absent b = b
+behind_maybe (present s) b = behind s b
+
+-- ---- the names at file level that statements use
+
+abbrev pub uses_of_option : Scope → Option Phrase → List ℕ
+uses_of_option scope None = []
+uses_of_option scope (Some e) = uses scope e
+
+unfoldable mutual
+  pub uses_by : Block → Statement → List ℕ
+  uses_by b (empty at) = []
+  uses_by b (block at ss) = uses_by_all (inner b) ss
+  uses_by b (local at ty name e) = uses_of_option b.scope e
+  uses_by b (set at name i e) = uses_of_name b.scope name ++ (uses_of_option b.scope i ++ uses b.scope e)
+  uses_by b (evaluate at e) = uses b.scope e
+  uses_by b (if_else at c a d) = uses b.scope c ++ (uses_by b a ++ uses_by_maybe (behind a b) d)
+  uses_by b (while_loop at c s) = uses b.scope c ++ uses_by b s
+  uses_by b (do_loop at s c) = uses_by b s ++ uses b.scope c
+  uses_by b (for_loop at first c last s) =
+      uses_by_maybe (inner b) first
+      ++ (uses_of_option (behind_maybe first (inner b)).scope c
+      ++ (uses_by_maybe (behind_maybe first (inner b)) last
+      ++ uses_by (behind_maybe last (behind_maybe first (inner b))) s))
+  uses_by b (returns at e) = uses_of_option b.scope e
+  uses_by b (breaks at) = []
+  uses_by b (continues at) = []
+
+  pub uses_by_all : Block → Statements → List ℕ
+  uses_by_all b nil = []
+  uses_by_all b (cons s ss) = uses_by b s ++ uses_by_all (behind s b) ss
+
+  pub uses_by_maybe : Block → Maybe → List ℕ
+  uses_by_maybe b absent = []
+  uses_by_maybe b (present s) = uses_by b s

@@ -1,0 +1,256 @@
+-- Judging a statement: what it comes to, and how frames say what is still to be done when a part of it is judged.
+use Rattle.std.specs.Prelude.{◌≡◌, ℕ, suc, ◌+◌, max, List, [], ◌∷◌, ◌++◌, length, map, take, Option, Some, None, option_map, Result, Ok, Err, ⊤}
+use Rattle.pw_tree.specs.Phrases.{Place, Phrase, phrase_of}
+use Rattle.pw_tree.specs.Trees.{Tree, tree_of}
+use Rattle.pw_tree.specs.Statements.{Statement, Statements, Maybe, nil, cons, absent, present, maybe, statement_of, statements_of}
+use Rattle.pw_tree.specs.Commands.{Command, Commands}
+use Rattle.pw_tree.specs.Commands as command
+use Rattle.pw_tree.specs.declared.stmt.Stmt.{Stmt}
+use Rattle.pw_tree.specs.declared.tstmt.TStmt.{TStmt}
+use Rattle.pw_tree.specs.declared.texpr.TExpr.{TExpr}
+use Rattle.pw_types.specs.declared.role.Role.TheVariants as roles
+use Rattle.pw_types.specs.declared.fault.Fault.{Fault}
+use Rattle.pw_types.specs.declared.fault.Stop.{Stop}
+use Rattle.pw_types.specs.declared.fault.Stop.TheVariants as stops
+use Rattle.pw_types.specs.declared.statement_walk.Walk.{Walk}
+use Rattle.pw_types.specs.declared.statement_step.Span.{Span}
+use Rattle.pw_types.specs.declared.statement_step.Setting.{Setting as Given}
+use Rattle.pw_types.specs.declared.statement_step.Outer.{Outer}
+use Rattle.pw_types.specs.declared.statement_step.Frame.{Frame}
+use Rattle.pw_types.specs.declared.statement_step.Form.{Form}
+use Rattle.pw_types.specs.declared.statement_step.Form.TheVariants as forms
+use Rattle.pw_types.specs.declared.statement_step.Step.{Step}
+use Rattle.pw_types.specs.declared.statement_step.Step.TheVariants as steps
+use Rattle.pw_types.specs.Faults.{first_of}
+use Rattle.pw_types.specs.Scopes.{Scope}
+use Rattle.pw_types.specs.Held.{held, held_option, held_by, held_by_all, held_by_maybe}
+use Rattle.pw_types.specs.Uses.{uses}
+use Rattle.pw_types.specs.Blocks.{Setting, part, body, head, Block, behind, behind_maybe, locals_in_all, uses_of_option, uses_by, uses_by_all, uses_by_maybe}
+use Rattle.pw_types.specs.Statements.{faults_of_whole, faults_of_option, faults_by, faults_by_all, faults_by_maybe}
+use Rattle.pw_types.specs.Commands.{tree_in, command_of, commands_of, maybe_of}
+
+-- ---- what a statement comes to
+
+-- All faults that judging meets, and what it gives where it meets none: the typed statement, the names that were used so
+-- far, the greatest number of values held so far, and the block behind it.
+pub record Outcome : Type 0 where
+  pub faults : List Fault
+  pub command : Command
+  pub used : List ℕ
+  pub held : ℕ
+  pub block : Block
+
+-- a statement, where so many names were used and so many values held before it
+abbrev pub outcome : Setting → Block → List ℕ → ℕ → Statement → Outcome
+outcome x b used most s = record {
+  faults = faults_by x b s;
+  command = command_of x b s;
+  used = used ++ uses_by b s;
+  held = max most (held_by (command_of x b s));
+  block = behind s b;
+}
+
+-- one that is judged without fault
+abbrev pub judged : Command → Block → List ℕ → ℕ → Outcome
+judged c b used most = record { faults = []; command = c; used = used; held = most; block = b }
+
+-- ---- what is still to be done
+
+-- the block in which a statement stands, behind it: what was declared in the statement is not visible
+abbrev pub leave : ℕ → ℕ → Block → Block
+leave start visible b = record b { scope = record b.scope { locals = take visible b.scope.locals }; start = start }
+
+unfoldable pub behind_all : Statements → Block → Block
+behind_all nil b = b
+behind_all (cons s ss) b = behind_all ss (behind s b)
+
+-- typed statements before others
+unfoldable pub before : List Command → Commands → Commands
+before [] more = more
+before (c ∷ cs) more = command.cons c (before cs more)
+
+-- a block, of which these statements are judged and this one comes to `w`
+abbrev pub rest_of_block : Setting → (Block → Block) → List Command → Statements → Outcome → Outcome
+rest_of_block x out done rest w = record {
+  faults = w.faults ++ faults_by_all (part x) w.block rest;
+  command = command.block (before done (command.cons w.command (commands_of (part x) w.block rest)));
+  used = w.used ++ uses_by_all w.block rest;
+  held = max w.held (held_by_all (commands_of (part x) w.block rest));
+  block = out (behind_all rest w.block);
+}
+
+-- an `if`, whose condition is judged, and whose first part comes to `w`
+abbrev pub rest_of_if : Setting → (Block → Block) → Tree → Maybe → Outcome → Outcome
+rest_of_if x out c d w = record {
+  faults = w.faults ++ faults_by_maybe (part x) w.block d;
+  command = command.if_else c w.command (maybe_of (part x) w.block d);
+  used = w.used ++ uses_by_maybe w.block d;
+  held = max w.held (held_by_maybe (maybe_of (part x) w.block d));
+  block = out (behind_maybe d w.block);
+}
+
+-- a `do`, whose body comes to `w`
+abbrev pub rest_of_do : (Block → Block) → Phrase → Outcome → Outcome
+rest_of_do out c w = record {
+  faults = w.faults ++ faults_of_whole (out w.block).scope roles.Value c;
+  command = command.do_loop w.command (tree_in (out w.block).scope c);
+  used = w.used ++ uses (out w.block).scope c;
+  held = max w.held (held (tree_in (out w.block).scope c));
+  block = out w.block;
+}
+
+-- a `for`, whose first part is judged, and behind whose last part stands `w`
+abbrev pub rest_of_for : Setting → (Block → Block) → command.Maybe → Option Tree → command.Maybe → Statement → Outcome → Outcome
+rest_of_for x out first c last s w = record {
+  faults = w.faults ++ faults_by (body x) w.block s;
+  command = command.for_loop first c last (command_of (body x) w.block s);
+  used = w.used ++ uses_by w.block s;
+  held = max w.held (held_by (command_of (body x) w.block s));
+  block = out (behind s w.block);
+}
+
+-- a `for`, behind whose first part stands `w`
+abbrev pub behind_first : Setting → (Block → Block) → command.Maybe → Option Phrase → Maybe → Statement → Outcome → Outcome
+behind_first x out first c last s w = record {
+  faults = w.faults
+      ++ (faults_of_option w.block.scope roles.Value c
+      ++ (faults_by_maybe (head x) w.block last ++ faults_by (body x) (behind_maybe last w.block) s));
+  command = command.for_loop first (option_map (tree_in w.block.scope) c) (maybe_of (head x) w.block last)
+      (command_of (body x) (behind_maybe last w.block) s);
+  used = w.used ++ (uses_of_option w.block.scope c ++ (uses_by_maybe w.block last ++ uses_by (behind_maybe last w.block) s));
+  held = max w.held
+      (max (held_option (option_map (tree_in w.block.scope) c))
+      (max (held_by_maybe (maybe_of (head x) w.block last)) (held_by (command_of (body x) (behind_maybe last w.block) s))));
+  block = out (behind s (behind_maybe last w.block));
+}
+
+-- a statement of which only this is left: to be this typed statement
+abbrev pub closed : (Block → Block) → Command → Outcome → Outcome
+closed out c w = record w { command = c; block = out w.block }
+
+-- ---- frames
+
+-- the typed statement that an optional one is
+abbrev pub typed_maybe : Option TStmt → command.Maybe
+typed_maybe t = command.maybe (option_map command.command_of t)
+
+-- what a statement comes to whose part, for which it waits, comes to `w`
+abbrev pub resumed_form : Setting → (Block → Block) → Form → Outcome → Outcome
+resumed_form x out (forms.Block done rest) w = rest_of_block x out (map command.command_of done) (statements_of rest.now) w
+resumed_form x out (forms.Then c d) w = rest_of_if x out (tree_of c) (maybe (option_map statement_of d.now)) w
+resumed_form x out (forms.Else c a) w =
+    closed out (command.if_else (tree_of c) (command.command_of a) (command.present w.command)) w
+resumed_form x out (forms.While c) w = closed out (command.while_loop (tree_of c) w.command) w
+resumed_form x out (forms.Do c) w = rest_of_do out (phrase_of c.now) w
+resumed_form x out (forms.First c last s) w =
+    behind_first x out (command.present w.command) (option_map phrase_of c.now) (maybe (option_map statement_of last.now))
+    (statement_of s.now) w
+resumed_form x out (forms.Last first c s) w =
+    rest_of_for x out (typed_maybe first) (option_map tree_of c) (command.present w.command) (statement_of s.now) w
+resumed_form x out (forms.For first c last) w =
+    closed out (command.for_loop (typed_maybe first) (option_map tree_of c) (typed_maybe last) w.command) w
+
+abbrev pub setting_of : Given → Setting
+setting_of x = record { result = x.result; lines = x.lines.now; in_loop = x.in_loop; in_head = x.in_head }
+
+abbrev pub resumed_at : Outer → Form → Outcome → Outcome
+resumed_at o form w = resumed_form (setting_of o.setting) (leave o.start o.visible) form w
+
+abbrev pub resumed : Frame → Outcome → Outcome
+resumed f w = resumed_at f.outer f.form w
+
+-- the same for statements in one another, the innermost first
+unfoldable pub resume : List Frame → Outcome → Outcome
+resume [] w = w
+resume (f ∷ fs) w = resume fs (resumed f w)
+
+-- ---- what judging answers
+
+abbrev pub place_of : Span → Place
+place_of at = record { first = at.first; last = at.last; line = at.line }
+
+abbrev pub block_of : Walk → Block
+block_of w = record { scope = w.scope; start = w.start; count = w.count }
+
+-- a statement, from this state on
+abbrev pub outcome_at : Given → Walk → Statement → Outcome
+outcome_at x w s = outcome (setting_of x) (block_of w) w.used.items w.held s
+
+-- where a statement stands, which is entered in this state
+abbrev pub outer_at : Given → Walk → Outer
+outer_at x w = record { setting = x; start = w.start; visible = length w.scope.locals }
+
+abbrev pub judged_at : Command → Walk → Outcome
+judged_at c w = judged c (block_of w) w.used.items w.held
+
+-- a block, of which these statements are judged
+abbrev pub block_at : List TStmt → List Stmt → Outer → Outcome → Outcome
+block_at done rest o w =
+    rest_of_block (setting_of o.setting) (leave o.start o.visible) (map command.command_of done) (statements_of rest) w
+
+-- a `for`, from behind its first part in this state
+abbrev pub behind_first_at : Outer → command.Maybe → Option Phrase → Maybe → Statement → Walk → Outcome
+behind_first_at o first c last s w =
+    behind_first (setting_of o.setting) (leave o.start o.visible) first c last s (judged_at (command.block command.nil) w)
+
+-- out of a statement
+pub record Leaves (o : Outer) (old new : Walk) : Type 0 where
+  pub block : block_of new ≡ leave o.start o.visible (block_of old)
+  pub used : new.used.items ≡ old.used.items
+  pub held : new.held ≡ old.held
+
+-- exactly the first fault; want of memory says nothing
+abbrev pub Fails : List Fault → Stop → Type 0
+Fails faults (stops.Fault f) = first_of faults ≡ Some f
+Fails faults stops.NoMemory = ⊤
+
+-- judged without fault, which leads to this state, or the first fault
+abbrev pub Finishes : Outcome → Walk → Result TStmt Stop → Type 0
+Finishes w new (Ok t) = w ≡ judged_at (command.command_of t) new
+Finishes w new (Err stop) = Fails w.faults stop
+
+-- what is still to be done comes to this
+abbrev pub of_step : Step → Walk → Outcome
+of_step (steps.Part f x s) w = resumed f (outcome_at x w (statement_of s.now))
+of_step (steps.Done t) w = judged_at (command.command_of t) w
+
+abbrev pub Leads : Outcome → Walk → Step → Type 0
+Leads w new step = w ≡ of_step step new
+
+-- one step further, which leads to this state, or the first fault
+abbrev pub Steps : Outcome → Walk → Result Step Stop → Type 0
+Steps w new (Ok step) = Leads w new step
+Steps w new (Err stop) = Fails w.faults stop
+
+-- a statement that is judged as a whole
+abbrev pub done : Result TStmt Stop → Result Step Stop
+done (Ok t) = Ok (steps.Done t)
+done (Err stop) = Err stop
+
+-- ---- statements in a row
+
+-- What statements in a row come to, where these stand before them: all faults, and the typed statements, the names that
+-- were used, the greatest number of values held, and how many locals the function has behind them.
+pub record Sequence : Type 0 where
+  pub faults : List Fault
+  pub commands : Commands
+  pub used : List ℕ
+  pub held : ℕ
+  pub count : ℕ
+
+abbrev pub sequence : Setting → Block → List ℕ → ℕ → List Command → Statements → Sequence
+sequence x b used most done ss = record {
+  faults = faults_by_all x b ss;
+  commands = before done (commands_of x b ss);
+  used = used ++ uses_by_all b ss;
+  held = max most (held_by_all (commands_of x b ss));
+  count = b.count + locals_in_all ss;
+}
+
+abbrev pub sequence_at : Given → Walk → List TStmt → Statements → Sequence
+sequence_at x w done ss = sequence (setting_of x) (block_of w) w.used.items w.held (map command.command_of done) ss
+
+-- statements that are judged without fault, which leads to this state, or the first fault
+abbrev pub FinishesAll : Given → Statements → (old new : Walk) → Result (List TStmt) Stop → Type 0
+FinishesAll x ss old new (Ok ts) = sequence_at x old [] ss ≡ sequence_at x new ts nil
+FinishesAll x ss old new (Err stop) = Fails (faults_by_all (setting_of x) (block_of old) ss) stop

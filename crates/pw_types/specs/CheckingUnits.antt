@@ -1,0 +1,51 @@
+-- What the declarations of a unit give, one after another.
+use Rattle.std.specs.Prelude.{◌≡◌, ℕ, ◌+◌, ◌≤◌, List, [], ◌++◌, map}
+use Rattle.pw_tree.specs.Declarations.{Declaration}
+use Rattle.pw_tree.specs.Units.{function_of}
+use Rattle.pw_types.specs.declared.fault.Fault.{Fault}
+use Rattle.pw_types.specs.declared.defined.Defined.{Defined}
+use Rattle.pw_types.specs.declared.progress.Progress.{Progress}
+use Rattle.pw_types.specs.declared.names.File.{File}
+use Rattle.pw_types.specs.Declarations.{Whole, file_scope, declared_by, elements_of, uses_of_form, faults_of_form}
+use Rattle.pw_types.specs.Units.{files_behind, typed_functions_of, typed_variables_of, typed_functions, typed_variables, uses_of_declarations}
+use Rattle.pw_types.specs.CheckingDeclarations.{faults_of_head, Defines}
+
+-- the faults of a declaration up to its declarator's end, and behind it
+abbrev pub faults_of_parts : Whole → List File → ℕ → Declaration → List Fault
+faults_of_parts w files elements d =
+    faults_of_head files elements d ++ faults_of_form w.lines (file_scope w (declared_by d files)) d.form
+
+-- nothing was declared
+pub record IsFresh (p : Progress) : Type 0 where
+  pub files : p.files ≡ []
+  pub elements : p.elements ≡ 0
+  pub used : p.used.items ≡ []
+  pub functions : p.functions ≡ []
+  pub variables : p.variables ≡ []
+
+-- The declaration was judged, and this is what it defines.
+pub record IsJudged (w : Whole) (old new : Progress) (d : Declaration) (defined : Defined) : Type 0 where
+  pub files : new.files ≡ declared_by d old.files
+  pub elements : new.elements ≡ old.elements + elements_of d
+  pub room : new.elements ≤ 262144
+  pub defines : Defines w (declared_by d old.files) d old.used.items new.used.items defined
+  pub functions : new.functions ≡ old.functions
+  pub variables : new.variables ≡ old.variables
+
+-- The new progress is the old one with the declaration.
+pub record IsBehind (w : Whole) (old : Progress) (d : Declaration) (new : Progress) : Type 0 where
+  pub files : new.files ≡ declared_by d old.files
+  pub elements : new.elements ≡ old.elements + elements_of d
+  pub room : new.elements ≤ 262144
+  pub used : new.used.items ≡ old.used.items ++ uses_of_form (file_scope w (declared_by d old.files)) d.form
+  pub functions : map function_of new.functions ≡ map function_of old.functions ++ typed_functions_of w (declared_by d old.files) d d.form
+  pub variables : new.variables ≡ old.variables ++ typed_variables_of w (declared_by d old.files) d d.form
+
+-- ---- all declarations
+
+-- These declarations were judged from the first on, and this is what they gave.
+pub record IsAll (w : Whole) (ds : List Declaration) (p : Progress) : Type 0 where
+  pub files : p.files ≡ files_behind [] ds
+  pub used : p.used.items ≡ uses_of_declarations w [] ds
+  pub functions : map function_of p.functions ≡ typed_functions w [] ds
+  pub variables : p.variables ≡ typed_variables w [] ds

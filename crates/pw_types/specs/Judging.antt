@@ -1,0 +1,31 @@
+-- Judging from left to right: a value and the numbers of the names used so far, or the first fault.
+use Rattle.std.specs.Prelude.{ℕ, List, ◌++◌, Option, Some, None, Result, Ok, Err}
+use Rattle.pw_types.specs.declared.fault.Fault.{Fault}
+
+abbrev pub Outcome : Type 0 → Type 0
+Outcome A = Result (A × List ℕ) Fault
+
+abbrev pub Judge : Type 0 → Type 0
+Judge A = List ℕ → Outcome A
+
+abbrev pub and_then : {A B : Type 0} → Outcome A → (A → Judge B) → Outcome B
+and_then (Ok p) f = f p.0 p.1
+and_then (Err e) f = Err e
+
+infixl 10 ◌>>=◌
+abbrev pub ◌>>=◌ : {A B : Type 0} → Judge A → (A → Judge B) → Judge B
+p >>= f = λ used. and_then (p used) f
+
+abbrev pub pure : {A : Type 0} → A → Judge A
+pure a = λ used. Ok (a, used)
+
+abbrev pub refuse : {A : Type 0} → Fault → Judge A
+refuse fault = λ used. Err fault
+
+-- the same behind uses of these names
+abbrev pub noting : {A : Type 0} → List ℕ → Judge A → Judge A
+noting numbers p = λ used. p (used ++ numbers)
+
+abbrev pub on_option : {A B : Type 0} → Option A → B → (A → B) → B
+on_option None b f = b
+on_option (Some a) b f = f a

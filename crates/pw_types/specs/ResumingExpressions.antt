@@ -1,0 +1,168 @@
+-- What is still to be done when a part of an expression is judged, by the frames that wait for it.
+use Rattle.std.specs.Prelude.{◌≡◌, ℕ, ◌+◌, List, [], ◌∷◌, map, replicate, ⊤, Result, Ok, Err}
+use Rattle.pw_tree.specs.declared.ty.Ty.{Ty}
+use Rattle.pw_tree.specs.declared.ty.Ty.TheVariants.{Long}
+use Rattle.pw_tree.specs.Phrases.{Phrase, Phrases, constant, word, unary, binary, conditional, call, index, input, output, nil, cons, phrase_of, phrases_of}
+use Rattle.pw_tree.specs.Trees.{tree_of}
+use Rattle.pw_types.specs.declared.role.Role.TheVariants.{Value, Callee, Base}
+use Rattle.pw_types.specs.declared.fault.Stop.{Stop}
+use Rattle.pw_types.specs.declared.fault.Stop.TheVariants as stops
+use Rattle.pw_types.specs.declared.typed.Typed.{Typed}
+use Rattle.pw_types.specs.declared.expression_step.Head.{Head}
+use Rattle.pw_types.specs.declared.expression_step.Array as rust_array
+use Rattle.pw_types.specs.declared.expression_step.Target.{Target}
+use Rattle.pw_types.specs.declared.expression_step.Target.TheVariants.{Direct, Through}
+use Rattle.pw_types.specs.declared.expression_step.Call.{Call}
+use Rattle.pw_types.specs.declared.expression_step.Arguments.{Arguments}
+use Rattle.pw_types.specs.declared.expression_step.Parameters.{Parameters}
+use Rattle.pw_types.specs.declared.expression_step.Parameters.TheVariants.{Listed, Longs}
+use Rattle.pw_types.specs.declared.expression_step.Frame.{Frame}
+use Rattle.pw_types.specs.declared.expression_step.Frame.TheVariants.{Operand, Left, Right, Condition, First, Second, Argument, Index, Written}
+use Rattle.pw_types.specs.declared.expression_step.Frame.TheVariants as frames
+use Rattle.pw_types.specs.declared.expression_step.Step.{Step}
+use Rattle.pw_types.specs.declared.expression_step.Step.TheVariants.{Part, Instead, Done}
+use Rattle.pw_types.specs.Scopes.{Scope}
+use Rattle.pw_types.specs.Typed.{Array, array_of, Designated, function_of}
+use Rattle.pw_types.specs.Uses.{uses}
+use Rattle.pw_types.specs.Judging.{Outcome, Judge, and_then, ◌>>=◌, pure, refuse, noting, on_option}
+use Rattle.pw_types.specs.CheckingExpressions.{Valued, Aim, named, through, Calling, Taken, unary_value, binary_value, choice_value, element_value, output_value, taking, none_taken, calling, direct_call, pointer_call, checked, checked_arguments}
+
+-- ---- plain values
+
+abbrev pub valued : Typed → Valued
+valued t = record { tree = tree_of t.tree; held = t.held }
+
+abbrev pub plain_array : rust_array.Array → Array
+plain_array a = record { reference = a.reference; ty = a.ty; size = a.size }
+
+abbrev pub aim_of : Target → Aim
+aim_of (Direct f ty) = named f ty
+aim_of (Through t) = through (valued t)
+
+abbrev pub calling_of : Call → Calling
+calling_of c = record { head = c.head; aim = aim_of c.target; other_count = c.other_count }
+
+abbrev pub taken_of : Arguments → Taken
+taken_of a = record { trees = map tree_of a.trees; held = a.held }
+
+abbrev pub listed : Parameters → List Ty
+listed (Listed tys) = tys.now
+listed (Longs k) = replicate k Long
+
+-- ---- calls
+
+-- a call, from its first argument on
+abbrev pub begun : Scope → Head → Aim → List Ty → Phrases → Judge Valued
+begun scope h aim params es = checked_arguments scope (calling h aim params es) none_taken params es
+
+-- a call whose callee is a function's name, and one through a pointer
+abbrev pub direct_call_from : Scope → Head → Designated → Phrases → Judge Valued
+direct_call_from scope h d es = direct_call h es (λ c params. checked_arguments scope c none_taken params es) d
+
+abbrev pub pointer_call_from : Scope → Head → Phrases → Valued → Judge Valued
+pointer_call_from scope h es v = pointer_call h es (λ c params. checked_arguments scope c none_taken params es) v
+
+-- a call, from its callee on
+abbrev pub call_from : Scope → Head → Phrase → Phrases → Judge Valued
+call_from scope h f es = on_option (function_of scope f)
+    (checked scope Callee f >>= pointer_call_from scope h es) (λ d. noting (uses scope f) (direct_call_from scope h d es))
+
+-- an element, from its base on
+abbrev pub index_from : Scope → Head → Phrase → Phrase → Judge Valued
+index_from scope h b i = on_option (array_of scope b) (checked scope Base b)
+    (λ a. noting (uses scope b) (checked scope Value i >>= element_value h a))
+
+-- ---- frames
+
+-- what comes behind the part that a frame waits for
+abbrev pub resumed : Scope → Frame → Valued → Judge Valued
+resumed scope (Operand h op) v = unary_value h op v
+resumed scope (Left h op r) v = checked scope Value (phrase_of r.now) >>= binary_value h op v
+resumed scope (Right h op l) v = binary_value h op (valued l) v
+resumed scope (Condition h a b) v =
+    checked scope Value (phrase_of a.now) >>= (λ x. checked scope Value (phrase_of b.now) >>= choice_value h v x)
+resumed scope (First h c b) v = checked scope Value (phrase_of b.now) >>= choice_value h (valued c) v
+resumed scope (Second h c a) v = choice_value h (valued c) (valued a) v
+resumed scope (frames.Callee h es) v = pointer_call_from scope h (phrases_of es.now) v
+resumed scope (Argument c taken params rest) v =
+    checked_arguments scope (calling_of c) (taking (taken_of taken) v) (listed params) (phrases_of rest.now)
+resumed scope (Index h a) v = element_value h (plain_array a) v
+resumed scope (Written h) v = output_value h v
+
+-- the outcome of the whole, where the innermost frame, which is the last, waits for a part of this outcome
+unfoldable pub resume : Scope → List Frame → Outcome Valued → Outcome Valued
+resume scope [] outcome = outcome
+resume scope (f ∷ fs) outcome = and_then (resume scope fs outcome) (resumed scope f)
+
+-- what a step leads to
+abbrev pub continued : Scope → Step → Judge Valued
+continued scope (Part frame role e) = checked scope role (phrase_of e.now) >>= resumed scope frame
+continued scope (Instead role e) = checked scope role (phrase_of e.now)
+continued scope (Done t) = pure (valued t)
+
+-- what judging gives, or the fault
+abbrev pub Gives : Judge Valued → Result Typed Stop → Type 0
+Gives p (Ok t) = p ≡ pure (valued t)
+Gives p (Err (stops.Fault f)) = p ≡ refuse f
+Gives p (Err stops.NoMemory) = ⊤
+
+-- the same behind the names that were used on the way
+abbrev pub GivesWith : Judge Valued → List ℕ → List ℕ → Result Typed Stop → Type 0
+GivesWith p old new (Ok t) = p old ≡ Ok (valued t, new)
+GivesWith p old new (Err (stops.Fault f)) = p old ≡ Err f
+GivesWith p old new (Err stops.NoMemory) = ⊤
+
+-- what a step leads to, or the fault
+abbrev pub Continues : Scope → Judge Valued → Result Step Stop → Type 0
+Continues scope p (Ok step) = p ≡ continued scope step
+Continues scope p (Err (stops.Fault f)) = p ≡ refuse f
+Continues scope p (Err stops.NoMemory) = ⊤
+
+-- the same in every scope
+abbrev pub ContinuesInEach : (Scope → Judge Valued) → Result Step Stop → Type 0
+ContinuesInEach p result = (scope : Scope) → Continues scope (p scope) result
+
+-- the same behind the names that were used on the way
+abbrev pub ContinuesWith : Scope → Judge Valued → List ℕ → List ℕ → Result Step Stop → Type 0
+ContinuesWith scope p old new (Ok step) = p old ≡ continued scope step new
+ContinuesWith scope p old new (Err (stops.Fault f)) = p old ≡ Err f
+ContinuesWith scope p old new (Err stops.NoMemory) = ⊤
+
+-- ---- how much is still to be done
+
+unfoldable mutual
+  pub size : Phrase → ℕ
+  size (constant at value unsigned) = 1
+  size (word at name) = 1
+  size (unary at op e) = 2 + size e
+  size (binary at op l r) = 3 + (size l + size r)
+  size (conditional at c a b) = 4 + (size c + (size a + size b))
+  size (call at f es) = 3 + (size f + sizes es)
+  size (index at b i) = 2 + (size b + size i)
+  size (input at) = 1
+  size (output at e) = 2 + size e
+
+  pub sizes : Phrases → ℕ
+  sizes nil = 0
+  sizes (cons e es) = 2 + (size e + sizes es)
+
+abbrev pub frame_size : Frame → ℕ
+frame_size (Operand h op) = 1
+frame_size (Left h op r) = 2 + size (phrase_of r.now)
+frame_size (Right h op l) = 1
+frame_size (Condition h a b) = 3 + (size (phrase_of a.now) + size (phrase_of b.now))
+frame_size (First h c b) = 2 + size (phrase_of b.now)
+frame_size (Second h c a) = 1
+frame_size (frames.Callee h es) = 2 + sizes (phrases_of es.now)
+frame_size (Argument c taken params rest) = 1 + sizes (phrases_of rest.now)
+frame_size (Index h a) = 1
+frame_size (Written h) = 1
+
+abbrev pub step_size : Step → ℕ
+step_size (Part frame role e) = frame_size frame + size (phrase_of e.now)
+step_size (Instead role e) = size (phrase_of e.now)
+step_size (Done t) = 0
+
+unfoldable pub frames_size : List Frame → ℕ
+frames_size [] = 0
+frames_size (f ∷ fs) = frame_size f + frames_size fs

@@ -1,0 +1,31 @@
+-- Which kinds of names have a type's text, and which names are used.
+use Rattle.std.specs.Prelude.{◌≡◌, ℕ, ◌<◌, ◌≤◌, Bool, false, List, [], ◌∷◌, length, Option, Some, None, ⊤, nat_eq, slice_index_or}
+use Rattle.std.specs.List.{list_any}
+use Rattle.pw_tree.specs.declared.ty.Ty.{Ty}
+use Rattle.pw_tree.specs.Placed.{IsType, IsValueType}
+use Rattle.pw_types.specs.declared.names.Kind.{Kind}
+use Rattle.pw_types.specs.declared.names.Kind.TheVariants.{Function, Variable}
+use Rattle.pw_types.specs.declared.names.File.{File}
+
+-- none of the types is void
+unfoldable pub AreValueTypes : List Ty → Type 0
+AreValueTypes [] = ⊤
+AreValueTypes (ty ∷ tys) = IsValueType ty × AreValueTypes tys
+
+-- an array's size, where there is one
+abbrev pub IsArraySize : Option ℕ → Type 0
+IsArraySize None = ⊤
+IsArraySize (Some size) = (1 ≤ size) × (size ≤ 65536)
+
+abbrev pub HasText : Kind → Type 0
+HasText (Function sig) = IsType sig.result × AreValueTypes sig.params × (length sig.params ≤ 6)
+HasText (Variable ty size) = IsValueType ty × IsArraySize size
+
+-- each of the names has one
+unfoldable pub HaveTexts : List File → Type 0
+HaveTexts [] = ⊤
+HaveTexts (f ∷ fs) = HasText f.kind × HaveTexts fs
+
+-- the numbers below the flags' number that are used are flagged
+abbrev pub AreFlags : List ℕ → List Bool → Type 0
+AreFlags used flags = (k : ℕ) → k < length flags → slice_index_or flags k false ≡ list_any (λ n. nat_eq n k) used

@@ -1,0 +1,194 @@
+-- The typed tree of an expression, where its parts have types and it breaks no rule of operands (C17, 6.5).
+use Rattle.std.specs.Prelude.{ℕ, Bool, if◌then◌else◌, List, replicate, Option, Some, None, option_map, option_and_then}
+use Rattle.pw_tree.specs.declared.ty.Ty.{Ty}
+use Rattle.pw_tree.specs.declared.ty.Ty.TheVariants.{Void, Long, Ulong, Fn}
+use Rattle.pw_tree.specs.declared.ty.Ref.{Ref}
+use Rattle.pw_tree.specs.declared.ty.Sig.{Sig}
+use Rattle.pw_tree.specs.declared.operator.Un.{Un}
+use Rattle.pw_tree.specs.declared.operator.Bin.{Bin}
+use Rattle.pw_tree.specs.Phrases.{Place, Phrase, Phrases, constant, word, unary, binary, conditional, call, index, input, output, nil, cons}
+use Rattle.pw_tree.specs.Trees.{Mark, Tree, Trees}
+use Rattle.pw_tree.specs.Trees as tree
+use Rattle.pw_types.specs.Types.{is_number, unary_type, binary_type, choice_type, pointer_to}
+use Rattle.pw_types.specs.declared.names.Kind.{Kind}
+use Rattle.pw_types.specs.declared.names.Kind.TheVariants.{Function, Variable}
+use Rattle.pw_types.specs.declared.names.File.{File}
+use Rattle.pw_types.specs.Scopes.{Scope, Meaning, missing, a_local, declared, meaning, function_reference, variable_reference}
+
+-- ---- the type of a tree
+
+abbrev pub mark_of : Tree → Mark
+mark_of (tree.constant at value) = at
+mark_of (tree.local at i) = at
+mark_of (tree.variable at x) = at
+mark_of (tree.designator at f) = at
+mark_of (tree.element at a size i) = at
+mark_of (tree.unary at op e) = at
+mark_of (tree.binary at op unsigned l r) = at
+mark_of (tree.conditional at c a b) = at
+mark_of (tree.call at f es) = at
+mark_of (tree.call_pointer at e es) = at
+mark_of (tree.input at) = at
+mark_of (tree.output at e) = at
+
+abbrev pub type_of : Tree → Ty
+type_of t = (mark_of t).ty
+
+-- the mark of a phrase that has a type
+abbrev pub mark : Ty → Place → Mark
+mark ty at = record { ty = ty; line = at.line }
+
+-- ---- names
+
+-- the value that a name is: a local's, a variable's, or a pointer to a function of a signature that has pointers
+abbrev pub typed_file : Scope → Place → File → Kind → Option Tree
+typed_file scope at f (Function sig) = option_map (λ ty. tree.designator (mark ty at) (function_reference scope f)) (pointer_to sig)
+typed_file scope at f (Variable ty None) = Some (tree.variable (mark ty at) (variable_reference scope f))
+typed_file scope at f (Variable ty (Some size)) = None
+
+abbrev pub typed_name : Scope → Place → Meaning → Option Tree
+typed_name scope at missing = None
+typed_name scope at (a_local l) = Some (tree.local (mark l.ty at) l.number)
+typed_name scope at (declared f) = typed_file scope at f f.kind
+
+-- An array that a name designates: how the unit names it, its elements' type and its size.
+pub record Array : Type 0 where
+  pub reference : Ref
+  pub ty : Ty
+  pub size : ℕ
+
+abbrev pub array_of_kind : Scope → File → Kind → Option Array
+array_of_kind scope f (Function sig) = None
+array_of_kind scope f (Variable ty None) = None
+array_of_kind scope f (Variable ty (Some size)) = Some (record { reference = variable_reference scope f; ty = ty; size = size })
+
+abbrev pub array_of_meaning : Scope → Meaning → Option Array
+array_of_meaning scope missing = None
+array_of_meaning scope (a_local l) = None
+array_of_meaning scope (declared f) = array_of_kind scope f f.kind
+
+abbrev pub array_named : Scope → List ℕ → Option Array
+array_named scope name = array_of_meaning scope (meaning scope name)
+
+-- A function that a name designates: how the unit names it, and its signature.
+pub record Designated : Type 0 where
+  pub reference : Ref
+  pub sig : Sig
+
+abbrev pub function_of_kind : Scope → File → Kind → Option Designated
+function_of_kind scope f (Function sig) = Some (record { reference = function_reference scope f; sig = sig })
+function_of_kind scope f (Variable ty size) = None
+
+abbrev pub function_of_meaning : Scope → Meaning → Option Designated
+function_of_meaning scope missing = None
+function_of_meaning scope (a_local l) = None
+function_of_meaning scope (declared f) = function_of_kind scope f f.kind
+
+abbrev pub function_named : Scope → List ℕ → Option Designated
+function_named scope name = function_of_meaning scope (meaning scope name)
+
+-- ---- phrases that are names
+
+abbrev pub array_of : Scope → Phrase → Option Array
+array_of scope (word at name) = array_named scope name
+array_of scope (constant at value unsigned) = None
+array_of scope (unary at op e) = None
+array_of scope (binary at op l r) = None
+array_of scope (conditional at c a b) = None
+array_of scope (call at f es) = None
+array_of scope (index at b i) = None
+array_of scope (input at) = None
+array_of scope (output at e) = None
+
+abbrev pub function_of : Scope → Phrase → Option Designated
+function_of scope (word at name) = function_named scope name
+function_of scope (constant at value unsigned) = None
+function_of scope (unary at op e) = None
+function_of scope (binary at op l r) = None
+function_of scope (conditional at c a b) = None
+function_of scope (call at f es) = None
+function_of scope (index at b i) = None
+function_of scope (input at) = None
+function_of scope (output at e) = None
+
+-- ---- calls
+
+-- What is called: a function by its name, a pointer, or nothing that can be called.
+pub data Callee : Type 0 where
+  direct : Designated → Callee
+  through : Tree → ℕ → Callee
+  neither : Callee
+
+abbrev pub pointer_of_type : Tree → Ty → Callee
+pointer_of_type t (Fn k) = through t k
+pointer_of_type t Void = neither
+pointer_of_type t Long = neither
+pointer_of_type t Ulong = neither
+
+abbrev pub pointer_callee : Option Tree → Callee
+pointer_callee (Some t) = pointer_of_type t (type_of t)
+pointer_callee None = neither
+
+abbrev pub callee_of : Option Designated → Option Tree → Callee
+callee_of (Some f) value = direct f
+callee_of None value = pointer_callee value
+
+-- the parameters that a callee has; a pointer's are longs
+abbrev pub parameters_of : Callee → Option (List Ty)
+parameters_of (direct f) = Some f.sig.params
+parameters_of (through t k) = Some (replicate k Long)
+parameters_of neither = None
+
+abbrev pub called : Place → Callee → Trees → Option Tree
+called at (direct f) es = Some (tree.call (mark f.sig.result at) f.reference es)
+called at (through t k) es = Some (tree.call_pointer (mark Long at) t es)
+called at neither es = None
+
+-- ---- all forms
+
+abbrev pub typed_unary : Place → Un → Tree → Option Tree
+typed_unary at op e = option_map (λ ty. tree.unary (mark ty at) op e) (unary_type op (type_of e))
+
+abbrev pub typed_binary : Place → Bin → Tree → Tree → Option Tree
+typed_binary at op l r = option_map (λ o. tree.binary (mark o.ty at) op o.unsigned l r) (binary_type op (type_of l) (type_of r))
+
+abbrev pub typed_choice : Place → Tree → Tree → Tree → Option Tree
+typed_choice at c a b = option_map (λ ty. tree.conditional (mark ty at) c a b) (choice_type (type_of a) (type_of b))
+
+abbrev pub typed_element : Place → Array → Tree → Option Tree
+typed_element at a i = if is_number (type_of i) then Some (tree.element (mark a.ty at) a.reference a.size i) else None
+
+-- two results, where both are there
+abbrev pub with_both : {A B C : Type 0} → (A → B → Option C) → Option A → Option B → Option C
+with_both f (Some a) (Some b) = f a b
+with_both f (Some a) None = None
+with_both f None b = None
+
+abbrev pub with_three : {A B C D : Type 0} → (A → B → C → Option D) → Option A → Option B → Option C → Option D
+with_three f (Some a) b c = with_both (f a) b c
+with_three f None b c = None
+
+abbrev pub both_trees : Tree → Trees → Option Trees
+both_trees e es = Some (tree.cons e es)
+
+abbrev pub constant_type : Bool → Ty
+constant_type unsigned = if unsigned then Ulong else Long
+
+unfoldable mutual
+  -- the typed tree of an expression
+  pub typed : Scope → Phrase → Option Tree
+  typed scope (constant at value unsigned) = Some (tree.constant (mark (constant_type unsigned) at) value)
+  typed scope (word at name) = typed_name scope at (meaning scope name)
+  typed scope (unary at op e) = option_and_then (typed_unary at op) (typed scope e)
+  typed scope (binary at op l r) = with_both (typed_binary at op) (typed scope l) (typed scope r)
+  typed scope (conditional at c a b) = with_three (typed_choice at) (typed scope c) (typed scope a) (typed scope b)
+  typed scope (call at f es) =
+      option_and_then (called at (callee_of (function_of scope f) (typed scope f))) (typed_all scope es)
+  typed scope (index at b i) = with_both (typed_element at) (array_of scope b) (typed scope i)
+  typed scope (input at) = Some (tree.input (mark Long at))
+  typed scope (output at e) = option_map (λ t. tree.output (mark Void at) t) (typed scope e)
+
+  -- the typed trees of several
+  pub typed_all : Scope → Phrases → Option Trees
+  typed_all scope nil = Some tree.nil
+  typed_all scope (cons e es) = with_both both_trees (typed scope e) (typed_all scope es)

@@ -1,0 +1,176 @@
+-- The faults of a whole unit, and its typed unit.
+use Rattle.std.specs.Prelude.{ℕ, suc, ◌+◌, ◌-◌, Bool, true, false, ◌&&◌, ◌||◌, not, if◌then◌else◌, List, [], ◌∷◌, ◌++◌, length, map, find, Option, Some, None, option_map, nat_eq}
+use Rattle.std.specs.List.{list_any}
+use Rattle.pw_tree.specs.declared.ty.Ty.{Ty}
+use Rattle.pw_tree.specs.declared.tunit.TVar.{TVar}
+use Rattle.pw_tree.specs.declared.tunit.Init.{Init}
+use Rattle.pw_tree.specs.declared.tunit.Init.TheVariants as init
+use Rattle.pw_tree.specs.declared.tunit.Ext.{Ext}
+use Rattle.pw_tree.specs.declared.decl.Param.{Param}
+use Rattle.pw_tree.specs.declared.decl.InitItem.{InitItem}
+use Rattle.pw_tree.specs.declared.decl.InitKind.{InitKind}
+use Rattle.pw_tree.specs.declared.decl.InitKind.TheVariants.{Num, Word}
+use Rattle.pw_tree.specs.Statements.{Statements}
+use Rattle.pw_tree.specs.Declarations.{Declaration, DeclarationForm, prototype, definition, variable, WrittenUnit}
+use Rattle.pw_tree.specs.Units.{Function, TypedUnit}
+use Rattle.pw_tree.specs.TypeTexts.{text_of_function, text_of_variable}
+use Rattle.pw_types.specs.declared.rule.Rule.TheVariants as rules
+use Rattle.pw_types.specs.declared.fault.Fault.{Fault}
+use Rattle.pw_types.specs.Faults.{broken_by}
+use Rattle.pw_types.specs.declared.names.Kind.{Kind}
+use Rattle.pw_types.specs.declared.names.File.{File}
+use Rattle.pw_types.specs.Scopes.{Scope, joined}
+use Rattle.pw_types.specs.declared.names.Kind.TheVariants as kinds
+use Rattle.pw_types.specs.Typed.{function_named, Designated}
+use Rattle.pw_types.specs.Held.{held_by_all}
+use Rattle.pw_types.specs.Blocks.{locals_in_all}
+use Rattle.pw_types.specs.Commands.{commands_of}
+use Rattle.pw_types.specs.Declarations.{is_external, is_extern, signature, elements_of, outermost, setting, declared_by, Whole, file_scope, faults_of_declaration, uses_of_form}
+
+-- ---- the names that a unit defines
+
+unfoldable pub functions_of : List (List ℕ) → List Declaration → List (List ℕ)
+functions_of names [] = names
+functions_of names (d ∷ ds) = functions_of (with_function d.form) ds
+  where
+    with_function : DeclarationForm → List (List ℕ)
+    with_function (definition result params body) = joined names d.name
+    with_function (prototype result params) = names
+    with_function (variable ty size items) = names
+
+unfoldable pub variables_of : List (List ℕ) → List Declaration → List (List ℕ)
+variables_of names [] = names
+variables_of names (d ∷ ds) = variables_of (with_variable d.form) ds
+  where
+    with_variable : DeclarationForm → List (List ℕ)
+    with_variable (variable ty size items) = if is_extern d.linkage then names else joined names d.name
+    with_variable (prototype result params) = names
+    with_variable (definition result params body) = names
+
+abbrev pub whole_of : WrittenUnit → Whole
+whole_of unit = record {
+  functions = functions_of [] unit.declarations;
+  variables = variables_of [] unit.declarations;
+  lines = unit.lines;
+}
+
+-- ---- faults
+
+-- the names behind declarations
+unfoldable pub files_behind : List File → List Declaration → List File
+files_behind files [] = files
+files_behind files (d ∷ ds) = files_behind (declared_by d files) ds
+
+unfoldable pub faults_of_declarations : Whole → List File → ℕ → List Declaration → List Fault
+faults_of_declarations w files elements [] = []
+faults_of_declarations w files elements (d ∷ ds) =
+    faults_of_declaration w files elements d ++ faults_of_declarations w (declared_by d files) (elements + elements_of d) ds
+
+-- a static function that is declared and not defined
+abbrev pub is_function : Kind → Bool
+is_function (kinds.Function sig) = true
+is_function (kinds.Variable ty size) = false
+
+abbrev pub lacks_definition : File → Bool
+lacks_definition f = is_function f.kind && not f.external && not f.defined
+
+-- Unknown, of the unit: the first static prototype without definition
+abbrev pub faults_of_lacking : ℕ → Option File → List Fault
+faults_of_lacking at None = []
+faults_of_lacking at (Some f) = broken_by rules.Unknown at f.name true
+
+-- All faults of a unit: those of its declarations in order, then its own, at its last token.
+abbrev pub faults_of : WrittenUnit → List Fault
+faults_of unit =
+    faults_of_declarations (whole_of unit) [] 0 unit.declarations
+    ++ faults_of_lacking (length unit.lines - 1) (find lacks_definition (files_behind [] unit.declarations))
+
+-- ---- the typed unit
+
+-- a function's definition
+abbrev pub typed_function : Whole → List File → Declaration → Ty → List Param → Statements → Function
+typed_function w files d result params body = record {
+  name = d.name;
+  global = is_external d.linkage;
+  sig = signature result params;
+  line = d.line;
+  locals = length params + locals_in_all body;
+  held = held_by_all (commands_of (setting w.lines result) (outermost (file_scope w files) params) body);
+  body = commands_of (setting w.lines result) (outermost (file_scope w files) params) body;
+}
+
+abbrev pub designated_or : Option Designated → Init
+designated_or (Some f) = init.Fun f.reference
+designated_or None = init.Num 0
+
+abbrev pub element_of : Scope → InitKind → Init
+element_of scope (Num n) = init.Num n
+element_of scope (Word name) = designated_or (function_named scope name)
+
+abbrev pub elements_in : Scope → List InitItem → List Init
+elements_in scope items = map (λ item. element_of scope item.kind) items
+
+abbrev pub typed_variable : Whole → List File → Declaration → Ty → Option ℕ → Option (List InitItem) → TVar
+typed_variable w files d ty size items = record {
+  name = d.name;
+  global = is_external d.linkage;
+  ty = ty;
+  count = size;
+  init = option_map (elements_in (file_scope w files)) items;
+}
+
+abbrev pub typed_functions_of : Whole → List File → Declaration → DeclarationForm → List Function
+typed_functions_of w files d (definition result params body) = typed_function w files d result params body ∷ []
+typed_functions_of w files d (prototype result params) = []
+typed_functions_of w files d (variable ty size items) = []
+
+abbrev pub typed_variables_of : Whole → List File → Declaration → DeclarationForm → List TVar
+typed_variables_of w files d (variable ty size items) =
+    if is_extern d.linkage then [] else typed_variable w files d ty size items ∷ []
+typed_variables_of w files d (prototype result params) = []
+typed_variables_of w files d (definition result params body) = []
+
+-- a declaration sees its own name
+unfoldable pub typed_functions : Whole → List File → List Declaration → List Function
+typed_functions w files [] = []
+typed_functions w files (d ∷ ds) =
+    typed_functions_of w (declared_by d files) d d.form ++ typed_functions w (declared_by d files) ds
+
+unfoldable pub typed_variables : Whole → List File → List Declaration → List TVar
+typed_variables w files [] = []
+typed_variables w files (d ∷ ds) =
+    typed_variables_of w (declared_by d files) d d.form ++ typed_variables w (declared_by d files) ds
+
+-- ---- external names
+
+-- the numbers of the names that bodies and initialisers use
+unfoldable pub uses_of_declarations : Whole → List File → List Declaration → List ℕ
+uses_of_declarations w files [] = []
+uses_of_declarations w files (d ∷ ds) =
+    uses_of_form (file_scope w (declared_by d files)) d.form ++ uses_of_declarations w (declared_by d files) ds
+
+abbrev pub text_of_kind : Kind → List ℕ
+text_of_kind (kinds.Function sig) = text_of_function sig
+text_of_kind (kinds.Variable ty size) = text_of_variable ty size
+
+-- an external name that is defined or used
+abbrev pub is_kept : List ℕ → ℕ → File → Bool
+is_kept used number f = f.external && (f.defined || list_any (λ n. nat_eq n number) used)
+
+unfoldable pub external_names : List ℕ → ℕ → List File → List Ext
+external_names used number [] = []
+external_names used number (f ∷ fs) =
+    if is_kept used number f
+    then record { name = f.name; text = text_of_kind f.kind } ∷ external_names used (suc number) fs
+    else external_names used (suc number) fs
+
+-- ---- all
+
+-- The typed unit of a unit without faults: its functions and variables in order of definition, and the external names that
+-- it defines or uses, in order of their first declaration.
+abbrev pub typed_unit : WrittenUnit → TypedUnit
+typed_unit unit = record {
+  functions = typed_functions (whole_of unit) [] unit.declarations;
+  variables = typed_variables (whole_of unit) [] unit.declarations;
+  names = external_names (uses_of_declarations (whole_of unit) [] unit.declarations) 0 (files_behind [] unit.declarations);
+}

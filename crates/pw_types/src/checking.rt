@@ -1,0 +1,51 @@
+//! The call that types a unit.
+ghost use Rattle.std.specs.Prelude.{◌≡◌, Some, Err};
+ghost use Rattle.pw_tree.specs.Declarations.{written_unit_of};
+ghost use Rattle.pw_tree.specs.Placed.{IsWritten};
+ghost use Rattle.pw_types.specs.Faults.{first_of};
+ghost use Rattle.pw_types.specs.Units.{faults_of};
+ghost use Rattle.pw_types.specs.Checks.{Checks};
+
+use crate::error::TypeError;
+use crate::fault::{Fault, Stop};
+use crate::unit::judge_unit;
+use pw_base::Pos;
+use pw_tree::{TUnit, Unit};
+use std::alloc::Global;
+
+/// The error that the first fault of a unit is, with its token's line.
+#[tactic(auto, using(crate::proofs::FirstFault::within))]
+fn error_of(unit: &Unit, fault: Fault) -> TypeError
+    requires written { IsWritten (written_unit_of unit.now) }
+    requires first { first_of (faults_of (written_unit_of unit.now)) ≡ Some fault }
+    ensures { Checks unit.now (Err result) }
+{
+    let lines = unit.lines.as_slice();
+    let line = lines[fault.at as usize];
+    TypeError::Broken {
+        rule: fault.rule,
+        at: Pos {
+            line,
+            token: fault.at as u32,
+        },
+        name: fault.name,
+    }
+}
+
+/// The typed unit of a unit that was read, or its first fault.
+///
+/// The faults of a unit are those of its declarations in order of text, and at its last token the first static function
+/// that is declared and not defined. Those of a phrase stand behind those of its parts, and several of one phrase in the
+/// order of `Rule`; `specs/Units.antt` has them all.
+///
+/// Refusals: `Broken` exactly where the unit has a fault, with the first. `NoMemory` may come in place of each answer.
+pub fn check(alloc: Global, unit: &Unit) -> Result<TUnit, TypeError>
+    requires written { IsWritten (written_unit_of unit.now) }
+    ensures { Checks unit.now result }
+{
+    match judge_unit(alloc, unit) {
+        Ok(typed) => Ok(typed),
+        Err(Stop::Fault(fault)) => Err(error_of(unit, fault)),
+        Err(Stop::NoMemory) => Err(TypeError::NoMemory),
+    }
+}

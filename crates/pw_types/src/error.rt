@@ -1,0 +1,29 @@
+//! Why a unit has no typed unit.
+
+use crate::rule::Rule;
+use pw_base::{Name, NoMemory, Pos};
+
+/// Why a unit has no typed unit: its first fault.
+#[derive(Debug, Drop)]
+pub enum TypeError {
+    /// The rule that is broken, the last token of the phrase that breaks it with its line, and the name that it is
+    /// about, for `Unknown`, `Redeclared`, `Conflict` and `Reserved`.
+    Broken {
+        rule: Rule,
+        at: Pos,
+        name: Option<Name>,
+    },
+    /// Memory was refused.
+    NoMemory,
+}
+
+impl From<NoMemory> for TypeError {
+    ghost use Rattle.std.specs.Prelude.{◌≡◌};
+    ghost use Rattle.pw_types.specs.declared.error.TypeError.TheVariants as errors;
+
+    ghost from_gives = { λ _ e. e ≡ errors.NoMemory };
+
+    fn from(_: NoMemory) -> TypeError {
+        TypeError::NoMemory
+    }
+}

@@ -1,0 +1,217 @@
+//! Calls (C17, 6.5.2.2).
+ghost use Rattle.std.specs.Prelude.{◌≡◌, ◌+◌, ◌<◌, ◌≤◌, Some, List, not, nat_eq, length, IfOk};
+ghost use Rattle.pw_tree.specs.Phrases.{phrases_of};
+ghost use Rattle.pw_types.specs.Scopes.{function_reference};
+ghost use Rattle.pw_types.specs.Expressions.{first_parameter, how_many};
+ghost use Rattle.pw_types.specs.CheckingExpressions as spec;
+ghost use Rattle.pw_types.specs.ResumingExpressions.{valued, aim_of, begun, direct_call_from, pointer_call_from, calling_of, taken_of, listed, Gives, Continues, ContinuesInEach, step_size, sizes};
+
+use crate::expression_form::more;
+use crate::expression_kind as kinds;
+use crate::expression_node::{fault, finish, node, type_of};
+use crate::expression_step::{Arguments, Call, Frame, Head, Parameters, Step, Target};
+use crate::fault::Stop;
+use crate::names::File;
+use crate::role::Role;
+use crate::rule::Rule;
+use crate::scope::Scope;
+use crate::typed::Typed;
+use pw_base::NoMemory;
+use pw_tree::{Expr, Ref, Sig, TExpr, TKind, Ty};
+use sqlite_items::Items;
+use std::alloc::Global;
+
+/// The type of the first parameter that is left, where there is one.
+fn first(params: Parameters<'_>) -> Option<Ty>
+    ensures { result ≡ first_parameter (Some (listed params.entry)) }
+{
+    match params {
+        Parameters::Listed([]) => None,
+        Parameters::Listed([ty, ..]) => Some(*ty),
+        Parameters::Longs(k) => { if k == 0 { None } else { Some(Ty::Long) } }
+    }
+}
+
+/// The parameters behind the first.
+fn others<'a>(params: Parameters<'a>) -> Parameters<'a>
+    ensures { listed result ≡ spec.others_wanted (listed params.entry) }
+{
+    match params {
+        Parameters::Listed([]) => params,
+        Parameters::Listed([_, more @ ..]) => Parameters::Listed(more),
+        Parameters::Longs(k) => Parameters::Longs(k.saturating_sub(1)),
+    }
+}
+
+/// So many trees and so many values more, or 101 where these are more.
+fn behind(trees: &Items<TExpr>, values: u32) -> u32
+    ensures { result ≡ spec.capped (length trees.now + values) }
+{
+    more(trees.len().min(101) as u32, values)
+}
+
+/// The arguments with one more.
+fn take(mut taken: Arguments, typed: Typed) -> Result<Arguments, NoMemory>
+    ensures { IfOk result (λ more. taken_of more ≡ spec.taking (taken_of taken) (valued typed)) }
+{
+    let one = behind(&taken.trees, typed.held.max(1));
+    taken.held = taken.held.max(one);
+    taken.trees.push(typed.tree)?;
+    Ok(taken)
+}
+
+/// A call of a function by its name.
+#[tactic(auto, using(crate::proofs::Trees::calls))]
+fn direct_call(head: Head, name: Ref, ty: Ty, taken: Arguments) -> Typed
+    ensures { valued result ≡ spec.called (spec.named name ty) head (taken_of taken) }
+{
+    node(head, ty, TKind::Call(name, taken.trees), taken.held)
+}
+
+/// A call through a pointer.
+fn pointer_call(
+    alloc: Global,
+    head: Head,
+    callee: Typed,
+    taken: Arguments,
+) -> Result<Typed, NoMemory>
+    ensures { IfOk result (λ call. valued call ≡ spec.called (spec.through (valued callee)) head (taken_of taken)) }
+{
+    let held = taken.held.max(behind(&taken.trees, callee.held));
+    let kind = kinds::call_pointer(alloc, callee.tree, taken.trees)?;
+    Ok(node(head, Ty::Long, kind, held))
+}
+
+/// A call whose arguments are judged. Refusals: as in `finish`.
+fn finish_call(alloc: Global, call: Call, taken: Arguments) -> Result<Typed, Stop>
+    ensures { Gives (spec.call_value (calling_of call) (taken_of taken)) result }
+{
+    let Call {
+        head,
+        target,
+        other_count,
+    } = call;
+    match target {
+        Target::Direct(name, ty) => finish(head, other_count, direct_call(head, name, ty, taken)),
+        Target::Through(callee) => {
+            finish(head, other_count, pointer_call(alloc, head, callee, taken)?)
+        }
+    }
+}
+
+/// The next argument of a call, or the call where none is left.
+#[tactic(auto, unfolding(crate::specs::CheckingExpressions::checked_arguments, crate::specs::ResumingExpressions::sizes))]
+pub(crate) fn go_on<'a>(
+    alloc: Global,
+    call: Call,
+    taken: Arguments,
+    params: Parameters<'a>,
+    rest: &'a [Expr],
+) -> Result<Step<'a>, Stop>
+    ensures continues { ContinuesInEach (λ scope. spec.checked_arguments scope (calling_of call) (taken_of taken) (listed params.entry) (phrases_of rest.now)) result }
+    ensures smaller { IfOk result (λ step. step_size step ≤ sizes (phrases_of rest.now)) }
+{
+    match rest {
+        [] => Ok(Step::Done(finish_call(alloc, call, taken)?)),
+        [e, more @ ..] => {
+            let role = Role::Argument(first(params));
+            let frame = Frame::Argument(call, taken, others(params), more);
+            Ok(Step::Part(frame, role, e))
+        }
+    }
+}
+
+/// How many parameters there are.
+fn count(params: Parameters<'_>) -> usize
+    ensures { result ≡ length (listed params.entry) }
+{
+    match params {
+        Parameters::Listed(tys) => tys.len(),
+        Parameters::Longs(k) => usize::from(k),
+    }
+}
+
+/// Whether a call has another number of arguments than its callee has parameters.
+#[tactic(auto, using(crate::proofs::Counted::how_many_phrases))]
+fn is_other_count(params: Parameters<'_>, es: &[Expr]) -> bool
+    ensures { result ≡ not (nat_eq (length (listed params.entry)) (how_many (phrases_of es.now))) }
+{
+    count(params) != es.len()
+}
+
+/// The first argument of a call, or the call where it has none.
+fn begin<'a>(
+    alloc: Global,
+    head: Head,
+    target: Target,
+    params: Parameters<'a>,
+    es: &'a [Expr],
+) -> Result<Step<'a>, Stop>
+    ensures continues { ContinuesInEach (λ scope. begun scope head (aim_of target) (listed params.entry) (phrases_of es.now)) result }
+    ensures smaller { IfOk result (λ step. step_size step ≤ sizes (phrases_of es.now)) }
+{
+    let call = Call {
+        head,
+        target,
+        other_count: is_other_count(params, es),
+    };
+    let none = Arguments {
+        trees: Items::new(alloc),
+        held: 0,
+    };
+    go_on(alloc, call, none, params, es)
+}
+
+/// A call of a function by its name, whose use was noted.
+pub(crate) fn call_function<'a>(
+    alloc: Global,
+    scope: &Scope<'_>,
+    head: Head,
+    file: &File,
+    sig: &'a Sig,
+    es: &'a [Expr],
+) -> Result<Step<'a>, Stop>
+    ensures continues { Continues scope.now (direct_call_from scope.now head (record { reference = function_reference scope.now file.now; sig = sig.now }) (phrases_of es.now)) result }
+    ensures smaller { IfOk result (λ step. step_size step ≤ sizes (phrases_of es.now)) }
+{
+    let name = scope.function_reference(alloc, file)?;
+    let params = Parameters::Listed(sig.params.as_slice());
+    begin(alloc, head, Target::Direct(name, sig.result), params, es)
+}
+
+/// A call through what was judged as the callee. Refusals: `NotCallable` of what is no pointer.
+pub(crate) fn call_through<'a>(
+    alloc: Global,
+    head: Head,
+    callee: Typed,
+    es: &'a [Expr],
+) -> Result<Step<'a>, Stop>
+    ensures continues { ContinuesInEach (λ scope. pointer_call_from scope head (phrases_of es.now) (valued callee)) result }
+    ensures smaller { IfOk result (λ step. step_size step ≤ sizes (phrases_of es.now)) }
+{
+    match type_of(&callee) {
+        Ty::Fn(k) => begin(
+            alloc,
+            head,
+            Target::Through(callee),
+            Parameters::Longs(k),
+            es,
+        ),
+        Ty::Void | Ty::Long | Ty::Ulong => Err(fault(head, Rule::NotCallable)),
+    }
+}
+
+/// What comes behind an argument of a call.
+pub(crate) fn behind_argument<'a>(
+    alloc: Global,
+    call: Call,
+    taken: Arguments,
+    params: Parameters<'a>,
+    rest: &'a [Expr],
+    typed: Typed,
+) -> Result<Step<'a>, Stop>
+    ensures continues { ContinuesInEach (λ scope. spec.checked_arguments scope (calling_of call) (spec.taking (taken_of taken) (valued typed)) (listed params.entry) (phrases_of rest.now)) result }
+    ensures smaller { IfOk result (λ step. step_size step ≤ sizes (phrases_of rest.now)) }
+{
+    go_on(alloc, call, take(taken, typed)?, params, rest)
+}

@@ -1,0 +1,103 @@
+//! The first step of judging an expression.
+ghost use Rattle.std.specs.Prelude.{◌≡◌, ◌+◌, ◌<◌, ◌≤◌, IfOk};
+ghost use Rattle.pw_tree.specs.Phrases.{phrase_of, phrases_of};
+ghost use Rattle.pw_types.specs.CheckingExpressions as spec;
+ghost use Rattle.pw_types.specs.ResumingExpressions.{ContinuesWith, call_from, index_from, step_size, size, sizes};
+
+use crate::expression_call::call_function;
+use crate::expression_form::{constant, input};
+use crate::expression_name::{named_value, note};
+use crate::expression_step::{Array, Frame, Head, Step};
+use crate::expression_word::{array, function};
+use crate::fault::Stop;
+use crate::role::Role;
+use crate::scope::Scope;
+use pw_tree::{Expr, ExprKind};
+use std::alloc::Global;
+
+/// The first step of a call, from its callee on. A function's name as a callee is noted, and is no value that is judged.
+fn call<'a>(
+    alloc: Global,
+    scope: &'a Scope<'a>,
+    used: &mut Vec<usize>,
+    head: Head,
+    callee: &'a Expr,
+    es: &'a [Expr],
+) -> Result<Step<'a>, Stop>
+    ensures continues { ContinuesWith scope.now (call_from scope.now head (phrase_of callee.now) (phrases_of es.now)) used.old.items used.new.items result }
+    ensures smaller { IfOk result (λ step. step_size step < 3 + (size (phrase_of callee.now) + sizes (phrases_of es.now))) }
+{
+    match function(scope, callee) {
+        None => Ok(Step::Part(Frame::Callee(head, es), Role::Callee, callee)),
+        Some(named) => {
+            note(used, named.number)?;
+            call_function(alloc, scope, head, named.file, named.sig, es)
+        }
+    }
+}
+
+/// The first step of an element, from its base on. An array's name as a base is noted; any other base is judged in the
+/// element's stead, since it breaks a rule.
+fn element<'a>(
+    alloc: Global,
+    scope: &'a Scope<'a>,
+    used: &mut Vec<usize>,
+    head: Head,
+    base: &'a Expr,
+    i: &'a Expr,
+) -> Result<Step<'a>, Stop>
+    ensures continues { ContinuesWith scope.now (index_from scope.now head (phrase_of base.now) (phrase_of i.now)) used.old.items used.new.items result }
+    ensures smaller { IfOk result (λ step. step_size step ≤ 1 + (size (phrase_of base.now) + size (phrase_of i.now))) }
+{
+    match array(scope, base) {
+        None => Ok(Step::Instead(Role::Base, base)),
+        Some(named) => {
+            let reference = scope.variable_reference(alloc, named.file)?;
+            note(used, named.number)?;
+            let array = Array {
+                reference,
+                ty: named.ty,
+                size: named.size,
+            };
+            Ok(Step::Part(Frame::Index(head, array), Role::Value, i))
+        }
+    }
+}
+
+/// The first step of judging an expression in its role.
+#[tactic(auto, using(crate::proofs::Phrases::phrase_forms), unfolding(crate::specs::CheckingExpressions::checked, crate::specs::ResumingExpressions::size))]
+pub(crate) fn down<'a>(
+    alloc: Global,
+    scope: &'a Scope<'a>,
+    used: &mut Vec<usize>,
+    role: Role,
+    e: &'a Expr,
+) -> Result<Step<'a>, Stop>
+    ensures continues { ContinuesWith scope.now (spec.checked scope.now role (phrase_of e.now)) used.old.items used.new.items result }
+    ensures smaller { IfOk result (λ step. step_size step < size (phrase_of e.now)) }
+{
+    let head = Head {
+        role,
+        last: e.last,
+        line: e.line,
+    };
+    match &e.kind {
+        ExprKind::Num(value, unsigned) => Ok(Step::Done(constant(head, *value, *unsigned)?)),
+        ExprKind::Word(name) => Ok(Step::Done(named_value(alloc, scope, used, head, name)?)),
+        ExprKind::Unary(op, x) => Ok(Step::Part(Frame::Operand(head, *op), Role::Value, x.get())),
+        ExprKind::Binary(op, l, r) => {
+            Ok(Step::Part(Frame::Left(head, *op, r.get()), Role::Value, l.get()))
+        }
+        ExprKind::Cond(c, a, b) => {
+            Ok(Step::Part(
+                Frame::Condition(head, a.get(), b.get()),
+                Role::Value,
+                c.get(),
+            ))
+        }
+        ExprKind::Call(callee, es) => call(alloc, scope, used, head, callee.get(), es.as_slice()),
+        ExprKind::Index(base, i) => element(alloc, scope, used, head, base.get(), i.get()),
+        ExprKind::Input => Ok(Step::Done(input(head)?)),
+        ExprKind::Output(x) => Ok(Step::Part(Frame::Written(head), Role::Written, x.get())),
+    }
+}

@@ -1,0 +1,144 @@
+//! The forms of expressions whose parts are judged (C17, 6.5).
+ghost use Rattle.std.specs.Prelude.{◌≡◌, ◌+◌};
+ghost use Rattle.pw_tree.specs.Trees.{tree_form_of};
+ghost use Rattle.pw_types.specs.Held as held;
+ghost use Rattle.pw_types.specs.Typed as trees;
+ghost use Rattle.pw_types.specs.CheckingExpressions as spec;
+ghost use Rattle.pw_types.specs.ResumingExpressions.{valued, plain_array, Gives};
+
+use crate::expression_kind as kinds;
+use crate::expression_node::{fault, finish, node, type_of};
+use crate::expression_step::{Array, Head};
+use crate::fault::Stop;
+use crate::rule::Rule;
+use crate::typed::Typed;
+use crate::types::{Operation, binary_type, choice_type, is_number, unary_type};
+use pw_tree::{Bin, TKind, Ty, Un};
+use std::alloc::Global;
+
+/// How many values are told apart; a greater number counts as this.
+const CAP: u32 = 101;
+
+/// So many values and so many more, or 101 where these are more.
+pub(crate) fn more(n: u32, values: u32) -> u32
+    ensures { result ≡ spec.capped (n + values) }
+{
+    n.saturating_add(values).min(CAP)
+}
+
+/// An expression with no parts.
+pub(crate) fn leaf(head: Head, ty: Ty, kind: TKind) -> Result<Typed, Stop>
+    ensures { Gives (spec.leaf head (tree_form_of kind (spec.mark_under head ty))) result }
+{
+    finish(head, false, node(head, ty, kind, 0))
+}
+
+/// A constant (C17, 6.4.4), and whether it is unsigned.
+#[tactic(auto, using(crate::proofs::Trees::constant))]
+pub(crate) fn constant(head: Head, value: u64, unsigned: bool) -> Result<Typed, Stop>
+    ensures { Gives (spec.constant_value head value unsigned) result }
+{
+    let ty = if unsigned { Ty::Ulong } else { Ty::Long };
+    leaf(head, ty, TKind::Num(value))
+}
+
+/// `__in()`.
+#[tactic(auto, using(crate::proofs::Trees::input))]
+pub(crate) fn input(head: Head) -> Result<Typed, Stop>
+    ensures { Gives (spec.input_value head) result }
+{
+    leaf(head, Ty::Long, TKind::Input)
+}
+
+/// A unary operator and its operand (C17, 6.5.3.3).
+pub(crate) fn unary(alloc: Global, head: Head, op: Un, e: Typed) -> Result<Typed, Stop>
+    ensures { Gives (spec.unary_value head op (valued e)) result }
+{
+    match unary_type(op, type_of(&e)) {
+        None => Err(fault(head, Rule::Operands)),
+        Some(ty) => {
+            let kind = kinds::unary(alloc, op, e.tree)?;
+            finish(head, false, node(head, ty, kind, e.held))
+        }
+    }
+}
+
+/// Whether the left operand is kept while the right one is evaluated.
+fn holds_left(op: Bin) -> bool
+    ensures { result ≡ held.holds_left op }
+{
+    match op {
+        Bin::AndAnd | Bin::OrOr => false,
+        Bin::Mul
+        | Bin::Div
+        | Bin::Rem
+        | Bin::Add
+        | Bin::Sub
+        | Bin::Shl
+        | Bin::Shr
+        | Bin::Lt
+        | Bin::Gt
+        | Bin::Le
+        | Bin::Ge
+        | Bin::Eq
+        | Bin::Ne
+        | Bin::And
+        | Bin::Xor
+        | Bin::Or => true,
+    }
+}
+
+/// How many values both operands hold.
+fn held_both(op: Bin, l: u32, r: u32) -> u32
+    ensures { result ≡ spec.capped (held.held_both (held.holds_left op) l r) }
+{
+    let right = if holds_left(op) { more(1, r) } else { r };
+    l.max(right).min(CAP)
+}
+
+/// A binary operator and its operands (C17, 6.5.5 to 6.5.14).
+pub(crate) fn binary(alloc: Global, head: Head, op: Bin, l: Typed, r: Typed) -> Result<Typed, Stop>
+    ensures { Gives (spec.binary_value head op (valued l) (valued r)) result }
+{
+    match binary_type(op, type_of(&l), type_of(&r)) {
+        None => Err(fault(head, Rule::Operands)),
+        Some(Operation { ty, unsigned }) => {
+            let held = held_both(op, l.held, r.held);
+            let kind = kinds::binary(alloc, op, unsigned, l.tree, r.tree)?;
+            finish(head, false, node(head, ty, kind, held))
+        }
+    }
+}
+
+/// A choice (C17, 6.5.15): its condition and its values.
+pub(crate) fn choice(alloc: Global, head: Head, c: Typed, a: Typed, b: Typed) -> Result<Typed, Stop>
+    ensures { Gives (spec.choice_value head (valued c) (valued a) (valued b)) result }
+{
+    match choice_type(type_of(&a), type_of(&b)) {
+        None => Err(fault(head, Rule::Operands)),
+        Some(ty) => {
+            let held = c.held.max(a.held.max(b.held));
+            let kind = kinds::choice(alloc, c.tree, a.tree, b.tree)?;
+            finish(head, false, node(head, ty, kind, held))
+        }
+    }
+}
+
+/// An element of an array (C17, 6.5.2.1), by its index.
+pub(crate) fn element(alloc: Global, head: Head, a: Array, i: Typed) -> Result<Typed, Stop>
+    ensures { Gives (spec.element_value head (plain_array a) (valued i)) result }
+{
+    if !is_number(type_of(&i)) {
+        return Err(fault(head, Rule::Operands));
+    }
+    let kind = kinds::element(alloc, a.reference, a.size, i.tree)?;
+    finish(head, false, node(head, a.ty, kind, i.held))
+}
+
+/// `__out(e)`.
+pub(crate) fn output(alloc: Global, head: Head, e: Typed) -> Result<Typed, Stop>
+    ensures { Gives (spec.output_value head (valued e)) result }
+{
+    let kind = kinds::output(alloc, e.tree)?;
+    finish(head, false, node(head, Ty::Void, kind, e.held))
+}

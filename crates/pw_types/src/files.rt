@@ -1,0 +1,122 @@
+//! The names at file level.
+ghost use Rattle.std.specs.Prelude.{◌≡◌, [], OnOk};
+ghost use Rattle.pw_types.specs.Scopes.{with_file};
+ghost use Rattle.pw_types.specs.Lookups.{Finds};
+
+use crate::names::File;
+use indexmap::IndexMap;
+use pw_base::NoMemory;
+use std::alloc::Global;
+use std::marker::Model;
+
+/// The names at file level, in order of first declaration. Contracts see them as the list of these.
+///
+/// A name is looked up by the hash of its bytes, which are the keys.
+#[derive(Drop)]
+pub struct Files {
+    by_name: IndexMap<Vec<u8>, File>,
+}
+
+impl Model for Files {
+    ghost use Rattle.std.specs.Prelude.{List};
+    ghost use Rattle.pw_types.specs.declared.names.File.{File as Declared};
+    ghost use Rattle.indexmap.specs.IndexMap.{values};
+    ghost use Rattle.pw_types.specs.Lookups.{AreKeyed};
+
+    ghost Value = { List Declared };
+
+    ghost view = { λ files. values files.by_name };
+
+    ghost invariant = { λ files. AreKeyed (λ key. key.items) files.by_name.entries };
+}
+
+impl Files {
+    /// No names.
+    pub fn new(alloc: Global) -> Files
+        ensures { result ≡ [] }
+    {
+        Files {
+            by_name: IndexMap::new(alloc),
+        }
+    }
+
+    /// The declaration of a name, and its number in the order of first declaration.
+    pub fn find(&self, name: &[u8]) -> Option<(usize, &File)>
+        ensures { Finds name.now self.now result }
+    {
+        match self.by_name.get_full(name) {
+            Some((number, _, file)) => Some((number, file)),
+            None => None,
+        }
+    }
+
+    /// A declaration joins them: the first of a name is kept, and is defined where a later one is.
+    pub fn declare(&mut self, file: File) -> Result<(), NoMemory>
+        ensures { OnOk result (self.new ≡ with_file file self.old) }
+    {
+        match self.by_name.get_mut(file.name.bytes()) {
+            Some(known) => {
+                known.defined |= file.defined;
+                Ok(())
+            }
+            None => {
+                let key = Vec::from_slice(*self.by_name.allocator(), file.name.bytes())?;
+                match self.by_name.insert(key, file) {
+                    Ok(_) => Ok(()),
+                    Err(_) => Err(NoMemory),
+                }
+            }
+        }
+    }
+
+    /// All of them, in order of first declaration.
+    pub fn as_slice(&self) -> &[File]
+        ensures { result.now ≡ self.now }
+    {
+        self.by_name.values().as_slice()
+    }
+}
+
+#[cfg(test)]
+mod tests {
+    use super::*;
+    use crate::names::Kind;
+    use pw_base::{Name, NameError};
+    use pw_tree::Ty;
+    use std::test::Fail;
+
+    /// A declaration of a variable.
+    fn variable(alloc: Global, name: &[u8], defined: bool) -> Result<File, NameError> {
+        Ok(File {
+            name: Name::read(alloc, name)?,
+            external: true,
+            kind: Kind::Variable(Ty::Long, None),
+            defined,
+        })
+    }
+
+    /// The number of a name, and whether it is defined.
+    fn found(files: &Files, name: &[u8]) -> Option<(usize, bool)> {
+        files
+            .find(name)
+            .map(|(number, file)| (number, file.defined))
+    }
+
+    #[test]
+    fn a_name_keeps_its_first_number_and_is_defined_where_a_declaration_is(
+        rt: HostRuntime,
+    ) -> Result<(), Fail> {
+        let alloc = rt.alloc();
+        let mut files = Files::new(alloc);
+        files.declare(variable(alloc, b"f", false)?)?;
+        files.declare(variable(alloc, b"gg", true)?)?;
+        assert_eq!(rt; found(&files, b"f"), Some((0, false)));
+        files.declare(variable(alloc, b"f", true)?)?;
+        files.declare(variable(alloc, b"gg", false)?)?;
+        assert_eq!(rt; found(&files, b"f"), Some((0, true)));
+        assert_eq!(rt; found(&files, b"gg"), Some((1, true)));
+        assert_eq!(rt; found(&files, b"g"), None);
+        assert_eq!(rt; files.as_slice().len(), 2);
+        Ok(())
+    }
+}

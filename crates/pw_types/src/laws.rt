@@ -1,0 +1,22 @@
+//! Laws of the list of a unit's faults, each the contract of a function.
+ghost use Rattle.pw_types.specs.Laws.{FaultsAscend, FirstEndsFirst, FaultsAreWithin, RulesOfPhrasesAscend};
+
+/// The faults of a unit that was read ascend by the last tokens of their phrases.
+pub fn faults_ascend()
+    ensures { FaultsAscend }
+{}
+
+/// No fault of a unit that was read ends before the first.
+pub fn the_first_fault_ends_first()
+    ensures { FirstEndsFirst }
+{}
+
+/// The faults of a unit that was read end at tokens of the unit.
+pub fn faults_are_within_the_unit()
+    ensures { FaultsAreWithin }
+{}
+
+/// Where one phrase breaks several rules, its faults ascend by rule.
+pub fn rules_of_a_phrase_ascend()
+    ensures { RulesOfPhrasesAscend }
+{}

@@ -1,0 +1,97 @@
+//! The statements of a function's body, by a loop over the statements that wait for a part: trees nest too deep to recurse.
+ghost use Rattle.pw_tree.specs.Statements.{statement_of, statements_of};
+ghost use Rattle.pw_types.specs.CheckingStatements.{Finishes, FinishesAll, outcome_at};
+ghost use Rattle.pw_types.specs.Declarations.{setting};
+ghost use Rattle.pw_types.specs.Judged.{JudgesBody};
+
+use crate::fault::Stop;
+use crate::scope::Scope;
+use crate::statement_step::{Setting, Step, push};
+use crate::statement_walk::Walk;
+use crate::typed::Body;
+use pw_tree::{Stmt, TStmt, Ty};
+use sqlite_items::Items;
+use std::alloc::Global;
+use std::mem;
+
+impl<'a> Walk<'a> {
+    /// A statement and all that stands in it.
+    fn statement<'s>(&mut self, setting: &Setting<'s>, stmt: &'s Stmt) -> Result<TStmt, Stop>
+        ensures { Finishes (outcome_at setting.now self.old (statement_of stmt.now)) self.new result }
+    {
+        let mut frames = Items::new(self.alloc);
+        let mut step = self.enter(setting, stmt)?;
+        'parts: loop {
+            match step {
+                Step::Part(frame, setting, part) => {
+                    push(&mut frames, frame)?;
+                    step = self.enter(&setting, part)?;
+                }
+                Step::Done(command) => match frames.pop() {
+                    Some(frame) => step = self.resume(frame, command)?,
+                    None => return Ok(command),
+                },
+            }
+        }
+    }
+
+    /// Statements in a row.
+    fn statements<'s>(
+        &mut self,
+        setting: &Setting<'s>,
+        body: &'s [Stmt],
+    ) -> Result<Items<TStmt>, Stop>
+        ensures { FinishesAll setting.now (statements_of body.now) self.old self.new result }
+    {
+        let mut done = Items::new(self.alloc);
+        let mut rest = body;
+        'row: while let [stmt, more @ ..] = rest {
+            let command = self.statement(setting, stmt)?;
+            push(&mut done, command)?;
+            rest = more;
+        }
+        Ok(done)
+    }
+}
+
+/// The typed statements of a function's body, or its first fault. `scope` has the parameters as its locals, of which there
+/// are `count`, and `ty` is the type of the function's result. The numbers of the names that are used are noted behind those
+/// of `used`. Nothing is said of `scope` behind it.
+pub fn judge_body(
+    alloc: Global,
+    scope: &mut Scope<'_>,
+    used: &mut Vec<usize>,
+    lines: &[u32],
+    ty: Ty,
+    count: u32,
+    body: &[Stmt],
+) -> Result<Body, Stop>
+    ensures { JudgesBody (setting lines.now ty) (record { scope = scope.old; start = 0; count = count }) (statements_of body.now) used.old.items used.new.items result }
+{
+    let mut walk = Walk {
+        alloc,
+        scope: Scope {
+            files: scope.files,
+            functions: scope.functions,
+            variables: scope.variables,
+            locals: mem::replace(&mut scope.locals, Vec::new(alloc)),
+        },
+        start: 0,
+        count,
+        used: mem::replace(used, Vec::new(alloc)),
+        held: 0,
+    };
+    let outermost = Setting {
+        result: ty,
+        lines,
+        in_loop: false,
+        in_head: false,
+    };
+    let statements = walk.statements(&outermost, body)?;
+    *used = walk.used;
+    Ok(Body {
+        statements,
+        held: walk.held,
+        count: walk.count,
+    })
+}

@@ -1,0 +1,120 @@
+//! Declarations of locals.
+ghost use Rattle.std.specs.Prelude.{◌≡◌, ◌<◌, ⊤, drop, true, is_some, option_map, IfOk};
+ghost use Rattle.pw_tree.specs.Phrases.{phrase_of};
+ghost use Rattle.pw_tree.specs.Placed as placed;
+ghost use Rattle.pw_tree.specs.Statements as statement;
+ghost use Rattle.pw_types.specs.Faults as faults;
+ghost use Rattle.pw_types.specs.Faults.{Judges};
+ghost use Rattle.pw_types.specs.Scopes.{local_named};
+ghost use Rattle.pw_types.specs.Statements.{faults_of_name};
+ghost use Rattle.pw_types.specs.CheckingStatements.{Fails, Finishes, block_of, outcome_at, place_of};
+ghost use Rattle.pw_types.specs.StatementValues.{Declares};
+
+use crate::fault::{Fault, Stop};
+use crate::names::Local;
+use crate::reserved::is_reserved;
+use crate::role::Role;
+use crate::rule::Rule;
+use crate::scope::newest;
+use crate::statement_simple::broken;
+use crate::statement_step::{Setting, Span};
+use crate::statement_walk::Walk;
+use pw_base::{Name, NoMemory};
+use pw_tree::{Expr, TStmt, Ty};
+use std::alloc::Global;
+
+/// How many parameters and locals a function may have.
+const FUNCTION_LOCALS: u32 = 120;
+
+/// The fault at a token, which is about a name.
+pub(crate) fn broken_by(alloc: Global, rule: Rule, at: u64, name: &Name) -> Stop
+    ensures { Fails (faults.broken_by rule at name.now true) result }
+{
+    match name.copy(alloc) {
+        Ok(name) => Stop::Fault(Fault {
+            rule,
+            at,
+            name: Some(name),
+        }),
+        Err(_) => Stop::NoMemory,
+    }
+}
+
+/// The locals from this one on.
+fn own_locals(locals: &[Local], start: usize) -> &[Local]
+    ensures { result.now ≡ drop start locals.now }
+{
+    match locals.get(start..) {
+        Some(own) => own,
+        None => &[],
+    }
+}
+
+/// Whether one of the locals has the name.
+fn is_declared(locals: &[Local], name: &[u8]) -> bool
+    ensures { result ≡ is_some (local_named name.now locals.now) }
+{
+    newest(locals, name).is_some()
+}
+
+/// The token of a local's name: its type has one token, or two.
+fn local_name_at(at: Span, ty: Ty) -> u64
+    ensures { result ≡ placed.local_name_at (place_of at) ty }
+{
+    match ty {
+        Ty::Ulong => u64::from(at.first) + 2,
+        Ty::Void | Ty::Long | Ty::Fn(_) => u64::from(at.first) + 1,
+    }
+}
+
+impl<'a> Walk<'a> {
+    /// Whether a local of the name may be declared. Refusals: `Redeclared`, then `TooManyLocals`, then `Reserved`.
+    fn declarable(&self, name: &Name, at: u64) -> Result<(), Stop>
+        ensures { Judges (faults_of_name (block_of self.now) name.now at) (λ _. ⊤) result }
+    {
+        if is_declared(own_locals(&self.scope.locals, self.start), name.bytes()) {
+            return Err(broken_by(self.alloc, Rule::Redeclared, at, name));
+        }
+        if self.count >= FUNCTION_LOCALS {
+            return Err(broken(Rule::TooManyLocals, at));
+        }
+        if is_reserved(name.bytes()) {
+            return Err(broken_by(self.alloc, Rule::Reserved, at, name));
+        }
+        Ok(())
+    }
+
+    /// Declares a local, and gives its number.
+    fn declare(&mut self, name: &Name, ty: Ty) -> Result<u32, NoMemory>
+        requires { self.old.count < 120 }
+        ensures { IfOk result (Declares name.now ty self.old self.new) }
+    {
+        let number = self.count;
+        let name = name.copy(self.alloc)?;
+        match self.scope.locals.push(Local { name, ty, number }) {
+            Ok(()) => {
+                self.count += 1;
+                Ok(number)
+            }
+            Err(_) => Err(NoMemory),
+        }
+    }
+
+    /// `ty name = value ;`, or `ty name ;`
+    #[tactic(auto, unfolding(crate::specs::Statements::faults_by))]
+    pub fn local(
+        &mut self,
+        setting: &Setting<'_>,
+        at: Span,
+        ty: Ty,
+        name: &Name,
+        value: &Option<Expr>,
+    ) -> Result<TStmt, Stop>
+        ensures { Finishes (outcome_at setting.now self.old (statement.local (place_of at) ty name.now (option_map phrase_of value.now))) self.new result }
+    {
+        self.declarable(name, local_name_at(at, ty))?;
+        let value = self.maybe_value(Role::Assigned(Some(ty)), value)?;
+        let number = self.declare(name, ty)?;
+        Ok(TStmt::SetLocal(number, value))
+    }
+}

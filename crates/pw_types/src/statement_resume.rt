@@ -1,0 +1,179 @@
+//! Statements that hold others, from behind a part.
+ghost use Rattle.std.specs.Prelude.{◌≡◌, ◌+◌, ◌<◌, [], ◌∷◌, ◌++◌, Some, IfOk, map, option_map};
+ghost use Rattle.pw_tree.specs.Phrases.{phrase_of};
+ghost use Rattle.pw_tree.specs.Trees.{tree_of};
+ghost use Rattle.pw_tree.specs.Commands.{command_of, present};
+ghost use Rattle.pw_tree.specs.Statements.{statement_of, statements_of, maybe};
+ghost use Rattle.pw_types.specs.CheckingStatements.{Finishes, Steps, behind_first_at, block_at, judged_at, leave, rest_of_do, rest_of_for, rest_of_if, resumed, resumed_at, setting_of, typed_maybe};
+ghost use Rattle.pw_types.specs.StatementWeights.{weight, weight_of_all, weight_of_maybe, weight_of_form, weight_of_step};
+
+use crate::fault::Stop;
+use crate::role::Role;
+use crate::statement_enter::done;
+use crate::statement_step::{Form, Frame, Outer, Step, push};
+use crate::statement_walk::Walk;
+use pw_base::NoMemory;
+use pw_tree::{Expr, Stmt, TExpr, TStmt};
+use sqlite_items::{Boxed, Items};
+use std::alloc::Global;
+
+/// A typed statement in a box.
+fn boxed(alloc: Global, command: TStmt) -> Result<Boxed<TStmt>, NoMemory>
+    ensures { IfOk result (λ b. b ≡ command) }
+{
+    Ok(Boxed::new(alloc, command)?)
+}
+
+impl<'a> Walk<'a> {
+    /// A block, behind one of its statements.
+    fn resume_block<'s>(
+        &mut self,
+        outer: &Outer<'s>,
+        mut done: Items<TStmt>,
+        rest: &'s [Stmt],
+        command: TStmt,
+    ) -> Result<Step<'s>, Stop>
+        ensures judged { Steps (block_at done rest.now outer.now (judged_at (command_of command) self.old)) self.new result }
+        ensures less { IfOk result (λ step. weight_of_step step < 1 + weight_of_all (statements_of rest.now)) }
+    {
+        push(&mut done, command)?;
+        match rest {
+            [] => {
+                self.leave(outer);
+                Ok(Step::Done(TStmt::Block(done)))
+            }
+            [first, rest @ ..] => {
+                let outer = *outer;
+                let form = Form::Block(done, rest);
+                Ok(Step::Part(Frame { outer, form }, outer.setting.part(), first))
+            }
+        }
+    }
+
+    /// An `if`, behind its first part.
+    fn resume_then<'s>(
+        &mut self,
+        outer: &Outer<'s>,
+        c: TExpr,
+        b: &'s Option<Boxed<Stmt>>,
+        command: TStmt,
+    ) -> Result<Step<'s>, Stop>
+        ensures judged { Steps (rest_of_if (setting_of outer.now.setting) (leave outer.now.start outer.now.visible) (tree_of c) (maybe (option_map statement_of b.now)) (judged_at (command_of command) self.old)) self.new result }
+        ensures less { IfOk result (λ step. weight_of_step step < 2 + weight_of_maybe (maybe (option_map statement_of b.now))) }
+    {
+        let a = boxed(self.alloc, command)?;
+        match b {
+            Some(b) => {
+                let outer = *outer;
+                let form = Form::Else(c, a);
+                Ok(Step::Part(Frame { outer, form }, outer.setting.part(), b.get()))
+            }
+            None => {
+                self.leave(outer);
+                Ok(Step::Done(TStmt::If(c, a, None)))
+            }
+        }
+    }
+
+    /// An `if`, behind its second part.
+    fn resume_else(
+        &mut self,
+        outer: &Outer<'_>,
+        c: TExpr,
+        a: Boxed<TStmt>,
+        command: TStmt,
+    ) -> Result<TStmt, Stop>
+        ensures { Finishes (resumed_at outer.now (Form.Else c a) (judged_at (command_of command) self.old)) self.new result }
+    {
+        let b = boxed(self.alloc, command)?;
+        self.leave(outer);
+        Ok(TStmt::If(c, a, Some(b)))
+    }
+
+    /// A `while`, behind its body.
+    fn resume_while(&mut self, outer: &Outer<'_>, c: TExpr, command: TStmt) -> Result<TStmt, Stop>
+        ensures { Finishes (resumed_at outer.now (Form.While c) (judged_at (command_of command) self.old)) self.new result }
+    {
+        let body = boxed(self.alloc, command)?;
+        self.leave(outer);
+        Ok(TStmt::While(c, body))
+    }
+
+    /// A `do`, behind its body.
+    fn resume_do(&mut self, outer: &Outer<'_>, c: &Expr, command: TStmt) -> Result<TStmt, Stop>
+        ensures { Finishes (rest_of_do (leave outer.now.start outer.now.visible) (phrase_of c.now) (judged_at (command_of command) self.old)) self.new result }
+    {
+        let body = boxed(self.alloc, command)?;
+        self.leave(outer);
+        let c = self.value(Role::Value, c)?;
+        Ok(TStmt::Do(body, c))
+    }
+
+    /// A `for`, behind its last part.
+    fn resume_last<'s>(
+        &self,
+        outer: &Outer<'s>,
+        first: Option<Boxed<TStmt>>,
+        c: Option<TExpr>,
+        body: &'s Stmt,
+        command: TStmt,
+    ) -> Result<Step<'s>, Stop>
+        ensures judged { Steps (rest_of_for (setting_of outer.now.setting) (leave outer.now.start outer.now.visible) (typed_maybe first) (option_map tree_of c) (present (command_of command)) (statement_of body.now) (judged_at (command_of command) self.now)) self.now result }
+        ensures less { IfOk result (λ step. weight_of_step step < weight (statement_of body.now) + 2) }
+    {
+        let last = boxed(self.alloc, command)?;
+        let outer = *outer;
+        let form = Form::For(first, c, Some(last));
+        Ok(Step::Part(Frame { outer, form }, outer.setting.body(), body))
+    }
+
+    /// A `for`, behind its body.
+    fn resume_for(
+        &mut self,
+        outer: &Outer<'_>,
+        first: Option<Boxed<TStmt>>,
+        c: Option<TExpr>,
+        last: Option<Boxed<TStmt>>,
+        command: TStmt,
+    ) -> Result<TStmt, Stop>
+        ensures { Finishes (resumed_at outer.now (Form.For first c last) (judged_at (command_of command) self.old)) self.new result }
+    {
+        let body = boxed(self.alloc, command)?;
+        self.leave(outer);
+        Ok(TStmt::For(first, c, last, body))
+    }
+
+    /// A `for`, behind its first part.
+    fn resume_first<'s>(
+        &mut self,
+        outer: &Outer<'s>,
+        c: &Option<Expr>,
+        last: &'s Option<Boxed<Stmt>>,
+        body: &'s Stmt,
+        command: TStmt,
+    ) -> Result<Step<'s>, Stop>
+        ensures judged { Steps (behind_first_at outer.now (present (command_of command)) (option_map phrase_of c.now) (maybe (option_map statement_of last.now)) (statement_of body.now) self.old) self.new result }
+        ensures less { IfOk result (λ step. weight_of_step step < weight_of_maybe (maybe (option_map statement_of last.now)) + (weight (statement_of body.now) + 3)) }
+    {
+        let first = boxed(self.alloc, command)?;
+        self.behind_first(outer, Some(first), c, last, body)
+    }
+
+    /// A statement, behind the part that it waits for, of which this is the typed statement.
+    pub fn resume<'s>(&mut self, frame: Frame<'s>, command: TStmt) -> Result<Step<'s>, Stop>
+        ensures judged { Steps (resumed frame.entry (judged_at (command_of command) self.old)) self.new result }
+        ensures less { IfOk result (λ step. weight_of_step step < weight_of_form frame.entry.form) }
+    {
+        let Frame { outer, form } = frame;
+        match form {
+            Form::Block(before, rest) => self.resume_block(&outer, before, rest, command),
+            Form::Then(c, b) => self.resume_then(&outer, c, b, command),
+            Form::Else(c, a) => done(self.resume_else(&outer, c, a, command)),
+            Form::While(c) => done(self.resume_while(&outer, c, command)),
+            Form::Do(c) => done(self.resume_do(&outer, c, command)),
+            Form::First(c, last, body) => self.resume_first(&outer, c, last, body, command),
+            Form::Last(first, c, body) => self.resume_last(&outer, first, c, body, command),
+            Form::For(first, c, last) => { done(self.resume_for(&outer, first, c, last, command)) }
+        }
+    }
+}

@@ -1,0 +1,199 @@
+//! Assignments.
+ghost use Rattle.std.specs.Prelude.{◌≡◌, suc, option_map, slice_index_or};
+ghost use Rattle.pw_tree.specs.Phrases.{phrase_of};
+ghost use Rattle.pw_tree.specs.Placed as placed;
+ghost use Rattle.pw_tree.specs.Statements as statement;
+ghost use Rattle.pw_types.specs.Faults.{Judges};
+ghost use Rattle.pw_types.specs.Statements.{faults_of_target, faults_of_array};
+ghost use Rattle.pw_types.specs.CheckingStatements.{Finishes, outcome_at, place_of};
+ghost use Rattle.pw_types.specs.StatementTargets.{IsTarget, IsArray, JudgesIndex, JudgesElementValue};
+
+use crate::expression::judge;
+use crate::fault::Stop;
+use crate::meaning::Meaning;
+use crate::names::{File, Kind};
+use crate::role::Role;
+use crate::rule::Rule;
+use crate::statement_local::broken_by;
+use crate::statement_simple::broken;
+use crate::statement_step::{Setting, Span};
+use crate::statement_walk::Walk;
+use crate::typed::Typed;
+use crate::types::is_number;
+use pw_base::Name;
+use pw_tree::{Expr, Ref, TExpr, TStmt, Ty};
+
+/// What a name is assigned at, and its type.
+#[derive(Drop)]
+pub(crate) enum Target {
+    /// The local of this number.
+    Local(u32, Ty),
+    /// A variable: its number among the names at file level, and how the unit names it.
+    Variable(usize, Ref, Ty),
+}
+
+/// An array: its number among the names at file level, how the unit names it, its elements' type and its size.
+#[derive(Drop)]
+pub(crate) struct Array {
+    pub number: usize,
+    pub reference: Ref,
+    pub ty: Ty,
+    pub size: u32,
+}
+
+/// The last token of an assignment: a part of a `for` has no `;` of its own.
+fn set_end(in_head: bool, at: Span) -> u64
+    ensures { result ≡ placed.set_end in_head (place_of at) }
+{
+    if in_head {
+        u64::from(at.last)
+    } else {
+        u64::from(at.last).saturating_sub(1)
+    }
+}
+
+/// The `]` behind the index of an assignment: as many brackets stand round the index behind it as before it.
+#[tactic(auto, using(crate::proofs::PhrasePlaces::place_is))]
+fn index_end(at: Span, i: &Expr) -> u64
+    ensures { result ≡ placed.index_end (place_of at) (phrase_of i.now) }
+{
+    let before = u64::from(i.first).saturating_sub(u64::from(at.first) + 2);
+    u64::from(i.last) + before + 1
+}
+
+/// The line of the `[` behind a name.
+fn bracket_line(lines: &[u32], first: u32) -> u32
+    ensures { result ≡ slice_index_or lines.now (suc first) 0 }
+{
+    match lines.get(first as usize + 1) {
+        Some(line) => *line,
+        None => 0,
+    }
+}
+
+impl<'a> Walk<'a> {
+    /// What a name is assigned at. Refusals: `Unknown`, `NeedsIndex`, `AssignType`.
+    fn target(&self, name: &Name, at: u32) -> Result<Target, Stop>
+        ensures { Judges (faults_of_target self.now.scope name.now at) (IsTarget self.now.scope name.now) result }
+    {
+        match self.scope.meaning(name.bytes()) {
+            Meaning::Missing => Err(broken_by(self.alloc, Rule::Unknown, u64::from(at), name)),
+            Meaning::Local(local) => Ok(Target::Local(local.number, local.ty)),
+            Meaning::File(number, file) => match file.kind {
+                Kind::Function(_) => Err(broken(Rule::AssignType, u64::from(at))),
+                Kind::Variable(_, Some(_)) => Err(broken(Rule::NeedsIndex, u64::from(at))),
+                Kind::Variable(ty, None) => Ok(Target::Variable(
+                    number,
+                    self.scope.variable_reference(self.alloc, file)?,
+                    ty,
+                )),
+            },
+        }
+    }
+
+    /// The array that a name is. Refusals: `Unknown`, `NotArray`.
+    fn array(&self, name: &Name, at: u32) -> Result<Array, Stop>
+        ensures { Judges (faults_of_array self.now.scope name.now at) (IsArray self.now.scope name.now) result }
+    {
+        match self.scope.meaning(name.bytes()) {
+            Meaning::Missing => Err(broken_by(self.alloc, Rule::Unknown, u64::from(at), name)),
+            Meaning::Local(_) => Err(broken(Rule::NotArray, u64::from(at))),
+            Meaning::File(number, file) => match file.kind {
+                Kind::Function(_) | Kind::Variable(_, None) => {
+                    Err(broken(Rule::NotArray, u64::from(at)))
+                }
+                Kind::Variable(ty, Some(size)) => Ok(Array {
+                    number,
+                    reference: self.scope.variable_reference(self.alloc, file)?,
+                    ty,
+                    size,
+                }),
+            },
+        }
+    }
+
+    /// An index: a number. Refusal: `Operands`, at the `]`.
+    fn index(&mut self, at: Span, i: &Expr) -> Result<Typed, Stop>
+        ensures { JudgesIndex (place_of at) (phrase_of i.now) self.old self.new result }
+    {
+        let typed = judge(self.alloc, &self.scope, &mut self.used, Role::Value, i)?;
+        if !is_number(typed.tree.ty) {
+            return Err(broken(Rule::Operands, index_end(at, i)));
+        }
+        Ok(typed)
+    }
+
+    /// What an element is assigned; the index, which holds so many values beside it, is kept meanwhile.
+    fn element_value(&mut self, beside: u32, ty: Ty, e: &Expr, end: u64) -> Result<TExpr, Stop>
+        ensures { JudgesElementValue beside ty (phrase_of e.now) end self.old self.new result }
+    {
+        let role = Role::Assigned(Some(ty));
+        let typed = judge(self.alloc, &self.scope, &mut self.used, role, e)?;
+        self.hold(beside.max(typed.held + 1), end)?;
+        Ok(typed.tree)
+    }
+
+    /// `name = value`. Refusals: `Unknown`, `NeedsIndex`, `AssignType`; those of the value; `TooDeep`, at the end.
+    #[tactic(auto, unfolding(crate::specs::Statements::faults_by))]
+    fn set(
+        &mut self,
+        setting: &Setting<'_>,
+        at: Span,
+        name: &Name,
+        value: &Expr,
+    ) -> Result<TStmt, Stop>
+        ensures { Finishes (outcome_at setting.now self.old (statement.set (place_of at) name.now None (phrase_of value.now))) self.new result }
+    {
+        let end = set_end(setting.in_head, at);
+        match self.target(name, at.first)? {
+            Target::Local(number, ty) => {
+                let value = self.whole(Role::Assigned(Some(ty)), value, end)?;
+                Ok(TStmt::SetLocal(number, Some(value)))
+            }
+            Target::Variable(number, reference, ty) => {
+                self.note(number)?;
+                let value = self.whole(Role::Assigned(Some(ty)), value, end)?;
+                Ok(TStmt::SetVar(reference, value))
+            }
+        }
+    }
+
+    /// `name[index] = value`. Refusals: `Unknown`, `NotArray`; those of the index; `Operands`; those of the value;
+    /// `TooDeep`, at the end.
+    #[tactic(auto, unfolding(crate::specs::Statements::faults_by))]
+    fn set_element(
+        &mut self,
+        setting: &Setting<'_>,
+        at: Span,
+        name: &Name,
+        index: &Expr,
+        value: &Expr,
+    ) -> Result<TStmt, Stop>
+        ensures { Finishes (outcome_at setting.now self.old (statement.set (place_of at) name.now (Some (phrase_of index.now)) (phrase_of value.now))) self.new result }
+    {
+        let end = set_end(setting.in_head, at);
+        let array = self.array(name, at.first)?;
+        self.note(array.number)?;
+        let index = self.index(at, index)?;
+        let value = self.element_value(index.held, array.ty, value, end)?;
+        let line = bracket_line(setting.lines, at.first);
+        Ok(TStmt::SetElem(array.reference, array.size, line, index.tree, value))
+    }
+
+    /// `name = value`, or `name[index] = value`.
+    pub fn assign(
+        &mut self,
+        setting: &Setting<'_>,
+        at: Span,
+        name: &Name,
+        index: &Option<Expr>,
+        value: &Expr,
+    ) -> Result<TStmt, Stop>
+        ensures { Finishes (outcome_at setting.now self.old (statement.set (place_of at) name.now (option_map phrase_of index.now) (phrase_of value.now))) self.new result }
+    {
+        match index {
+            None => self.set(setting, at, name, value),
+            Some(index) => self.set_element(setting, at, name, index, value),
+        }
+    }
+}

@@ -1,0 +1,105 @@
+//! Statements that hold no others and declare and assign nothing.
+ghost use Rattle.std.specs.Prelude.{◌≡◌, option_map, not};
+ghost use Rattle.pw_tree.specs.Phrases.{Place, phrase_of};
+ghost use Rattle.pw_tree.specs.Statements as statement;
+ghost use Rattle.pw_tree.specs.Commands.{command_of};
+ghost use Rattle.pw_types.specs.Faults.{Judges, broken};
+ghost use Rattle.pw_types.specs.CheckingStatements.{Finishes, outcome_at, judged_at, place_of};
+
+use crate::fault::{Fault, Stop};
+use crate::role::Role;
+use crate::rule::Rule;
+use crate::statement_step::{Setting, Span};
+use crate::statement_walk::Walk;
+use crate::types::{converts, is_void};
+use pw_tree::{Expr, TStmt};
+use sqlite_items::Items;
+
+/// The fault at a token, which is about no name.
+pub(crate) fn broken(rule: Rule, at: u64) -> Stop
+    ensures { result ≡ Stop.Fault (record { rule = rule; at = at; name = None }) }
+{
+    Stop::Fault(Fault {
+        rule,
+        at,
+        name: None,
+    })
+}
+
+/// `;`
+#[tactic(auto, using(crate::proofs::SimpleStatements::empty_is), unfolding(crate::specs::Statements::faults_by))]
+pub(crate) fn empty(walk: &Walk<'_>, setting: &Setting<'_>, at: Span) -> TStmt
+    ensures { outcome_at setting.now walk.now (statement.empty (place_of at)) ≡ judged_at (command_of result) walk.now }
+{
+    TStmt::Block(Items::new(walk.alloc))
+}
+
+/// `break ;`. Refusal: `OutsideLoop`.
+#[tactic(auto, using(crate::proofs::SimpleStatements::breaks_is), unfolding(crate::specs::Statements::faults_by))]
+pub(crate) fn break_off(walk: &Walk<'_>, setting: &Setting<'_>, at: Span) -> Result<TStmt, Stop>
+    ensures { Finishes (outcome_at setting.now walk.now (statement.breaks (place_of at))) walk.now result }
+{
+    if !setting.in_loop {
+        return Err(broken(Rule::OutsideLoop, u64::from(at.last)));
+    }
+    Ok(TStmt::Break)
+}
+
+/// `continue ;`. Refusal: `OutsideLoop`.
+#[tactic(auto, using(crate::proofs::SimpleStatements::continues_is), unfolding(crate::specs::Statements::faults_by))]
+pub(crate) fn go_on(walk: &Walk<'_>, setting: &Setting<'_>, at: Span) -> Result<TStmt, Stop>
+    ensures { Finishes (outcome_at setting.now walk.now (statement.continues (place_of at))) walk.now result }
+{
+    if !setting.in_loop {
+        return Err(broken(Rule::OutsideLoop, u64::from(at.last)));
+    }
+    Ok(TStmt::Continue)
+}
+
+impl<'a> Walk<'a> {
+    /// `e ;`
+    #[tactic(auto, unfolding(crate::specs::Statements::faults_by))]
+    pub fn evaluate(&mut self, setting: &Setting<'_>, at: Span, e: &Expr) -> Result<TStmt, Stop>
+        ensures { Finishes (outcome_at setting.now self.old (statement.evaluate (place_of at) (phrase_of e.now))) self.new result }
+    {
+        Ok(TStmt::Eval(self.value(Role::Statement, e)?))
+    }
+
+    /// `return ;`. Refusal: `ReturnType`.
+    #[tactic(auto, using(crate::proofs::SimpleStatements::returns_none), unfolding(crate::specs::Statements::faults_by))]
+    fn return_none(&self, setting: &Setting<'_>, at: Span) -> Result<TStmt, Stop>
+        ensures { Finishes (outcome_at setting.now self.now (statement.returns (place_of at) None)) self.now result }
+    {
+        if !is_void(setting.result) {
+            return Err(broken(Rule::ReturnType, u64::from(at.last)));
+        }
+        Ok(TStmt::Return(None))
+    }
+
+    /// `return e ;`. Refusal: `ReturnType`.
+    #[tactic(auto, unfolding(crate::specs::Statements::faults_by))]
+    fn return_value(&mut self, setting: &Setting<'_>, at: Span, e: &Expr) -> Result<TStmt, Stop>
+        ensures { Finishes (outcome_at setting.now self.old (statement.returns (place_of at) (Some (phrase_of e.now)))) self.new result }
+    {
+        let value = self.value(Role::Value, e)?;
+        if is_void(setting.result) || !converts(value.ty, setting.result) {
+            return Err(broken(Rule::ReturnType, u64::from(at.last)));
+        }
+        Ok(TStmt::Return(Some(value)))
+    }
+
+    /// `return ;`, or `return e ;`.
+    pub fn leave_function(
+        &mut self,
+        setting: &Setting<'_>,
+        at: Span,
+        value: &Option<Expr>,
+    ) -> Result<TStmt, Stop>
+        ensures { Finishes (outcome_at setting.now self.old (statement.returns (place_of at) (option_map phrase_of value.now))) self.new result }
+    {
+        match value {
+            None => self.return_none(setting, at),
+            Some(e) => self.return_value(setting, at, e),
+        }
+    }
+}

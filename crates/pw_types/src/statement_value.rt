@@ -1,0 +1,72 @@
+//! The expressions of statements.
+ghost use Rattle.std.specs.Prelude.{◌≡◌, ◌≢◌, max, nat_lt, option_map, [], ◌∷◌, OnOk};
+ghost use Rattle.pw_tree.specs.Phrases.{phrase_of};
+ghost use Rattle.pw_types.specs.Faults.{Judges, broken};
+ghost use Rattle.pw_types.specs.StatementValues.{JudgesWhole, JudgesValue, JudgesMaybeValue, Notes};
+
+use crate::expression::judge;
+use crate::fault::{Fault, Stop};
+use crate::role::Role;
+use crate::rule::Rule;
+use crate::statement_walk::Walk;
+use pw_base::NoMemory;
+use pw_tree::{Expr, TExpr};
+
+/// How many values an expression or an assignment may hold at a time.
+const HELD_VALUES: u32 = 100;
+
+impl<'a> Walk<'a> {
+    /// An expression holds so many values. Refusal: `TooDeep`.
+    pub fn hold(&mut self, held: u32, at: u64) -> Result<(), Stop>
+        ensures { Judges (broken Rule.TooDeep at (nat_lt 100 held)) (λ _. self.new ≡ record self.old { held = max self.old.held held }) result }
+    {
+        if held > HELD_VALUES {
+            return Err(Stop::Fault(Fault {
+                rule: Rule::TooDeep,
+                at,
+                name: None,
+            }));
+        }
+        self.held = self.held.max(held);
+        Ok(())
+    }
+
+    /// The typed tree of an expression with nothing round it; where it holds too many values, this is the token to blame.
+    pub fn whole(&mut self, role: Role, e: &Expr, end: u64) -> Result<TExpr, Stop>
+        requires { role ≢ Role.Base }
+        ensures { JudgesWhole role (phrase_of e.now) end self.old self.new result }
+    {
+        let typed = judge(self.alloc, &self.scope, &mut self.used, role, e)?;
+        self.hold(typed.held, end)?;
+        Ok(typed.tree)
+    }
+
+    /// The typed tree of a whole expression of a statement.
+    pub fn value(&mut self, role: Role, e: &Expr) -> Result<TExpr, Stop>
+        requires { role ≢ Role.Base }
+        ensures { JudgesValue role (phrase_of e.now) self.old self.new result }
+    {
+        self.whole(role, e, u64::from(e.last))
+    }
+
+    /// The same where there is one.
+    pub fn maybe_value(&mut self, role: Role, e: &Option<Expr>) -> Result<Option<TExpr>, Stop>
+        requires { role ≢ Role.Base }
+        ensures { JudgesMaybeValue role (option_map phrase_of e.now) self.old self.new result }
+    {
+        match e {
+            Some(e) => Ok(Some(self.value(role, e)?)),
+            None => Ok(None),
+        }
+    }
+
+    /// Notes that a name at file level is used.
+    pub fn note(&mut self, number: usize) -> Result<(), NoMemory>
+        ensures { OnOk result (Notes (number ∷ []) 0 self.old self.new) }
+    {
+        match self.used.push(number) {
+            Ok(()) => Ok(()),
+            Err(_) => Err(NoMemory),
+        }
+    }
+}

@@ -1,0 +1,22 @@
+//! What judging a phrase without faults gives.
+
+use pw_tree::{TExpr, TStmt};
+use sqlite_items::Items;
+
+/// A typed expression.
+#[derive(Drop)]
+pub struct Typed {
+    pub tree: TExpr,
+    /// How many values it holds at a time, or 101 where these are more.
+    pub held: u32,
+}
+
+/// The typed statements of a function's body.
+#[derive(Drop)]
+pub struct Body {
+    pub statements: Items<TStmt>,
+    /// The greatest number of values that one of its expressions holds at a time, at most 100.
+    pub held: u32,
+    /// How many parameters and locals the function has behind them.
+    pub count: u32,
+}

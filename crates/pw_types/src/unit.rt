@@ -1,0 +1,127 @@
+//! A whole unit: its first fault, or its typed unit.
+ghost use Rattle.std.specs.Prelude.{◌≡◌, ⊤, [], map, find, option_copied, IfOk};
+ghost use Rattle.pw_tree.specs.Declarations.{declaration_of, written_unit_of};
+ghost use Rattle.pw_tree.specs.Placed.{HaveTypes, IsWritten};
+ghost use Rattle.pw_tree.specs.Units.{unit_of};
+ghost use Rattle.pw_types.specs.Faults.{Judges};
+ghost use Rattle.pw_types.specs.Units as spec;
+ghost use Rattle.pw_types.specs.CheckingUnits.{IsAll};
+
+use crate::declared::is_extern;
+use crate::declared_names::Names;
+use crate::defined::Whole;
+use crate::external::external_names;
+use crate::fault::Stop;
+use crate::names::{File, Kind};
+use crate::progress::Progress;
+use crate::refuse::refuse_name_if;
+use crate::rule::Rule;
+use pw_base::NoMemory;
+use pw_tree::{Decl, DeclKind, TUnit, Unit};
+use std::alloc::Global;
+
+/// The names of the functions that these declarations define.
+#[tactic(auto, unfolding(crate::specs::Units::functions_of))]
+fn functions_of(alloc: Global, decls: &[Decl]) -> Result<Names, NoMemory>
+    ensures { IfOk result (λ names. names ≡ spec.functions_of [] (map declaration_of decls.now)) }
+{
+    let mut names = Names::new(alloc);
+    let mut rest = decls;
+    while let [d, more @ ..] = rest {
+        match &d.kind {
+            DeclKind::Fun(_, _, _) => names.join(alloc, &d.name)?,
+            DeclKind::Proto(_, _) | DeclKind::Var(_, _, _) => {}
+        }
+        rest = more;
+    }
+    Ok(names)
+}
+
+/// The names of the variables that these declarations define.
+#[tactic(auto, unfolding(crate::specs::Units::variables_of))]
+fn variables_of(alloc: Global, decls: &[Decl]) -> Result<Names, NoMemory>
+    ensures { IfOk result (λ names. names ≡ spec.variables_of [] (map declaration_of decls.now)) }
+{
+    let mut names = Names::new(alloc);
+    let mut rest = decls;
+    while let [d, more @ ..] = rest {
+        match &d.kind {
+            DeclKind::Var(_, _, _) => {
+                if !is_extern(d.linkage) {
+                    names.join(alloc, &d.name)?;
+                }
+            }
+            DeclKind::Proto(_, _) | DeclKind::Fun(_, _, _) => {}
+        }
+        rest = more;
+    }
+    Ok(names)
+}
+
+/// What the declarations of a unit give, or their first fault.
+#[tactic(auto, unfolding(crate::specs::Units::faults_of_declarations, crate::specs::Units::files_behind, crate::specs::Units::typed_functions, crate::specs::Units::typed_variables, crate::specs::Units::uses_of_declarations, pw_tree::specs::Placed::HaveTypes))]
+fn judge_declarations(alloc: Global, whole: &Whole<'_>, decls: &[Decl]) -> Result<Progress, Stop>
+    requires { HaveTypes (map declaration_of decls.now) }
+    ensures { Judges (spec.faults_of_declarations whole.now [] 0 (map declaration_of decls.now)) (IsAll whole.now (map declaration_of decls.now)) result }
+{
+    let mut progress = Progress::new(alloc);
+    let mut rest = decls;
+    while let [d, more @ ..] = rest {
+        progress.declare(alloc, whole, d)?;
+        rest = more;
+    }
+    Ok(progress)
+}
+
+/// Whether it is a static function that is declared and not defined.
+fn lacks_definition(f: &File) -> bool
+    ensures { result ≡ spec.lacks_definition f.now }
+{
+    match f.kind {
+        Kind::Function(_) => !f.external && !f.defined,
+        Kind::Variable(_, _) => false,
+    }
+}
+
+/// The first static function that is declared and not defined.
+fn lacking(files: &[File]) -> Option<&File>
+    ensures { option_copied result ≡ find spec.lacks_definition files.now }
+{
+    files.iter().find(|f| lacks_definition(f))
+}
+
+/// The fault of a unit whose last token this is: a static function that is declared and not defined.
+fn judge_end(alloc: Global, files: &[File], last: u32) -> Result<(), Stop>
+    ensures { Judges (spec.faults_of_lacking last (find spec.lacks_definition files.now)) (λ _. ⊤) result }
+{
+    match lacking(files) {
+        Some(f) => refuse_name_if(alloc, true, Rule::Unknown, last, &f.name),
+        None => Ok(()),
+    }
+}
+
+/// The typed unit, or the first fault.
+#[tactic(auto, using(crate::proofs::UnitTexts::texts_behind), unfolding(crate::specs::Texts::HaveTexts))]
+pub(crate) fn judge_unit(alloc: Global, unit: &Unit) -> Result<TUnit, Stop>
+    requires { IsWritten (written_unit_of unit.now) }
+    ensures { Judges (spec.faults_of (written_unit_of unit.now)) (λ typed. unit_of typed ≡ spec.typed_unit (written_unit_of unit.now)) result }
+{
+    let decls = unit.decls.as_slice();
+    let lines = unit.lines.as_slice();
+    let functions = functions_of(alloc, decls)?;
+    let variables = variables_of(alloc, decls)?;
+    let whole = Whole {
+        functions: &functions,
+        variables: &variables,
+        lines,
+    };
+    let progress = judge_declarations(alloc, &whole, decls)?;
+    let files = progress.files.as_slice();
+    judge_end(alloc, files, lines.len().saturating_sub(1) as u32)?;
+    let names = external_names(alloc, &progress.used, files)?;
+    Ok(TUnit {
+        funs: progress.functions,
+        vars: progress.variables,
+        names,
+    })
+}
