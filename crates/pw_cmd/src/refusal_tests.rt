@@ -190,7 +190,7 @@ fn a_deep_text_is_judged_within_the_stack(rt: HostRuntime) -> Result<(), Fail> {
 /// A program of this many bytes, of which the last are blanks.
 fn blanks(alloc: Global, bytes: usize) -> Result<String, AllocError> {
     let mut text = String::from_str(alloc, "long main(void) { return 0; }")?;
-    while text.len() < bytes {
+    for _ in text.len()..bytes {
         text.push(' ')?;
     }
     Ok(text)

@@ -7,8 +7,8 @@ ghost use Rattle.pw_types.specs.Operations.{Operates};
 
 use pw_tree::{Bin, Sig, Ty, Un};
 
-/// How many parameters a function may have that pointers point to.
-const MOST_PARAMETERS: usize = 6;
+/// How many parameters a function may have.
+pub(crate) const MOST_PARAMETERS: usize = 6;
 
 /// Whether it is long or unsigned long.
 pub(crate) fn is_number(ty: Ty) -> bool
