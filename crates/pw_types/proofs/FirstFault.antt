@@ -6,7 +6,7 @@ use Rattle.pw_tree.specs.Placed.{IsWritten}
 use Rattle.pw_types.specs.declared.fault.Fault.{Fault}
 use Rattle.pw_types.specs.Faults.{first_of}
 use Rattle.pw_types.specs.Units.{faults_of}
-use Rattle.pw_types.proofs.ClimbingUnits.{faults_are_within}
+use Rattle.pw_types.proofs.AscendingFaults.{faults_are_within}
 
 -- what holds of all holds of the first
 of_first : (P : Fault → Type 0) (fs : List Fault) (f : Fault) → All P fs → first_of fs ≡ Some f → P f

@@ -23,6 +23,7 @@ pub mod Judged
 pub mod CheckingDeclarations
 pub mod CheckingUnits
 pub mod Texts
+pub mod Nests
 pub mod Laws
 pub mod CheckingStatements
 pub mod StatementWeights

@@ -1,7 +1,8 @@
 //! Laws of the list of a unit's faults, each the contract of a function.
-ghost use Rattle.pw_types.specs.Laws.{FaultsAscend, FirstEndsFirst, FaultsAreWithin, RulesOfPhrasesAscend};
+ghost use Rattle.pw_types.specs.Laws.{FaultsAscend, FirstEndsFirst, FaultsAreWithin};
 
-/// The faults of a unit that was read ascend by the last tokens of their phrases.
+/// The faults of a unit that was read ascend: by the last tokens of their phrases; of two phrases that end at one token, the
+/// inner one's first; for one phrase, by rule.
 pub fn faults_ascend()
     ensures { FaultsAscend }
 {}
@@ -14,9 +15,4 @@ pub fn the_first_fault_ends_first()
 /// The faults of a unit that was read end at tokens of the unit.
 pub fn faults_are_within_the_unit()
     ensures { FaultsAreWithin }
-{}
-
-/// Where one phrase breaks several rules, its faults ascend by rule.
-pub fn rules_of_a_phrase_ascend()
-    ensures { RulesOfPhrasesAscend }
 {}

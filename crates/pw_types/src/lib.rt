@@ -48,7 +48,5 @@ mod unit;
 
 pub use checking::check;
 pub use error::TypeError;
-pub use laws::{
-    faults_are_within_the_unit, faults_ascend, rules_of_a_phrase_ascend, the_first_fault_ends_first,
-};
+pub use laws::{faults_are_within_the_unit, faults_ascend, the_first_fault_ends_first};
 pub use rule::Rule;

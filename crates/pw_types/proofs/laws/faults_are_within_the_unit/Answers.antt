@@ -1,4 +1,4 @@
-use Rattle.pw_types.proofs.ClimbingUnits.{faults_are_within}
+use Rattle.pw_types.proofs.AscendingFaults.{faults_are_within}
 use Rattle.pw_types.proofs.laws.faults_are_within_the_unit.Goals as goal
 
 pub returns : goal.returns

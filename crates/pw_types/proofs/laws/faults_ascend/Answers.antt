@@ -1,4 +1,4 @@
-use Rattle.pw_types.proofs.ClimbingUnits.{faults_ascend}
+use Rattle.pw_types.proofs.AscendingFaults.{faults_ascend}
 use Rattle.pw_types.proofs.laws.faults_ascend.Goals as goal
 
 pub returns : goal.returns

@@ -1,4 +1,4 @@
-use Rattle.pw_types.proofs.ClimbingUnits.{first_ends_first}
+use Rattle.pw_types.proofs.AscendingFaults.{first_ends_first}
 use Rattle.pw_types.proofs.laws.the_first_fault_ends_first.Goals as goal
 
 pub returns : goal.returns
