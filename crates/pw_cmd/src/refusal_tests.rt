@@ -109,7 +109,7 @@ const fn done(
 }
 
 /// Texts as deep as a function may be, and deeper ones.
-fn deep_texts() -> [Deep; 11] {
+fn deep_texts() -> [Deep; 14] {
     [
         returned("~", "1", "", 8182, "form not built"),
         returned("~", "1", "", 8183, "function too long at line 1 token 8192"),
@@ -118,6 +118,9 @@ fn deep_texts() -> [Deep; 11] {
         returned("1?1:", "1", "", 2000, "form not built"),
         returned("1?", "1", ":1", 2000, "form not built"),
         returned("1?", "x", ":1", 2000, "type Unknown at line 1 token 4007"),
+        returned("1+", "1", "", 4090, "form not built"),
+        returned("1+", "x", "", 4090, "type Unknown at line 1 token 8187"),
+        returned("", "x", "()", 2700, "type Unknown at line 1 token 7"),
         done("if(1);else ", "", 1300, "form not built"),
         done(
             "if(1);else ",
