@@ -1,14 +1,13 @@
 //! Puts on a sink why a file is refused.
-ghost use Rattle.std.specs.Prelude.{◌≡◌, ◌++◌, codes, decimal, unwrap_or};
-ghost use Rattle.pw_grammar.specs.Faults.{token_of};
-ghost use Rattle.pw_lex.specs.Text.{place_of};
-ghost use Rattle.pw_types.specs.RuleNames.{name_of};
-ghost use Rattle.pw_cmd.specs.Answer.{at_byte, at_token, lexical, refused, syntactic};
+ghost use Rattle.std.specs.Prelude.{◌++◌, codes, decimal};
+ghost use Rattle.pw_front.specs.Messages.{lex_message, rule_message, syntax_message};
+ghost use Rattle.pw_cmd.specs.Answer.{refused};
 ghost use Rattle.pw_cmd.specs.Message.{Puts};
 
 use crate::pieces::put_pieces;
 use itoa::Buffer;
 use pw_base::Pos;
+use pw_front::{lex_phrase, syntax_phrase};
 use pw_grammar::SyntaxError;
 use pw_io::{Failed, Sink};
 use pw_lex::LexError;
@@ -29,32 +28,6 @@ pub fn put_too_long<S: Sink>(sink: &mut S, file: &[u8], limit: u64) -> Result<()
             b" bytes".as_slice(),
         ],
     )
-}
-
-/// What is wrong with a text as a list of tokens.
-fn lexical(fault: LexError) -> &'static [u8]
-    ensures { result.now ≡ lexical fault }
-{
-    match fault {
-        LexError::BadByte(_) => b"bad byte",
-        LexError::OpenComment(_) => b"open comment",
-        LexError::BadNumber(_) => b"bad number",
-        LexError::TooWide(_) => b"number too wide",
-        LexError::LongName(_) => b"name too long",
-        LexError::NoMemory => b"out of memory",
-    }
-}
-
-/// What is wrong with a list of tokens as a unit.
-fn syntactic(fault: SyntaxError) -> &'static [u8]
-    ensures { result.now ≡ syntactic fault }
-{
-    match fault {
-        SyntaxError::At(_) => b"syntax",
-        SyntaxError::TooNested(_) => b"brackets too deep",
-        SyntaxError::TooLong(_) => b"function too long",
-        SyntaxError::NoMemory => b"out of memory",
-    }
 }
 
 /// Puts a text and a number behind it.
@@ -96,10 +69,13 @@ pub fn put_lexical<S: Sink>(
     fault: LexError,
     line: u32,
 ) -> Result<(), Failed>
-    ensures { Puts (refused file.now (lexical fault ++ at_byte line (unwrap_or (place_of fault) 0))) (S.state sink.old) (S.state sink.new) result }
+    ensures { Puts (refused file.now (lex_message fault line)) (S.state sink.old) (S.state sink.new) result }
 {
-    let place = fault.place().unwrap_or(0);
-    put_refused_at(sink, file, b": ", lexical(fault), line, b" byte ", place)
+    let what = lex_phrase(fault).as_bytes();
+    match fault.place() {
+        Some(place) => put_refused_at(sink, file, b": ", what, line, b" byte ", place),
+        None => put_refused(sink, file, b": ", what),
+    }
 }
 
 /// Puts that tokens are no unit, with the line and the token.
@@ -109,15 +85,15 @@ pub fn put_syntactic<S: Sink>(
     fault: SyntaxError,
     line: u32,
 ) -> Result<(), Failed>
-    ensures { Puts (refused file.now (syntactic fault ++ at_token line (token_of fault))) (S.state sink.old) (S.state sink.new) result }
+    ensures { Puts (refused file.now (syntax_message fault line)) (S.state sink.old) (S.state sink.new) result }
 {
-    let token = fault.token();
-    put_refused_at(sink, file, b": ", syntactic(fault), line, b" token ", token)
+    let what = syntax_phrase(fault).as_bytes();
+    put_refused_at(sink, file, b": ", what, line, b" token ", fault.token())
 }
 
 /// Puts that a unit is not well typed, with the rule, the line and the token.
 pub fn put_typing<S: Sink>(sink: &mut S, file: &[u8], rule: Rule, at: Pos) -> Result<(), Failed>
-    ensures { Puts (refused file.now (codes "type " ++ (name_of rule ++ at_token at.line at.token))) (S.state sink.old) (S.state sink.new) result }
+    ensures { Puts (refused file.now (rule_message rule at)) (S.state sink.old) (S.state sink.new) result }
 {
     let name = rule.name().as_bytes();
     put_refused_at(sink, file, b": type ", name, at.line, b" token ", at.token)

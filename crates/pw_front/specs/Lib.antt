@@ -1,3 +1,4 @@
 pub mod Units
 pub mod Weights
+pub mod Messages
 pub mod Laws

@@ -1,5 +1,8 @@
 //! Why a text has no typed unit, and where.
+ghost use Rattle.std.specs.Prelude.{Some};
+ghost use Rattle.pw_front.specs.Messages.{message_of};
 
+use crate::message::{lex_phrase, syntax_phrase};
 use pw_grammar::SyntaxError;
 use pw_lex::LexError;
 use pw_types::TypeError;
@@ -19,25 +22,21 @@ pub enum FrontError {
     NoMemory,
 }
 
-/// What a message calls a fault of the tokens.
-fn phrase(fault: SyntaxError) -> &'static str {
-    match fault {
-        SyntaxError::At(_) => "syntax",
-        SyntaxError::TooNested(_) => "brackets too deep",
-        SyntaxError::TooLong(_) => "function too long",
-        SyntaxError::NoMemory => "out of memory",
-    }
-}
-
+/// What is wrong, and the line with the byte or the token; want of memory has no place.
 impl Display for FrontError {
+    ghost output = { λ fault. Some (message_of fault) };
+
     fn fmt<W: Write>(&self, f: &mut Formatter<W>) -> fmt::Result {
         match self {
-            FrontError::Lex(fault, line) => match fault.place() {
-                Some(place) => write!(f, "{fault} at line {line} byte {place}"),
-                None => write!(f, "{fault}"),
-            },
+            FrontError::Lex(fault, line) => {
+                let what = lex_phrase(*fault);
+                match fault.place() {
+                    Some(byte) => write!(f, "{what} at line {line} byte {byte}"),
+                    None => f.write_str(what),
+                }
+            }
             FrontError::Syntax(fault, line) => {
-                let (what, token) = (phrase(*fault), fault.token());
+                let (what, token) = (syntax_phrase(*fault), fault.token());
                 write!(f, "{what} at line {line} token {token}")
             }
             FrontError::Typing(TypeError::Broken { rule, at, .. }) => {

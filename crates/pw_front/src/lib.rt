@@ -4,10 +4,12 @@
 
 mod error;
 mod laws;
+mod message;
 #[cfg(test)]
 mod tests;
 mod unit;
 
 pub use error::FrontError;
 pub use laws::a_text_has_one_reading;
+pub use message::{lex_phrase, syntax_phrase};
 pub use unit::front;

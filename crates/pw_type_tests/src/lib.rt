@@ -12,6 +12,8 @@ mod limits;
 #[cfg(test)]
 mod names;
 #[cfg(test)]
+mod references;
+#[cfg(test)]
 mod statements;
 #[cfg(test)]
 mod told;

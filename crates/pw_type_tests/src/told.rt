@@ -9,7 +9,7 @@ use pw_types::{TypeError, check};
 use std::alloc::{AllocError, Global};
 
 /// The typed unit of a text, or its first type fault; a text that is no unit finds no memory.
-fn typed(alloc: Global, text: &[u8]) -> Result<TUnit, TypeError>
+pub(crate) fn typed(alloc: Global, text: &[u8]) -> Result<TUnit, TypeError>
     requires { length text.now < 2 ^ 32 }
 {
     let Ok(tokens) = tokens(alloc, text) else {
@@ -29,7 +29,7 @@ fn typed(alloc: Global, text: &[u8]) -> Result<TUnit, TypeError>
 }
 
 /// The characters of these bytes join a text.
-fn push_bytes(out: &mut String, bytes: &[u8]) -> Result<(), AllocError> {
+pub(crate) fn push_bytes(out: &mut String, bytes: &[u8]) -> Result<(), AllocError> {
     for byte in bytes {
         out.push(char::from(*byte))?;
     }

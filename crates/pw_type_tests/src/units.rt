@@ -4,7 +4,7 @@ use crate::told::told;
 use std::test::Fail;
 
 /// Texts without faults, and their functions, variables and external names.
-const UNITS: [(&str, &str); 10] = [
+const UNITS: [(&str, &str); 11] = [
     ("", ""),
     ("long a;", "var a external size 0 values 0;name a l;"),
     (
@@ -34,6 +34,10 @@ const UNITS: [(&str, &str); 10] = [
     (
         "long f(void); long f(void); long f(void) { { long a; } { long a; long b; } return 0; }",
         "fun f external line 1 locals 3 held 0;name f l();",
+    ),
+    (
+        "extern long f; long gg; long f; extern long gg; long main(void) { return f + gg; }",
+        "fun main external line 1 locals 0 held 1;var gg external size 0 values 0;var f external size 0 values 0;name f l;name gg l;name main l();",
     ),
     (
         "extern long a; extern long a; long a = 5;",

@@ -62,22 +62,3 @@ impl Names {
         }
     }
 }
-
-#[cfg(test)]
-mod tests {
-    use super::*;
-    use std::test::Fail;
-
-    #[test]
-    fn names_are_numbered_by_first_mention(rt: HostRuntime) -> Result<(), Fail> {
-        let alloc = rt.alloc();
-        let mut names = Names::new(alloc);
-        for bytes in [b"main".as_slice(), b"f", b"main", b"f2", b"f"] {
-            names.join(alloc, &Name::read(alloc, bytes)?)?;
-        }
-        for (bytes, number) in [(b"main".as_slice(), 0), (b"f", 1), (b"f2", 2), (b"f3", 3)] {
-            assert_eq!(rt; names.number(bytes), number);
-        }
-        Ok(())
-    }
-}

@@ -12,13 +12,10 @@ use crate::refuse::{refuse_if, refuse_name_if};
 use crate::reserved::is_reserved;
 use crate::rule::Rule;
 use crate::scope::newest;
-use crate::types::MOST_PARAMETERS;
+use crate::types::{MOST_LOCALS, MOST_PARAMETERS};
 use pw_base::{Name, NoMemory};
 use pw_tree::Param;
 use std::alloc::Global;
-
-/// How many parameters and locals a function may have.
-const MOST_LOCALS: usize = 120;
 
 /// Whether one of the locals has this name.
 fn has_local(locals: &[Local], name: &[u8]) -> bool

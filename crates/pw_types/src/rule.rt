@@ -1,5 +1,5 @@
 //! The rules that a unit may break.
-ghost use Rattle.std.specs.Prelude.{◌≡◌};
+ghost use Rattle.std.specs.Prelude.{◌≡◌, Some};
 ghost use Rattle.pw_types.specs.RuleNames.{name_of};
 
 use std::fmt::{self, Display, Formatter, Write};
@@ -76,7 +76,10 @@ impl Rule {
     }
 }
 
+/// Its name.
 impl Display for Rule {
+    ghost output = { λ rule. Some (name_of rule) };
+
     fn fmt<W: Write>(&self, f: &mut Formatter<W>) -> fmt::Result {
         f.write_str(self.name())
     }

@@ -19,12 +19,10 @@ use crate::scope::newest;
 use crate::statement_simple::broken;
 use crate::statement_step::{Setting, Span};
 use crate::statement_walk::Walk;
+use crate::types::MOST_LOCALS;
 use pw_base::{Name, NoMemory};
 use pw_tree::{Expr, TStmt, Ty};
 use std::alloc::Global;
-
-/// How many parameters and locals a function may have.
-const FUNCTION_LOCALS: u32 = 120;
 
 /// The fault at a token, which is about a name.
 pub(crate) fn broken_by(alloc: Global, rule: Rule, at: u64, name: &Name) -> Stop
@@ -75,7 +73,7 @@ impl<'a> Walk<'a> {
         if is_declared(own_locals(&self.scope.locals, self.start), name.bytes()) {
             return Err(broken_by(self.alloc, Rule::Redeclared, at, name));
         }
-        if self.count >= FUNCTION_LOCALS {
+        if self.count as usize >= MOST_LOCALS {
             return Err(broken(Rule::TooManyLocals, at));
         }
         if is_reserved(name.bytes()) {

@@ -10,6 +10,9 @@ use pw_tree::{Bin, Sig, Ty, Un};
 /// How many parameters a function may have.
 pub(crate) const MOST_PARAMETERS: usize = 6;
 
+/// How many parameters and locals a function may have.
+pub(crate) const MOST_LOCALS: usize = 120;
+
 /// Whether it is long or unsigned long.
 pub(crate) fn is_number(ty: Ty) -> bool
     ensures { result ≡ spec.is_number ty }
