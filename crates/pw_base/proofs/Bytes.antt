@@ -1,7 +1,7 @@
 -- A value and its bytes give each other back.
-use Rattle.std.proofs.Common.{◌≡◌, ℕ, zero, suc, ◌+◌, ◌*◌, ◌/◌, ◌%◌, ◌^◌, ◌<◌, ◌≤◌, List, [], ◌∷◌, length, refl, arith, ap, sym, ◌∙◌, lit<}
+use Rattle.std.proofs.Common.{◌≡◌, ℕ, zero, suc, ◌+◌, ◌*◌, ◌/◌, ◌%◌, ◌^◌, ◌<◌, List, [], ◌∷◌, length, refl, arith, ap}
 use Rattle.std.specs.List.{AllByRecursion}
-use Rattle.pw_base.specs.Bytes.{le, le_bytes, BytesGiveValue, ValueGivesBytes}
+use Rattle.pw_base.specs.Bytes.{le, le_bytes}
 
 -- the lowest n bytes of a value below 256 ^ n say it
 pub le-le_bytes : (n v : ℕ) → v < 256 ^ n → le (le_bytes n v) ≡ v

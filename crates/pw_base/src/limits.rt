@@ -10,6 +10,18 @@ impl Limits {
     pub const NAME_BYTES: usize = 63;
     /// The tokens of a function.
     pub const FUNCTION_TOKENS: usize = 8_192;
+    /// The brackets that may be open at once.
+    pub const OPEN_BRACKETS: usize = 200;
+    /// The parameters of a function.
+    pub const PARAMETERS: usize = 6;
+    /// The parameters and locals of a function.
+    pub const LOCALS: usize = 120;
+    /// The values that an expression or an assignment holds at once.
+    pub const HELD_VALUES: u32 = 100;
+    /// The elements of an array.
+    pub const ARRAY_ELEMENTS: u64 = 65_536;
+    /// The elements of the variables of a module, and so of a unit.
+    pub const MODULE_ELEMENTS: u64 = 262_144;
     /// The external names of a module, and so the functions that a unit can show to others.
     pub const MODULE_NAMES: usize = 16_384;
     /// The bytes of text of a module.

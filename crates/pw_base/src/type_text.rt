@@ -5,17 +5,12 @@ ghost use Rattle.pw_base.specs.Name.{is_from};
 ghost use Rattle.pw_base.specs.TypeText.{ReadsTypeText, IsTypeText, IsTypeTextOrEmpty, IsSize};
 ghost use Rattle.pw_base.specs.TypeText as definition;
 
+use crate::limits::Limits;
 use crate::no_memory::NoMemory;
 use std::alloc::Global;
 use std::marker::Model;
 
-/// The most parameters of a function.
-const MOST_PARAMS: usize = 6;
-
-/// The most elements of an array.
-const MOST_ELEMENTS: u64 = 65_536;
-
-/// The digits of `MOST_ELEMENTS`.
+/// The digits of the greatest size of an array.
 const SIZE_DIGITS: usize = 5;
 
 /// The text of a function's or a variable's type, or none. Contracts see it as the list of its bytes.
@@ -60,7 +55,7 @@ fn are_value_letters(letters: &[u8]) -> bool
 fn are_params(letters: &[u8]) -> bool
     ensures { (result ≡ true) ↔ ((list_all definition.is_value_letter letters.now ≡ true) × (length letters.now ≤ 6)) }
 {
-    letters.len() <= MOST_PARAMS && are_value_letters(letters)
+    letters.len() <= Limits::PARAMETERS && are_value_letters(letters)
 }
 
 /// Whether these are digits.
@@ -95,7 +90,8 @@ fn is_size(digits: &[u8]) -> bool
 {
     match digits {
         [] => false,
-        [first, more @ ..] => is_numeral(*first, more) && number(*first, more) <= MOST_ELEMENTS,
+        [first, more @ ..] => is_numeral(*first, more)
+            && number(*first, more) <= Limits::ARRAY_ELEMENTS,
     }
 }
 

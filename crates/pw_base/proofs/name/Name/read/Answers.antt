@@ -1,7 +1,6 @@
 -- Bytes that pass the three tests are a name.
-use Rattle.std.proofs.Common.{◌≡◌, ◌<◌, ◌≤◌, ◌∙◌, sym, true, length, arith, rules}
-use Rattle.std.specs.List.{list_all}
-use Rattle.pw_base.specs.Name.{IsName, is_name_byte}
+use Rattle.std.proofs.Common.{◌∙◌, sym, rules}
+use Rattle.pw_base.specs.Name.{IsName}
 use Rattle.pw_base.proofs.name.Name.read.Goals as goal
 
 is_name : (c : goal.In-Ok) → IsName c.args.bytes.now
