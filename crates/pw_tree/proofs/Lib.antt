@@ -1,6 +1,5 @@
 pub mod PhraseFolds
 pub mod StatementFolds
-pub mod DeclarationFolds
 pub mod TreeFolds
 pub mod CommandFolds
 pub mod Programs

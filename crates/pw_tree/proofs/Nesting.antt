@@ -5,7 +5,20 @@ use Rattle.std.proofs.lemmas.Option.{slice_get_within, get_or_from_slice_get}
 use Rattle.pw_tree.specs.declared.nested.Frame.{Frame}
 use Rattle.pw_tree.specs.declared.nested.Turn.{Turn}
 use Rattle.pw_tree.specs.declared.nested.Turn.TheVariants.{Down, Up}
-use Rattle.pw_tree.specs.Nested.{LeadsTo, GoesOn, at_hand}
+use Rattle.pw_tree.specs.Nested.{GoesOn}
+
+-- The value is the root, or the next part of the last frame's value; a frame's value is the root, or the next part of that
+-- of the frame before it; and each frame has equal values for the parts before.
+abbrev pub LeadsTo : {T : Type 0} → (T → List T) → T → List (Frame T) → T → Type 0
+LeadsTo parts root [] value = value ≡ root
+LeadsTo {T = T} parts root (f ∷ fs) value =
+    (f.of.now ≡ root) × (f.done ≡ take (length f.done) (parts root))
+    × (next : T) × (slice_get (parts root) (length f.done) ≡ Some next) × LeadsTo parts next fs value
+
+-- what is at hand
+abbrev pub at_hand : {T : Type 0} → Turn T → T
+at_hand (Down of) = of.now
+at_hand (Up copy) = copy
 
 -- the next part of the last value is at hand in one more frame
 pub one_more : {T : Type 0} (parts : T → List T) (fs : List (Frame T)) (f : Frame T) (root next : T) → LeadsTo parts root fs f.of.now → f.done ≡ take (length f.done) (parts f.of.now) → slice_get (parts f.of.now) (length f.done) ≡ Some next → LeadsTo parts root (fs ++ f ∷ []) next

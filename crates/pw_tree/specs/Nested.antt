@@ -1,5 +1,5 @@
--- Copying what holds values of its own type, by a loop: where it stands.
-use Rattle.std.specs.Prelude.{◌≡◌, ℕ, List, [], ◌∷◌, length, take, slice_get, Option, Some, None, ◌++◌, Result, Ok, Err, suc}
+-- Copying what holds values of its own type, by a loop: one step, and the parts that stand right in such a value.
+use Rattle.std.specs.Prelude.{◌≡◌, ℕ, List, [], ◌∷◌, length, slice_get, Option, Some, None, ◌++◌, Result, Ok, Err, suc}
 use Rattle.std.proofs.Common.{Bor}
 use Rattle.pw_tree.specs.declared.stmt.Stmt.{Stmt, out-Stmt}
 use Rattle.pw_tree.specs.declared.stmt.StmtKind.{StmtKind, out-StmtKind}
@@ -9,19 +9,6 @@ use Rattle.pw_tree.specs.declared.tstmt.TStmt.TheOpen.{TStmt-F}
 use Rattle.pw_tree.specs.declared.nested.Frame.{Frame}
 use Rattle.pw_tree.specs.declared.nested.Turn.{Turn}
 use Rattle.pw_tree.specs.declared.nested.Turn.TheVariants.{Down, Up}
-
--- The value is the root, or the next part of the last frame's value; a frame's value is the root, or the next part of that
--- of the frame before it; and each frame has equal values for the parts before.
-abbrev pub LeadsTo : {T : Type 0} → (T → List T) → T → List (Frame T) → T → Type 0
-LeadsTo parts root [] value = value ≡ root
-LeadsTo {T = T} parts root (f ∷ fs) value =
-    (f.of.now ≡ root) × (f.done ≡ take (length f.done) (parts root))
-    × (next : T) × (slice_get (parts root) (length f.done) ≡ Some next) × LeadsTo parts next fs value
-
--- what is at hand
-abbrev pub at_hand : {T : Type 0} → Turn T → T
-at_hand (Down of) = of.now
-at_hand (Up copy) = copy
 
 -- the next part is at hand, in one more frame; or the frame's value, copied
 abbrev pub GoesOn : {T : Type 0} → (T → List T) → Frame T → (old new : List (Frame T)) → Turn T → Type 0

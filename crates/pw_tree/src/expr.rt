@@ -65,7 +65,7 @@ impl Expr {
 
     /// Equal expressions.
     #[cycle(copy_expr)]
-    pub fn copy_all(alloc: Global, exprs: &[Expr]) -> Result<Items<Expr>, NoMemory>
+    pub(crate) fn copy_all(alloc: Global, exprs: &[Expr]) -> Result<Items<Expr>, NoMemory>
         ensures { IfOk result (λ copy. copy ≡ exprs.now) }
     {
         let mut copies = Items::new(alloc);
@@ -76,7 +76,7 @@ impl Expr {
     }
 
     /// An equal expression, or none.
-    pub fn copy_option(alloc: Global, expr: &Option<Expr>) -> Result<Option<Expr>, NoMemory>
+    pub(crate) fn copy_option(alloc: Global, expr: &Option<Expr>) -> Result<Option<Expr>, NoMemory>
         ensures { IfOk result (λ copy. copy ≡ expr.now) }
     {
         match expr {

@@ -37,7 +37,7 @@ pub enum StmtKind {
     If(Expr, Boxed<Stmt>, Option<Boxed<Stmt>>),
     While(Expr, Boxed<Stmt>),
     Do(Boxed<Stmt>, Expr),
-    /// The first part, the condition, the last part and the body. The parts end without their `;`.
+    /// The first part, the condition, the last part and the body. A local stands with its `;`, the other parts without.
     For(Option<Boxed<Stmt>>, Option<Expr>, Option<Boxed<Stmt>>, Boxed<Stmt>),
     Return(Option<Expr>),
     Break,
@@ -53,7 +53,7 @@ impl Stmt {
     }
 
     /// Equal statements.
-    pub fn copy_all(alloc: Global, stmts: &[Stmt]) -> Result<Items<Stmt>, NoMemory>
+    pub(crate) fn copy_all(alloc: Global, stmts: &[Stmt]) -> Result<Items<Stmt>, NoMemory>
         ensures { IfOk result (λ copy. copy ≡ stmts.now) }
     {
         let mut copies = Items::new(alloc);
@@ -121,6 +121,25 @@ fn copy_if(
 }
 
 impl StmtKind {
+    /// An equal form.
+    pub fn copy(&self, alloc: Global) -> Result<StmtKind, NoMemory>
+        ensures { IfOk result (λ copy. copy ≡ self.now) }
+    {
+        self.around(alloc, self.copied_parts(alloc)?)
+    }
+
+    /// Copies of the statements that stand right in it, in order.
+    #[tactic(auto, using(crate::proofs::Nesting::one_done))]
+    fn copied_parts(&self, alloc: Global) -> Result<Items<Stmt>, NoMemory>
+        ensures { IfOk result (λ copies. copies ≡ parts_of_kind self.now) }
+    {
+        let mut copies = Items::new(alloc);
+        while let Some(part) = self.part(copies.len()) {
+            copies.push(part.copy(alloc)?)?;
+        }
+        Ok(copies)
+    }
+
     /// The statement of this number that stands right in it, from 0.
     #[tactic(auto, using(crate::proofs::Parts::parts_of_empty, crate::proofs::Parts::parts_of_block, crate::proofs::Parts::parts_of_local, crate::proofs::Parts::parts_of_set, crate::proofs::Parts::parts_of_eval, crate::proofs::Parts::parts_of_if, crate::proofs::Parts::parts_of_while, crate::proofs::Parts::parts_of_do, crate::proofs::Parts::parts_of_for, crate::proofs::Parts::parts_of_return, crate::proofs::Parts::parts_of_break, crate::proofs::Parts::parts_of_continue))]
     fn part(&self, number: usize) -> Option<&Stmt>

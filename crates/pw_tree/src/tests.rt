@@ -1,5 +1,5 @@
-//! Deep trees are copied and dropped with the stack that every program has.
-use crate::{Expr, ExprKind, TExpr, TKind, Ty, Un};
+//! Deep trees are copied and dropped with the stack that every program has, and a form of statements is copied whole.
+use crate::{Expr, ExprKind, Stmt, StmtKind, TExpr, TKind, Ty, Un};
 use pw_base::NoMemory;
 use sqlite_items::Boxed;
 use std::alloc::Global;
@@ -87,5 +87,48 @@ fn a_deep_typed_expression_is_copied_and_dropped(rt: HostRuntime) -> Result<(), 
     let expr = negated_typed(rt.alloc(), CHAIN)?;
     let copy = expr.copy(rt.alloc())?;
     assert_eq!(rt; operand_typed(&copy, CHAIN), Some(5));
+    Ok(())
+}
+
+/// A `;` that stands here, boxed.
+fn lone(alloc: Global, first: u32, last: u32, line: u32) -> Result<Boxed<Stmt>, NoMemory> {
+    let lone = Stmt {
+        first,
+        last,
+        line,
+        kind: StmtKind::Empty,
+    };
+    Ok(Boxed::new(alloc, lone)?)
+}
+
+/// Where a statement stands: its first and last token, and its line.
+fn place(stmt: &Boxed<Stmt>) -> (u32, u32, u32) {
+    (stmt.get().first, stmt.get().last, stmt.get().line)
+}
+
+#[test]
+fn a_form_is_copied_with_its_statements(rt: HostRuntime) -> Result<(), Fail> {
+    let alloc = rt.alloc();
+    let no = Some(lone(alloc, 7, 8, 3)?);
+    let choice = StmtKind::If(negated(alloc, 1)?, lone(alloc, 4, 5, 2)?, no);
+    let copy = choice.copy(alloc)?;
+    let copied = match &copy {
+        StmtKind::If(c, yes, Some(no)) => Some((operand(c, 1), place(yes), place(no))),
+        _ => None,
+    };
+    assert_eq!(rt; copied, Some((Some(5), (4, 5, 2), (7, 8, 3))));
+
+    let first = Some(lone(alloc, 2, 3, 1)?);
+    let last = Some(lone(alloc, 6, 9, 2)?);
+    let condition = Some(negated(alloc, 2)?);
+    let round = StmtKind::For(first, condition, last, lone(alloc, 11, 12, 4)?);
+    let copy = round.copy(alloc)?;
+    let copied = match &copy {
+        StmtKind::For(Some(first), Some(c), Some(last), body) => {
+            Some((operand(c, 2), place(first), place(last), place(body)))
+        }
+        _ => None,
+    };
+    assert_eq!(rt; copied, Some((Some(5), (2, 3, 1), (6, 9, 2), (11, 12, 4))));
     Ok(())
 }

@@ -68,7 +68,7 @@ impl TExpr {
 
     /// Equal expressions.
     #[cycle(copy_texpr)]
-    pub fn copy_all(alloc: Global, exprs: &[TExpr]) -> Result<Items<TExpr>, NoMemory>
+    pub(crate) fn copy_all(alloc: Global, exprs: &[TExpr]) -> Result<Items<TExpr>, NoMemory>
         ensures { IfOk result (λ copy. copy ≡ exprs.now) }
     {
         let mut copies = Items::new(alloc);
@@ -79,7 +79,10 @@ impl TExpr {
     }
 
     /// An equal expression, or none.
-    pub fn copy_option(alloc: Global, expr: &Option<TExpr>) -> Result<Option<TExpr>, NoMemory>
+    pub(crate) fn copy_option(
+        alloc: Global,
+        expr: &Option<TExpr>,
+    ) -> Result<Option<TExpr>, NoMemory>
         ensures { IfOk result (λ copy. copy ≡ expr.now) }
     {
         match expr {

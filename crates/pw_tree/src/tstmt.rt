@@ -41,7 +41,7 @@ impl TStmt {
     }
 
     /// Equal statements.
-    pub fn copy_all(alloc: Global, stmts: &[TStmt]) -> Result<Items<TStmt>, NoMemory>
+    pub(crate) fn copy_all(alloc: Global, stmts: &[TStmt]) -> Result<Items<TStmt>, NoMemory>
         ensures { IfOk result (λ copy. copy ≡ stmts.now) }
     {
         let mut copies = Items::new(alloc);
