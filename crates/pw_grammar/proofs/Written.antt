@@ -1,5 +1,5 @@
 -- The trees of a unit stand in its tokens, and its types stand where they may.
-use Rattle.std.proofs.Common.{◌≡◌, sym, ◌∙◌, ap, subst, ◌-◌, ◌<◌, ◌^◌, List, length, map, arith}
+use Rattle.std.proofs.Common.{◌≡◌, sym, ◌∙◌, ap, subst, ◌<◌, ◌^◌, List, length, map, arith}
 use Rattle.std.proofs.lemmas.List.{length-map}
 use Rattle.pw_grammar.specs.Declarations.{UnitPhrase, spelled_unit, IsUnit, trees_of_declarations, lines_of}
 use Rattle.pw_grammar.specs.Laws.{TreesAreWritten}

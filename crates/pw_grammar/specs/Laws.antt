@@ -4,12 +4,26 @@ use Rattle.pw_grammar.specs.declared.error.SyntaxError.{SyntaxError}
 use Rattle.pw_grammar.specs.Declarations.{UnitPhrase, spelled_unit, IsUnit, trees_of_declarations, Derives}
 use Rattle.pw_grammar.specs.Faults.{IsFault, IsFirstFault}
 use Rattle.pw_grammar.specs.Reading.{parsed}
+use Rattle.pw_grammar.specs.Terminals.{keywords, punctuators, symbol_beside, sort_of}
 use Rattle.pw_grammar.specs.Weights.{weight}
+use Rattle.pw_lex.specs.Bytes.{Text}
+use Rattle.pw_lex.specs.Token.{IsToken}
 use Rattle.pw_lex.specs.declared.token.Token.{Token}
+use Rattle.pw_lex.specs.declared.token.TokenKind.TheVariants as t
 use Rattle.pw_tree.specs.declared.decl.Decl.{Decl}
 use Rattle.pw_tree.specs.declared.decl.Unit.{Unit}
 use Rattle.pw_tree.specs.Declarations.{declarations_of, written_unit_of}
 use Rattle.pw_tree.specs.Placed.{IsWritten}
+
+-- the symbol of each keyword is the one beside its text
+abbrev pub KeywordsByText : Type 0
+KeywordsByText =
+    (text : Text) (number : ℕ) → IsToken text (t.Keyword number) → sort_of (t.Keyword number) ≡ symbol_beside keywords text
+
+-- the symbol of each punctuator is the one beside its text, or `Other` where none is
+abbrev pub PunctuatorsByText : Type 0
+PunctuatorsByText =
+    (text : Text) (number : ℕ) → IsToken text (t.Punct number) → sort_of (t.Punct number) ≡ symbol_beside punctuators text
 
 -- the tokens have no fault, and the grammar derives these declarations from them
 pub record HasTree (tokens : List Token) (decls : List Decl) : Type 0 where

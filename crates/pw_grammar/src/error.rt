@@ -13,10 +13,10 @@ pub enum SyntaxError {
     #[error("syntax")]
     At(u32),
     /// The token opens the 201st bracket that is open at once.
-    #[error("too nested")]
+    #[error("brackets too deep")]
     TooNested(u32),
     /// The token is the first of a function's body that is past the 8,192nd of its declaration.
-    #[error("too long")]
+    #[error("function too long")]
     TooLong(u32),
     /// Memory for the tree was refused.
     #[error("out of memory")]

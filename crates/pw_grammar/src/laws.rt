@@ -1,5 +1,11 @@
 //! Laws of the grammar, each the contract of a function.
-ghost use Rattle.pw_grammar.specs.Laws.{ReadingTells, OneTree, TreesAreWritten, UnitsAreNoLonger};
+ghost use Rattle.pw_grammar.specs.Laws.{KeywordsByText, PunctuatorsByText, ReadingTells, OneTree, TreesAreWritten, UnitsAreNoLonger};
+
+/// A keyword and a punctuator, which a token gives by its number, have the symbol that stands beside their text.
+pub fn symbols_go_by_their_texts()
+    ensures keywords { KeywordsByText }
+    ensures punctuators { PunctuatorsByText }
+{}
 
 /// Reading a list of tokens from left to right gives the tree that the grammar derives from it, if it has no fault, and
 /// else exactly its first fault.
