@@ -6,14 +6,9 @@ ghost use Rattle.pw_grammar.specs.Limits as spec;
 ghost use Rattle.pw_grammar.specs.Reading as reading;
 ghost use Rattle.pw_parse.specs.Walk.{walk_of};
 
+use pw_base::Limits;
 use pw_grammar::{Sort, SyntaxError, is_same, sort_of};
 use pw_lex::Token;
-
-/// How many brackets may be open at once.
-const OPEN_BRACKETS: usize = 200;
-
-/// How many tokens a function may have.
-const FUNCTION_TOKENS: usize = 8192;
 
 /// Where a walk over declarations stands.
 #[derive(Clone, Copy)]
@@ -95,7 +90,7 @@ impl Stand {
         requires { self.now.start < 2 ^ 32 }
         ensures { result ≡ spec.is_late (walk_of self.now) token.now }
     {
-        self.is_inside(token) && self.start + FUNCTION_TOKENS <= self.at
+        self.is_inside(token) && self.start + Limits::FUNCTION_TOKENS <= self.at
     }
 
     /// Whether the declaration ends with the token.
@@ -142,7 +137,7 @@ impl Stand {
 fn is_too_deep(depth: usize, token: &Token) -> bool
     ensures { result ≡ (opens token.now && nat_le 200 depth) }
 {
-    opens(token) && OPEN_BRACKETS <= depth
+    opens(token) && Limits::OPEN_BRACKETS <= depth
 }
 
 /// The first token that opens a bracket where 200 are open.

@@ -289,6 +289,14 @@ fn the_first_token_with_no_place_is_the_fault(rt: HostRuntime) -> Result<(), Fai
     agree(&rt, rt.alloc(), &THE_FIRST_TOKEN_WITH_NO_PLACE_IS_THE_FAULT)
 }
 
+/// A piece joins a text this many times.
+fn push_times(text: &mut Vec<u8>, times: usize, piece: &[u8]) -> Result<(), AllocError> {
+    for _ in 0..times {
+        text.extend_from_slice(piece)?;
+    }
+    Ok(())
+}
+
 /// The middle with this many fronts before it and as many backs behind it.
 fn nested(
     alloc: Global,
@@ -298,13 +306,9 @@ fn nested(
     back: &[u8],
 ) -> Result<Vec<u8>, AllocError> {
     let mut text = Vec::new(alloc);
-    for _ in 0..times {
-        text.extend_from_slice(front)?;
-    }
+    push_times(&mut text, times, front)?;
     text.extend_from_slice(middle)?;
-    for _ in 0..times {
-        text.extend_from_slice(back)?;
-    }
+    push_times(&mut text, times, back)?;
     Ok(text)
 }
 
