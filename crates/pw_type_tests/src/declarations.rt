@@ -1,10 +1,10 @@
 //! Faults of declarations.
 
-use crate::told::told;
+use crate::told::{Row, agree};
 use std::test::Fail;
 
 /// Values that do not fit a variable.
-const INITIALISERS: [(&str, &str); 5] = [
+const INITIALISERS: [Row; 5] = [
     ("fn1 p = 3;", "Initialiser at line 1 token 3"),
     (
         "long f(void) { return 0; } long a = f;",
@@ -19,7 +19,7 @@ const INITIALISERS: [(&str, &str); 5] = [
 ];
 
 /// Arrays of no elements or too many, and functions of too many parameters.
-const SIZES: [(&str, &str); 6] = [
+const SIZES: [Row; 6] = [
     ("long t[0];", "ArraySize at line 1 token 4"),
     ("long t[65537];", "ArraySize at line 1 token 4"),
     ("extern long t[65537];", "ArraySize at line 1 token 5"),
@@ -39,20 +39,10 @@ const SIZES: [(&str, &str); 6] = [
 
 #[test]
 fn a_variable_begins_with_what_fits(rt: HostRuntime) -> Result<(), Fail> {
-    for (text, expected) in INITIALISERS {
-        assert!(rt; text.len() < 10_000);
-        let told = told(rt.alloc(), text.as_bytes())?;
-        assert_eq!(rt; told.as_str(), expected, "in {text:?}");
-    }
-    Ok(())
+    agree(&rt, rt.alloc(), &INITIALISERS)
 }
 
 #[test]
 fn sizes_are_limited(rt: HostRuntime) -> Result<(), Fail> {
-    for (text, expected) in SIZES {
-        assert!(rt; text.len() < 10_000);
-        let told = told(rt.alloc(), text.as_bytes())?;
-        assert_eq!(rt; told.as_str(), expected, "in {text:?}");
-    }
-    Ok(())
+    agree(&rt, rt.alloc(), &SIZES)
 }

@@ -1,10 +1,10 @@
 //! Faults of expressions.
 
-use crate::told::told;
+use crate::told::{Row, agree};
 use std::test::Fail;
 
 /// Values and operands of other types than are wanted.
-const OPERANDS: [(&str, &str); 8] = [
+const OPERANDS: [Row; 8] = [
     (
         "void v(void) { } long main(void) { return v() + 1; }",
         "NotValue at line 1 token 16",
@@ -40,7 +40,7 @@ const OPERANDS: [(&str, &str); 8] = [
 ];
 
 /// Calls of what is no function, or with other arguments.
-const CALLS: [(&str, &str); 6] = [
+const CALLS: [Row; 6] = [
     (
         "long f(long a) { return a; }\nlong main(void) { return f(); }",
         "ArgCount at line 2 token 20",
@@ -68,7 +68,7 @@ const CALLS: [(&str, &str); 6] = [
 ];
 
 /// Arrays without an index, an index without an array, and assignments to what does not fit.
-const ARRAYS: [(&str, &str); 8] = [
+const ARRAYS: [Row; 8] = [
     (
         "long a; long main(void) { return a[1]; }",
         "NotArray at line 1 token 10",
@@ -105,30 +105,15 @@ const ARRAYS: [(&str, &str); 8] = [
 
 #[test]
 fn operators_take_numbers_or_two_equal_pointers(rt: HostRuntime) -> Result<(), Fail> {
-    for (text, expected) in OPERANDS {
-        assert!(rt; text.len() < 10_000);
-        let told = told(rt.alloc(), text.as_bytes())?;
-        assert_eq!(rt; told.as_str(), expected, "in {text:?}");
-    }
-    Ok(())
+    agree(&rt, rt.alloc(), &OPERANDS)
 }
 
 #[test]
 fn a_call_has_the_arguments_that_its_callee_takes(rt: HostRuntime) -> Result<(), Fail> {
-    for (text, expected) in CALLS {
-        assert!(rt; text.len() < 10_000);
-        let told = told(rt.alloc(), text.as_bytes())?;
-        assert_eq!(rt; told.as_str(), expected, "in {text:?}");
-    }
-    Ok(())
+    agree(&rt, rt.alloc(), &CALLS)
 }
 
 #[test]
 fn an_array_stands_with_an_index(rt: HostRuntime) -> Result<(), Fail> {
-    for (text, expected) in ARRAYS {
-        assert!(rt; text.len() < 10_000);
-        let told = told(rt.alloc(), text.as_bytes())?;
-        assert_eq!(rt; told.as_str(), expected, "in {text:?}");
-    }
-    Ok(())
+    agree(&rt, rt.alloc(), &ARRAYS)
 }

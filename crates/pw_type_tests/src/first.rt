@@ -1,10 +1,10 @@
 //! Which of several faults is the first.
 
-use crate::told::told;
+use crate::told::{Row, agree};
 use std::test::Fail;
 
 /// Texts in which the place of a phrase breaks several rules.
-const LEAVES: [(&str, &str); 8] = [
+const LEAVES: [Row; 8] = [
     (
         "void v(void) { } long main(void) { v()(1); return 0; }",
         "NotValue at line 1 token 15",
@@ -39,12 +39,8 @@ const LEAVES: [(&str, &str); 8] = [
     ),
 ];
 
-/// Texts in which several rules, or none, might be thought to be broken.
-const PARTS: [(&str, &str); 8] = [
-    (
-        "long main(void) { long i; for (long i = 1; i < 3; i = i + 1) { __out(i); } return i; }",
-        "fun main external line 1 locals 2 held 1;name main l();",
-    ),
+/// Texts in which a name breaks a rule, and its declarator perhaps another.
+const NAMES: [Row; 4] = [
     (
         "long register; long register;",
         "Reserved at line 1 token 1 of register",
@@ -55,11 +51,27 @@ const PARTS: [(&str, &str); 8] = [
     ),
     ("long auto;", "Reserved at line 1 token 1 of auto"),
     (
+        "long a[65536]; long b[65536]; long c[65536]; long d[65536]; long auto;",
+        "Reserved at line 1 token 25 of auto",
+    ),
+];
+
+/// Texts in which an operator has a pointer or a function as its operand.
+const OPERANDS: [Row; 6] = [
+    (
         "long main(void) { return - main; }",
         "Operands at line 1 token 8",
     ),
     (
         "fn0 p; long main(void) { return -p; }",
+        "Operands at line 1 token 11",
+    ),
+    (
+        "fn0 p; long main(void) { return +p; }",
+        "Operands at line 1 token 11",
+    ),
+    (
+        "fn0 p; long main(void) { return ~p; }",
         "Operands at line 1 token 11",
     ),
     (
@@ -72,8 +84,20 @@ const PARTS: [(&str, &str); 8] = [
     ),
 ];
 
-/// Texts with two faults.
-const PAIRS: [(&str, &str); 13] = [
+/// Texts in which a `for` declares a local.
+const LOOPS: [Row; 2] = [
+    (
+        "long main(void) { long i; for (long i = 1; i < 3; i = i + 1) { __out(i); } return i; }",
+        "fun main external line 1 locals 2 held 1;name main l();",
+    ),
+    (
+        "long main(void) { for (long i = 0; i < 3; i = i + 1) { } return i; }",
+        "Unknown at line 1 token 26 of i",
+    ),
+];
+
+/// Texts in which two rules are broken, at one token or at two.
+const PAIRS: [Row; 16] = [
     ("long __a; long __a;", "Reserved at line 1 token 1 of __a"),
     (
         "long f(void) { return 0; } unsigned long f(void) { return 0; }",
@@ -106,8 +130,20 @@ const PAIRS: [(&str, &str); 13] = [
         "NotValue at line 1 token 16",
     ),
     (
-        "fn0 p; long main(void) { return p * v(); }",
-        "Unknown at line 1 token 12 of v",
+        "fn0 p; void v(void) { } long main(void) { return p * v(); }",
+        "NotValue at line 1 token 21",
+    ),
+    (
+        "fn0 p; long t[2]; long main(void) { p = t; return 0; }",
+        "NeedsIndex at line 1 token 17",
+    ),
+    (
+        "fn0 p; long f(long a) { return a; } long main(void) { p = f(); return 0; }",
+        "ArgCount at line 1 token 24",
+    ),
+    (
+        "long f(long a) { return a; } long main(void) { return f(x, 1); }",
+        "Unknown at line 1 token 20 of x",
     ),
     (
         "static long f(void); long a = 1; long a = 2;",
@@ -121,30 +157,25 @@ const PAIRS: [(&str, &str); 13] = [
 
 #[test]
 fn for_one_phrase_the_lower_rule_counts(rt: HostRuntime) -> Result<(), Fail> {
-    for (text, expected) in LEAVES {
-        assert!(rt; text.len() < 10_000);
-        let told = told(rt.alloc(), text.as_bytes())?;
-        assert_eq!(rt; told.as_str(), expected, "in {text:?}");
-    }
-    Ok(())
+    agree(&rt, rt.alloc(), &LEAVES)
 }
 
 #[test]
 fn a_name_is_judged_before_its_declarator(rt: HostRuntime) -> Result<(), Fail> {
-    for (text, expected) in PARTS {
-        assert!(rt; text.len() < 10_000);
-        let told = told(rt.alloc(), text.as_bytes())?;
-        assert_eq!(rt; told.as_str(), expected, "in {text:?}");
-    }
-    Ok(())
+    agree(&rt, rt.alloc(), &NAMES)
+}
+
+#[test]
+fn an_operator_takes_numbers(rt: HostRuntime) -> Result<(), Fail> {
+    agree(&rt, rt.alloc(), &OPERANDS)
+}
+
+#[test]
+fn a_for_has_a_scope_of_its_own(rt: HostRuntime) -> Result<(), Fail> {
+    agree(&rt, rt.alloc(), &LOOPS)
 }
 
 #[test]
 fn of_two_faults_the_one_that_ends_first_counts(rt: HostRuntime) -> Result<(), Fail> {
-    for (text, expected) in PAIRS {
-        assert!(rt; text.len() < 10_000);
-        let told = told(rt.alloc(), text.as_bytes())?;
-        assert_eq!(rt; told.as_str(), expected, "in {text:?}");
-    }
-    Ok(())
+    agree(&rt, rt.alloc(), &PAIRS)
 }

@@ -1,11 +1,11 @@
 //! The limits of a unit: each reached, and passed by one.
 
-use crate::told::told;
+use crate::told::{Row, agree, told};
 use std::alloc::{AllocError, Global};
 use std::test::Fail;
 
 /// Texts at the limits of elements and parameters.
-const SIZES: [(&str, &str); 9] = [
+const SIZES: [Row; 9] = [
     ("long t[1];", "var t external size 1 values 0;name t l[1];"),
     (
         "long t[65536];",
@@ -37,10 +37,13 @@ const SIZES: [(&str, &str); 9] = [
 
 #[test]
 fn sizes_and_parameters_have_limits(rt: HostRuntime) -> Result<(), Fail> {
-    for (text, expected) in SIZES {
-        assert!(rt; text.len() < 10_000);
-        let told = told(rt.alloc(), text.as_bytes())?;
-        assert_eq!(rt; told.as_str(), expected, "in {text:?}");
+    agree(&rt, rt.alloc(), &SIZES)
+}
+
+/// A part joins a text so many times.
+fn push_many(text: &mut String, count: usize, part: &str) -> Result<(), AllocError> {
+    for _turn in 0..count {
+        text.push_str(part)?;
     }
     Ok(())
 }
@@ -55,9 +58,7 @@ fn with_many(
 ) -> Result<String, AllocError> {
     let mut text = String::new(alloc);
     text.push_str(front)?;
-    for _turn in 0..count {
-        text.push_str(part)?;
-    }
+    push_many(&mut text, count, part)?;
     text.push_str(end)?;
     Ok(text)
 }
@@ -65,38 +66,47 @@ fn with_many(
 /// A text's front, an expression that holds so many values, and its end.
 fn with_held(alloc: Global, front: &str, held: usize, end: &str) -> Result<String, AllocError> {
     let mut text = with_many(alloc, front, "1 + (", held, "1")?;
-    for _turn in 0..held {
-        text.push_str(")")?;
-    }
+    push_many(&mut text, held, ")")?;
     text.push_str(end)?;
     Ok(text)
 }
 
 #[test]
 fn a_function_has_at_most_120_parameters_and_locals(rt: HostRuntime) -> Result<(), Fail> {
+    let none = "long main(void) { ";
     let six = "long main(long a, long b, long c, long d, long e, long f) { ";
+    let end = "return 0; }";
     let rows = [
         (
-            "long main(void) { ",
+            none,
             120,
+            end,
             "fun main external line 1 locals 120 held 0;name main l();",
         ),
-        (
-            "long main(void) { ",
-            121,
-            "TooManyLocals at line 1 token 608",
-        ),
+        (none, 121, end, "TooManyLocals at line 1 token 608"),
         (
             six,
             114,
+            end,
             "fun main external line 1 locals 120 held 0;name main l(llllll);",
         ),
-        (six, 115, "TooManyLocals at line 1 token 594"),
+        (six, 115, end, "TooManyLocals at line 1 token 594"),
+        (
+            none,
+            120,
+            "long auto; return 0; }",
+            "TooManyLocals at line 1 token 607",
+        ),
+        (
+            "long main(void) { long b; ",
+            119,
+            "long b; return 0; }",
+            "Redeclared at line 1 token 605 of b",
+        ),
     ];
-    for (front, count, expected) in rows {
-        let text = with_many(rt.alloc(), front, "{ long a; } ", count, "return 0; }")?;
-        assert!(rt; text.len() < 10_000);
-        let told = told(rt.alloc(), text.as_bytes())?;
+    for (front, count, end, expected) in rows {
+        let text = with_many(rt.alloc(), front, "{ long a; } ", count, end)?;
+        let told = told(&rt, rt.alloc(), text.as_str())?;
         assert_eq!(rt; told.as_str(), expected, "{count} behind {front:?}");
     }
     Ok(())
@@ -106,24 +116,38 @@ fn a_function_has_at_most_120_parameters_and_locals(rt: HostRuntime) -> Result<(
 fn an_expression_holds_at_most_100_values(rt: HostRuntime) -> Result<(), Fail> {
     let returned = "long main(void) { return ";
     let assigned = "long t[1]; long main(void) { t[0] = ";
+    let declared = "long main(void) { long x = (";
     let rows = [
         (
             returned,
             100,
+            "; }",
             "fun main external line 1 locals 0 held 100;name main l();",
         ),
-        (returned, 101, "TooDeep at line 1 token 411"),
+        (returned, 101, "; }", "TooDeep at line 1 token 411"),
         (
             assigned,
             99,
+            "; }",
             "fun main external line 1 locals 0 held 100;var t external size 1 values 0;name t l[1];name main l();",
         ),
-        (assigned, 100, "TooDeep at line 1 token 417"),
+        (assigned, 100, "; }", "TooDeep at line 1 token 417"),
+        (
+            declared,
+            100,
+            "); return x; }",
+            "fun main external line 1 locals 1 held 100;name main l();",
+        ),
+        (
+            declared,
+            101,
+            "); return x; }",
+            "TooDeep at line 1 token 414",
+        ),
     ];
-    for (front, held, expected) in rows {
-        let text = with_held(rt.alloc(), front, held, "; }")?;
-        assert!(rt; text.len() < 10_000);
-        let told = told(rt.alloc(), text.as_bytes())?;
+    for (front, held, end, expected) in rows {
+        let text = with_held(rt.alloc(), front, held, end)?;
+        let told = told(&rt, rt.alloc(), text.as_str())?;
         assert_eq!(rt; told.as_str(), expected, "{held} behind {front:?}");
     }
     Ok(())

@@ -1,10 +1,10 @@
 //! Faults of names.
 
-use crate::told::told;
+use crate::told::{Row, agree};
 use std::test::Fail;
 
 /// Names that are not visible, and static functions that are not defined.
-const UNKNOWN: [(&str, &str); 7] = [
+const UNKNOWN: [Row; 7] = [
     (
         "long main(void) { return x; }",
         "Unknown at line 1 token 7 of x",
@@ -33,7 +33,7 @@ const UNKNOWN: [(&str, &str); 7] = [
 ];
 
 /// Names that are defined twice.
-const REDECLARED: [(&str, &str); 5] = [
+const REDECLARED: [Row; 5] = [
     ("long a; long a;", "Redeclared at line 1 token 4 of a"),
     (
         "long f(void) { return 1; } long f(void) { return 2; }",
@@ -54,7 +54,7 @@ const REDECLARED: [(&str, &str); 5] = [
 ];
 
 /// Names that are declared otherwise before.
-const CONFLICTS: [(&str, &str); 7] = [
+const CONFLICTS: [Row; 7] = [
     (
         "long f(long a); unsigned long f(long a) { return a; }",
         "Conflict at line 1 token 13 of f",
@@ -83,7 +83,7 @@ const CONFLICTS: [(&str, &str); 7] = [
 ];
 
 /// Names that no declaration may have.
-const RESERVED: [(&str, &str); 4] = [
+const RESERVED: [Row; 4] = [
     ("long __a;", "Reserved at line 1 token 1 of __a"),
     (
         "long _start(void) { return 0; }",
@@ -101,40 +101,20 @@ const RESERVED: [(&str, &str); 4] = [
 
 #[test]
 fn a_name_is_declared_before_it_is_used(rt: HostRuntime) -> Result<(), Fail> {
-    for (text, expected) in UNKNOWN {
-        assert!(rt; text.len() < 10_000);
-        let told = told(rt.alloc(), text.as_bytes())?;
-        assert_eq!(rt; told.as_str(), expected, "in {text:?}");
-    }
-    Ok(())
+    agree(&rt, rt.alloc(), &UNKNOWN)
 }
 
 #[test]
 fn a_name_is_defined_once(rt: HostRuntime) -> Result<(), Fail> {
-    for (text, expected) in REDECLARED {
-        assert!(rt; text.len() < 10_000);
-        let told = told(rt.alloc(), text.as_bytes())?;
-        assert_eq!(rt; told.as_str(), expected, "in {text:?}");
-    }
-    Ok(())
+    agree(&rt, rt.alloc(), &REDECLARED)
 }
 
 #[test]
 fn the_declarations_of_a_name_agree(rt: HostRuntime) -> Result<(), Fail> {
-    for (text, expected) in CONFLICTS {
-        assert!(rt; text.len() < 10_000);
-        let told = told(rt.alloc(), text.as_bytes())?;
-        assert_eq!(rt; told.as_str(), expected, "in {text:?}");
-    }
-    Ok(())
+    agree(&rt, rt.alloc(), &CONFLICTS)
 }
 
 #[test]
 fn some_names_are_reserved(rt: HostRuntime) -> Result<(), Fail> {
-    for (text, expected) in RESERVED {
-        assert!(rt; text.len() < 10_000);
-        let told = told(rt.alloc(), text.as_bytes())?;
-        assert_eq!(rt; told.as_str(), expected, "in {text:?}");
-    }
-    Ok(())
+    agree(&rt, rt.alloc(), &RESERVED)
 }

@@ -1,12 +1,12 @@
 //! What a name means where it is used.
 
-use crate::told::{push_bytes, typed};
+use crate::told::{Row, push_bytes, typed};
 use pw_tree::{Ref, TKind, TStmt, TUnit};
 use std::alloc::{AllocError, Global};
 use std::test::Fail;
 
 /// A text, and what the name means that its last function returns or calls.
-const MEANT: [(&str, &str); 11] = [
+const MEANT: [Row; 11] = [
     (
         "long w; long x; long main(void) { long x; long z; { long x; return x; } }",
         "local 2",
@@ -100,8 +100,7 @@ fn a_name_means_its_newest_local_or_what_is_declared_at_file_level(
     rt: HostRuntime,
 ) -> Result<(), Fail> {
     for (text, expected) in MEANT {
-        assert!(rt; text.len() < 10_000);
-        match typed(rt.alloc(), text.as_bytes()) {
+        match typed(&rt, rt.alloc(), text)? {
             Ok(unit) => {
                 let meant = returned(rt.alloc(), &unit)?;
                 assert_eq!(rt; meant.as_str(), expected, "in {text:?}");

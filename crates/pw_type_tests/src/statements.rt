@@ -1,10 +1,10 @@
 //! Faults of statements.
 
-use crate::told::told;
+use crate::told::{Row, agree};
 use std::test::Fail;
 
 /// Statements that leave a function or a loop.
-const LEAVING: [(&str, &str); 5] = [
+const LEAVING: [Row; 5] = [
     ("void f(void) { return 1; }", "ReturnType at line 1 token 8"),
     ("long f(void) { return; }", "ReturnType at line 1 token 7"),
     (
@@ -23,10 +23,5 @@ const LEAVING: [(&str, &str); 5] = [
 
 #[test]
 fn a_statement_leaves_with_what_is_wanted(rt: HostRuntime) -> Result<(), Fail> {
-    for (text, expected) in LEAVING {
-        assert!(rt; text.len() < 10_000);
-        let told = told(rt.alloc(), text.as_bytes())?;
-        assert_eq!(rt; told.as_str(), expected, "in {text:?}");
-    }
-    Ok(())
+    agree(&rt, rt.alloc(), &LEAVING)
 }

@@ -1,31 +1,25 @@
 //! What the types of a text tell, in words.
-ghost use Rattle.std.specs.Prelude.{◌<◌, ◌^◌, length};
-
 use pw_grammar::trees_are_written;
 use pw_lex::tokens;
 use pw_parse::parse;
 use pw_tree::{Ext, TFun, TUnit, TVar};
 use pw_types::{TypeError, check};
 use std::alloc::{AllocError, Global};
+use std::process::Abort;
+use std::test::Fail;
 
-/// The typed unit of a text, or its first type fault; a text that is no unit finds no memory.
-pub(crate) fn typed(alloc: Global, text: &[u8]) -> Result<TUnit, TypeError>
-    requires { length text.now < 2 ^ 32 }
-{
-    let Ok(tokens) = tokens(alloc, text) else {
-        return Err(TypeError::NoMemory);
-    };
-    let tokens = tokens.as_slice();
-    if tokens.len() > 100_000 {
-        return Err(TypeError::NoMemory);
-    }
-    match parse(alloc, tokens) {
-        Ok(unit) => {
-            trees_are_written();
-            check(alloc, &unit)
-        }
-        Err(_) => Err(TypeError::NoMemory),
-    }
+/// The typed unit of a text that is a unit, or its first type fault.
+pub(crate) fn typed(
+    rt: &impl Abort,
+    alloc: Global,
+    text: &str,
+) -> Result<Result<TUnit, TypeError>, Fail> {
+    assert!(rt; text.len() < 10_000);
+    let tokens = tokens(alloc, text.as_bytes())?;
+    assert!(rt; tokens.len() < 10_000);
+    let unit = parse(alloc, tokens.as_slice())?;
+    trees_are_written();
+    Ok(check(alloc, &unit))
 }
 
 /// The characters of these bytes join a text.
@@ -73,28 +67,43 @@ fn push_name(out: &mut String, name: &Ext) -> Result<(), AllocError> {
     out.push_str(";")
 }
 
+/// The functions of a unit.
+fn push_functions(alloc: Global, out: &mut String, unit: &TUnit) -> Result<(), AllocError> {
+    for f in unit.funs.as_slice() {
+        push_function(alloc, out, f)?;
+    }
+    Ok(())
+}
+
+/// The variables of a unit.
+fn push_variables(alloc: Global, out: &mut String, unit: &TUnit) -> Result<(), AllocError> {
+    for v in unit.vars.as_slice() {
+        push_variable(alloc, out, v)?;
+    }
+    Ok(())
+}
+
+/// The names of a unit.
+fn push_names(out: &mut String, unit: &TUnit) -> Result<(), AllocError> {
+    for name in unit.names.as_slice() {
+        push_name(out, name)?;
+    }
+    Ok(())
+}
+
 /// A unit's functions, variables and names.
 fn unit_told(alloc: Global, unit: &TUnit) -> Result<String, AllocError> {
     let mut out = String::new(alloc);
-    for f in unit.funs.as_slice() {
-        push_function(alloc, &mut out, f)?;
-    }
-    for v in unit.vars.as_slice() {
-        push_variable(alloc, &mut out, v)?;
-    }
-    for name in unit.names.as_slice() {
-        push_name(&mut out, name)?;
-    }
+    push_functions(alloc, &mut out, unit)?;
+    push_variables(alloc, &mut out, unit)?;
+    push_names(&mut out, unit)?;
     Ok(out)
 }
 
-/// A text's first type fault, or what its typed unit has.
-pub(crate) fn told(alloc: Global, text: &[u8]) -> Result<String, AllocError>
-    requires { length text.now < 2 ^ 32 }
-{
-    match typed(alloc, text) {
-        Ok(unit) => unit_told(alloc, &unit),
-        Err(TypeError::Broken { rule, at, name }) => {
+/// A type fault, with the name that it is about.
+fn fault_told(alloc: Global, fault: &TypeError) -> Result<String, AllocError> {
+    match fault {
+        TypeError::Broken { rule, at, name } => {
             let (line, token) = (at.line, at.token);
             let mut out = format!(in alloc; "{rule} at line {line} token {token}")?;
             if let Some(name) = name {
@@ -103,6 +112,25 @@ pub(crate) fn told(alloc: Global, text: &[u8]) -> Result<String, AllocError>
             }
             Ok(out)
         }
-        Err(TypeError::NoMemory) => format!(in alloc; "out of memory"),
+        TypeError::NoMemory => format!(in alloc; "out of memory"),
     }
+}
+
+/// A text's first type fault, or what its typed unit has.
+pub(crate) fn told(rt: &impl Abort, alloc: Global, text: &str) -> Result<String, Fail> {
+    match typed(rt, alloc, text)? {
+        Ok(unit) => Ok(unit_told(alloc, &unit)?),
+        Err(fault) => Ok(fault_told(alloc, &fault)?),
+    }
+}
+
+/// A text, and what is told of it.
+pub(crate) type Row = (&'static str, &'static str);
+
+/// Of each text is told what stands beside it.
+pub(crate) fn agree(rt: &impl Abort, alloc: Global, rows: &[Row]) -> Result<(), Fail> {
+    for (text, expected) in rows {
+        assert_eq!(rt; told(rt, alloc, text)?.as_str(), *expected, "in {text:?}");
+    }
+    Ok(())
 }

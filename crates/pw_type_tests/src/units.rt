@@ -1,10 +1,10 @@
 //! What typed units have.
 
-use crate::told::told;
+use crate::told::{Row, agree};
 use std::test::Fail;
 
 /// Texts without faults, and their functions, variables and external names.
-const UNITS: [(&str, &str); 11] = [
+const UNITS: [Row; 11] = [
     ("", ""),
     ("long a;", "var a external size 0 values 0;name a l;"),
     (
@@ -49,10 +49,5 @@ const UNITS: [(&str, &str); 11] = [
 fn a_unit_has_what_it_defines_and_the_external_names_that_it_uses(
     rt: HostRuntime,
 ) -> Result<(), Fail> {
-    for (text, expected) in UNITS {
-        assert!(rt; text.len() < 10_000);
-        let told = told(rt.alloc(), text.as_bytes())?;
-        assert_eq!(rt; told.as_str(), expected, "in {text:?}");
-    }
-    Ok(())
+    agree(&rt, rt.alloc(), &UNITS)
 }

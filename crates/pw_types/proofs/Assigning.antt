@@ -1,5 +1,5 @@
 -- What an assignment comes to.
-use Rattle.std.proofs.Common.{◌≡◌, ℕ, suc, ◌+◌, ◌≤◌, min, max, Bool, true, false, not, List, [], ◌∷◌, ◌++◌, length, Option, Some, None, option_map, refl, sym, ap, ◌∙◌, subst, append_assoc, arith, nat_lt, slice_index_or}
+use Rattle.std.proofs.Common.{◌≡◌, ℕ, suc, ◌+◌, ◌≤◌, min, max, Bool, true, false, ◌&&◌, not, List, [], ◌∷◌, ◌++◌, length, Option, Some, None, is_some, is_none, option_map, refl, sym, ap, ◌∙◌, subst, append_assoc, arith, nat_lt, slice_index_or}
 use Rattle.std.specs.Option.{option_map_or}
 use Rattle.std.proofs.lemmas.Bool.Decides.{nat_tests}
 use Rattle.pw_tree.specs.Phrases.{Place, Phrase}
@@ -23,15 +23,16 @@ use Rattle.pw_types.specs.declared.statement_walk.Walk.{Walk}
 use Rattle.pw_types.specs.declared.statement_step.Setting.{Setting as Given}
 use Rattle.pw_types.specs.declared.statement_set.Array.{Array}
 use Rattle.pw_types.specs.declared.fault.Stop.{Stop}
-use Rattle.pw_types.specs.Faults.{broken}
+use Rattle.pw_types.specs.Types.{is_number}
+use Rattle.pw_types.specs.Faults.{broken, broken_by}
 use Rattle.pw_types.specs.Scopes.{Scope, Meaning, meaning, declared}
 use Rattle.pw_types.specs.Held.{held, held_option, held_by, held_element}
 use Rattle.pw_types.specs.Uses.{uses, uses_of_meaning, uses_of_name}
 use Rattle.pw_types.specs.Typed.{typed, array_of_meaning, array_of_kind, array_named}
 use Rattle.pw_types.specs.Typed as typed_trees
-use Rattle.pw_types.specs.Expressions.{faults}
+use Rattle.pw_types.specs.Expressions.{has_type, faults}
 use Rattle.pw_types.specs.Blocks.{Setting, Block, behind, uses_by, uses_of_option}
-use Rattle.pw_types.specs.Statements.{faults_of_target, faults_of_array, faults_by, type_of_target, type_of_kind, holds_too_many, element_holds_too_many}
+use Rattle.pw_types.specs.Statements.{faults_of_target, faults_of_array, faults_by, type_of_target, type_of_kind, holds_too_many, element_holds_too_many, is_unknown_target, has_other_index, set_element_holds_too_many}
 use Rattle.pw_types.specs.Commands.{tree_in, command_of, assigned, element_assigned, bracket_line}
 use Rattle.pw_types.specs.CheckingStatements.{Outcome, outcome, judged, block_of, outcome_at, judged_at, setting_of, Fails}
 use Rattle.pw_types.specs.StatementValues.{Notes, IsValue}
@@ -67,7 +68,7 @@ comes_to f c d us vs old new none is uses notes =
 
 -- the faults of the value that is assigned at a type
 abbrev faults_at : Scope → Option Ty → Phrase → ℕ → List Fault
-faults_at scope ty e end = faults scope (roles.Assigned ty) e ++ broken rules.TooDeep end (holds_too_many (typed scope e))
+faults_at scope ty e end = faults scope (roles.Assigned ty) e ++ broken rules.TooDeep end (is_some ty && holds_too_many (typed scope e))
 
 pub sets_local : (x : Given) (old new : Walk) (at : Place) (name : List ℕ) (e : Phrase) (n : ℕ) (ty : Ty) (t : TExpr)
     → faults_of_target old.scope name at.first ≡ [] → IsLocal old.scope name n ty
@@ -145,11 +146,27 @@ array_is scope name n r ty size target =
     ∙ (ap (array_of_kind scope target.file) target.kind
     ∙ ap (λ (u : Ref). let a : Option typed_trees.Array = Some (record { reference = u; ty = ty; size = size }) in a) (sym target.reference))
 
+-- ---- its index
+
+-- the faults of the index of what has this name
+abbrev faults_of_index_of : Scope → Place → List ℕ → Phrase → List Fault
+faults_of_index_of scope at name i = faults scope roles.Value i ++ broken rules.Operands (index_end at i) (has_other_index scope name i)
+
+is_there : {A : Type 0} (at : ℕ) (o : Option A) → broken rules.NotArray at (is_none o) ≡ [] → is_some o ≡ true
+is_there at None none = cc
+is_there at (Some a) none = refl
+
+same_index : (scope : Scope) (at : Place) (name : List ℕ) (i : Phrase) → faults_of_array scope name at.first ≡ []
+    → faults_of_index_of scope at name i ≡ faults_of_index scope at i
+same_index scope at name i free =
+    ap (λ (b : Bool). faults scope roles.Value i ++ broken rules.Operands (index_end at i) (b && has_type (λ t. not (is_number t)) (typed scope i)))
+    (is_there at.first (array_named scope name) (none_behind (broken_by rules.Unknown at.first name (is_unknown_target scope name)) _ free))
+
 -- the faults of the value that an element of an array of this name is assigned
 abbrev rest_of_faults : Scope → List ℕ → Phrase → Phrase → ℕ → List Fault
 rest_of_faults scope name i e end =
     faults scope (roles.Assigned (option_map (λ (b : typed_trees.Array). b.ty) (array_named scope name))) e
-    ++ broken rules.TooDeep end (element_holds_too_many (typed scope i) (typed scope e))
+    ++ broken rules.TooDeep end (set_element_holds_too_many scope name i e)
 
 -- what stands before the value in an assignment to an element, which is judged so far
 pub record IsPrepared (old noted mid : Walk) (at : Place) (name : List ℕ) (i : Phrase) (a : Array) (index : Typed) : Type 0 where
@@ -174,15 +191,16 @@ module _ (x : Given) (old noted mid : Walk) (at : Place) (name : List ℕ) (i e 
   value_faults end =
       ap (λ (s : Scope). faults_of_element_value s index.held a.ty e end) from
       ∙ (ap (λ (o : Option typed_trees.Array). faults old.scope (roles.Assigned (option_map (λ (b : typed_trees.Array). b.ty) o)) e
-      ++ broken rules.TooDeep end (holds_too_many_beside index.held (typed old.scope e))) (sym array)
-      ∙ ap (λ (b : Bool). faults old.scope (roles.Assigned (option_map (λ (b' : typed_trees.Array). b'.ty) (array_named old.scope name))) e ++ broken rules.TooDeep end b)
+      ++ broken rules.TooDeep end (is_some o && holds_too_many_beside index.held (typed old.scope e))) (sym array)
+      ∙ ap (λ (b : Bool). faults old.scope (roles.Assigned (option_map (λ (b' : typed_trees.Array). b'.ty) (array_named old.scope name))) e
+      ++ broken rules.TooDeep end (is_some (array_named old.scope name) && b))
       (ap (λ (n : ℕ). holds_too_many_beside n (typed old.scope e)) p.index_is.held ∙ same_too_many (typed old.scope i) (typed old.scope e) (tree_of index.tree) index_tree))
 
   pub all_faults : faults_by (setting_of x) (block_of old) (set at name (Some i) e) ≡ rest_of_faults old.scope name i e (set_end x.in_head at)
   unfolding faults_by
   all_faults =
       in_front p.free ∙ (sym (append_assoc (faults old.scope roles.Value i) _ _)
-      ∙ in_front (ap (λ (s : Scope). faults_of_index s at i) (sym p.note.scope) ∙ p.index_free))
+      ∙ in_front (same_index old.scope at name i p.free ∙ (ap (λ (s : Scope). faults_of_index s at i) (sym p.note.scope) ∙ p.index_free)))
 
   pub value_fails : (stop : Stop) → Fails (faults_of_element_value mid.scope index.held a.ty e (set_end x.in_head at)) stop
       → Fails (faults_by (setting_of x) (block_of old) (set at name (Some i) e)) stop
@@ -226,6 +244,6 @@ pub index_fails : (x : Given) (old noted : Walk) (at : Place) (name : List ℕ) 
     → Fails (faults_by (setting_of x) (block_of old) (set at name (Some i) e)) stop
 unfolding faults_by
 index_fails x old noted at name i e us stop free note is =
-    let here = fails_as _ _ stop (ap (λ (s : Scope). faults_of_index s at i) note.scope) is in
+    let here = fails_as _ _ stop (ap (λ (s : Scope). faults_of_index s at i) note.scope ∙ sym (same_index old.scope at name i free)) is in
     fails_as _ _ stop (append_assoc (faults old.scope roles.Value i) _ _ ∙ sym (in_front free))
-    (fails_in_front (faults_of_index old.scope at i) (rest_of_faults old.scope name i e (set_end x.in_head at)) stop here)
+    (fails_in_front (faults_of_index_of old.scope at name i) (rest_of_faults old.scope name i e (set_end x.in_head at)) stop here)

@@ -1,5 +1,5 @@
 -- What judging makes of a call whose callee is judged.
-use Rattle.std.proofs.Common.{◌≡◌, ℕ, suc, ◌+◌, max, Bool, false, not, List, [], ◌∷◌, ◌++◌, length, Option, Some, None, refl, sym, ap, subst, nat_eq, arith}
+use Rattle.std.proofs.Common.{◌≡◌, ℕ, suc, ◌+◌, max, Bool, false, ◌&&◌, not, List, [], ◌∷◌, ◌++◌, length, Option, Some, None, is_some, refl, sym, ap, subst, nat_eq, arith}
 use Rattle.std.specs.Option.{option_map, option_and_then, option_map_or}
 use Rattle.pw_tree.specs.declared.ty.Ty.{Ty}
 use Rattle.pw_tree.specs.Phrases.{Place, Phrase, Phrases}
@@ -110,21 +110,21 @@ Whole scope role at es us p params t other_count =
 -- by what is called
 by_callee : {us : List ℕ} {p : Judge Valued} (scope : Scope) (role : Role) (at : Place) (es : Phrases) (aim : Aim) (c : Called) (params : List Ty)
     → parameters_of c ≡ Some params → ((ts : Trees) → called at c ts ≡ Some (call_tree (head role at) aim ts))
-    → Whole scope role at es us p (Some params) (call_of role at aim [] (typed_all scope es)) (is_other_count params es)
-    → Whole scope role at es us p (parameters_of c) (option_and_then (called at c) (typed_all scope es)) (option_map_or (λ l. is_other_count l es) (parameters_of c) false)
+    → Whole scope role at es us p (Some params) (call_of role at aim [] (typed_all scope es)) (is_some (typed_all scope es) && is_other_count params es)
+    → Whole scope role at es us p (parameters_of c) (option_and_then (called at c) (typed_all scope es)) (is_some (typed_all scope es) && option_map_or (λ l. is_other_count l es) (parameters_of c) false)
 by_callee {us} {p} scope role at es aim c params takes makes h =
     let tree : call_of role at aim [] (typed_all scope es) ≡ option_and_then (called at c) (typed_all scope es) =
     mapped (call_tree (head role at) aim) (called at c) makes (typed_all scope es) in
-    subst (λ o. Whole scope role at es us p o (option_and_then (called at c) (typed_all scope es)) (option_map_or (λ l. is_other_count l es) o false)) (sym takes)
-    (subst (λ t. Whole scope role at es us p (Some params) t (is_other_count params es)) tree h)
+    subst (λ o. Whole scope role at es us p o (option_and_then (called at c) (typed_all scope es)) (is_some (typed_all scope es) && option_map_or (λ l. is_other_count l es) o false)) (sym takes)
+    (subst (λ t. Whole scope role at es us p (Some params) t (is_some (typed_all scope es) && is_other_count params es)) tree h)
 
 pub whole_call : {us : List ℕ} {p : Judge Valued} (scope : Scope) (role : Role) (at : Place) (f : Phrase) (es : Phrases) (aim : Aim) (c : Called) (params : List Ty)
     → callee_in scope f ≡ c → parameters_of c ≡ Some params → ((ts : Trees) → called at c ts ≡ Some (call_tree (head role at) aim ts))
-    → Whole scope role at es us p (Some params) (call_of role at aim [] (typed_all scope es)) (is_other_count params es)
+    → Whole scope role at es us p (Some params) (call_of role at aim [] (typed_all scope es)) (is_some (typed_all scope es) && is_other_count params es)
     → Told role (faults_of_arguments scope (parameters_of (callee_in scope f)) es ++ own scope role (phrase.call at f es)) (typed scope (phrase.call at f es)) us p
 unfolding typed
 whole_call {us} {p} scope role at f es aim c params is takes makes h =
-    let W : Called → Type 0 = λ d. Whole scope role at es us p (parameters_of d) (option_and_then (called at d) (typed_all scope es)) (option_map_or (λ l. is_other_count l es) (parameters_of d) false) in
+    let W : Called → Type 0 = λ d. Whole scope role at es us p (parameters_of d) (option_and_then (called at d) (typed_all scope es)) (is_some (typed_all scope es) && option_map_or (λ l. is_other_count l es) (parameters_of d) false) in
     let by : W (callee_in scope f) = subst W (sym is) (by_callee scope role at es aim c params takes makes h) in
     subst (λ fs. Told role (faults_of_arguments scope (parameters_of (callee_in scope f)) es ++ fs) (typed scope (phrase.call at f es)) us p)
     (own_rules scope role (phrase.call at f es)) by

@@ -1,5 +1,5 @@
 -- Judging an expression from left to right gives its typed tree, or the first of its faults.
-use Rattle.std.proofs.Common.{◌≡◌, ℕ, Bool, true, false, not, List, [], ◌∷◌, ◌++◌, replicate, Option, Some, None, refl, sym, ◌∙◌, ap, subst, append_assoc}
+use Rattle.std.proofs.Common.{◌≡◌, ℕ, Bool, true, false, ◌&&◌, not, List, [], ◌∷◌, ◌++◌, replicate, Option, Some, None, is_some, refl, sym, ◌∙◌, ap, subst, append_assoc}
 use Rattle.pw_tree.specs.declared.ty.Ty.{Ty}
 use Rattle.pw_tree.specs.declared.ty.Ty.TheVariants.{Void, Long, Ulong, Fn}
 use Rattle.pw_tree.specs.Phrases.{Place, Phrase, Phrases, constant, word, unary, binary, conditional, call, index, input, output, nil, cons}
@@ -54,10 +54,15 @@ regrouped : {t : Option Tree} {us : List ℕ} {p : Judge Valued} (role : Role) (
 regrouped {t} {us} {p} role first rest own {others} same h =
     subst (λ fs. Told role fs t us p) (sym (ap (λ l. (first ++ l) ++ own) same ∙ append_assoc first rest own)) h
 
+-- arguments have types where the first has one and the others have
+some_both : (t : Tree) (o : Option Trees) → is_some (with_both both_trees (Some t) o) ≡ is_some o
+some_both t None = refl
+some_both t (Some es) = refl
+
 -- a call of what is called, where its arguments are judged
 abbrev Behind : Scope → Role → Place → Phrases → Aim → List Ty → Type 0
 Behind scope role at es aim params =
-    Told role (faults_of_arguments scope (Some params) es ++ rules_of role at.last (call_of role at aim [] (typed_all scope es)) false (is_other_count params es))
+    Told role (faults_of_arguments scope (Some params) es ++ rules_of role at.last (call_of role at aim [] (typed_all scope es)) false (is_some (typed_all scope es) && is_other_count params es))
     (call_of role at aim [] (typed_all scope es)) (uses_of_all scope es) (checked_arguments scope (calling (head role at) aim params es) none_taken params es)
 
 -- through a pointer
@@ -137,7 +142,7 @@ mutual
   -- arguments, behind those that were judged, and the call
   arguments_told : (scope : Scope) (role : Role) (at : Place) (aim : Aim) (other_count : Bool)
       → ((v : Valued) → aim ≡ through v → v ≡ full v.tree) → (params : List Ty) (ts : List Tree) (es : Phrases)
-      → Told role (faults_of_arguments scope (Some params) es ++ rules_of role at.last (call_of role at aim ts (typed_all scope es)) false other_count)
+      → Told role (faults_of_arguments scope (Some params) es ++ rules_of role at.last (call_of role at aim ts (typed_all scope es)) false (is_some (typed_all scope es) && other_count))
       (call_of role at aim ts (typed_all scope es)) (uses_of_all scope es)
       (checked_arguments scope (record { head = head role at; aim = aim; other_count = other_count }) (taken ts) params es)
   arguments_told scope role at aim other_count is params ts nil = call_told role at aim other_count ts is
@@ -145,15 +150,19 @@ mutual
       let c : Calling = record { head = head role at; aim = aim; other_count = other_count } in
       let rest : List Ty = others_wanted params in
       let whole : Option Tree → Option Tree = λ t. call_of role at aim ts (with_both both_trees t (typed_all scope es)) in
-      let own : List Fault = rules_of role at.last (whole (typed scope e)) false other_count in
+      let counted : Option Tree → Bool = λ t. is_some (with_both both_trees t (typed_all scope es)) && other_count in
+      let own : List Fault = rules_of role at.last (whole (typed scope e)) false (counted (typed scope e)) in
       let first = told scope (first_wanted params) e no_base in
       regrouped role (faults scope (first_wanted params) e) (faults_of_arguments scope (Some rest) es) own
       (ap (λ o. faults_of_arguments scope o es) (others_same params))
       (bind role (faults_of_arguments scope (Some rest) es ++ own) (whole (typed scope e)) (uses_of_all scope es)
       (λ v. checked_arguments scope c (taking (taken ts) v) rest es) first
       (λ v is' _.
-      let P : Option Tree → Taken → Type 0 = λ t k. Told role (faults_of_arguments scope (Some rest) es ++ rules_of role at.last t false other_count) t
+      let P : Option Tree → Bool → Taken → Type 0 = λ t b k. Told role (faults_of_arguments scope (Some rest) es ++ rules_of role at.last t false b) t
       (uses_of_all scope es) (checked_arguments scope c k rest es) in
-      subst (λ k. P (whole (typed scope e)) k) (sym (taken_more ts v))
-      (subst (λ t. P t (taken (ts ++ v ∷ []))) (call_of_more role at aim ts v (typed_all scope es) ∙ ap whole (sym is'))
-      (arguments_told scope role at aim other_count is rest (ts ++ v ∷ []) es))))
+      let same : (is_some (typed_all scope es) && other_count) ≡ counted (typed scope e) =
+      ap (λ b. b && other_count) (sym (some_both v (typed_all scope es))) ∙ ap counted (sym is') in
+      subst (λ k. P (whole (typed scope e)) (counted (typed scope e)) k) (sym (taken_more ts v))
+      (subst (λ b. P (whole (typed scope e)) b (taken (ts ++ v ∷ []))) same
+      (subst (λ t. P t (is_some (typed_all scope es) && other_count) (taken (ts ++ v ∷ []))) (call_of_more role at aim ts v (typed_all scope es) ∙ ap whole (sym is'))
+      (arguments_told scope role at aim other_count is rest (ts ++ v ∷ []) es)))))

@@ -75,11 +75,11 @@ by_number role at a i true = of_type_told role at (Some a.ty) (λ ty. tree.eleme
 by_number role at a i false = of_type_told role at None (λ ty. tree.element (mark ty at) a.reference a.size i) _ (λ ty. refl)
 
 pub element_told : (role : Role) (at : Place) (o : Option Array) (t : Option Tree) (a : Array) (i : Tree) → o ≡ Some a → t ≡ Some i
-    → Told role (rules_of role at.last (with_both (typed_element at) o t) (has_type (λ u. not (is_number u)) t) false)
+    → Told role (rules_of role at.last (with_both (typed_element at) o t) (is_some o && has_type (λ u. not (is_number u)) t) false)
     (with_both (typed_element at) o t) [] (element_value (head role at) a (full i))
 unfolding held
 element_told role at o t a i array index =
-    let P : Option Array → Option Tree → Type 0 = λ p u. Told role (rules_of role at.last (with_both (typed_element at) p u) (has_type (λ ty. not (is_number ty)) u) false)
+    let P : Option Array → Option Tree → Type 0 = λ p u. Told role (rules_of role at.last (with_both (typed_element at) p u) (is_some p && has_type (λ ty. not (is_number ty)) u) false)
     (with_both (typed_element at) p u) [] (element_value (head role at) a (full i)) in
     subst (λ p. P p t) (sym array) (subst (λ u. P (Some a) u) (sym index) (by_number role at a i (is_number (type_of i))))
 

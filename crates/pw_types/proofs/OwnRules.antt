@@ -55,7 +55,7 @@ rules_by role at name word unknown function array t other_operands other_count =
     ++ (broken rules.ArgCount at other_count
     ++ (broken rules.ArgType at (has_other_argument role word t)
     ++ (broken rules.NotCallable at ((is_callee role && (is_some t || word)) && not (has_type is_pointer t))
-    ++ (broken rules.NotArray at (is_base role && is_none array)
+    ++ (broken rules.NotArray at (is_base role && ((is_some t || word) && is_none array))
     ++ (broken rules.NeedsIndex at (not (is_base role) && is_some array)
     ++ broken rules.AssignType at (does_not_fit role word t))))))))
 

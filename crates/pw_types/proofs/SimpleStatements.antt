@@ -79,7 +79,7 @@ returns_none x old at void =
 other_result : (result : Ty) (old new : Walk) (e : Phrase) (t : TExpr) → IsValue e old new t
     → returns_other result old.scope (Some e) ≡ is_void result || not (converts (out-TExpr t).ty result)
 other_result result old new e t value =
-    ap (λ (o : Option Tree). is_void result || has_type (λ ty. not (converts ty result)) o) value.tree
+    ap (λ (o : Option Tree). has_type (λ ty. is_void result || not (converts ty result)) o) value.tree
     ∙ ap (λ (ty : Ty). is_void result || not (converts ty result)) (type_is t)
 
 pub returns_value : (x : Given) (old new : Walk) (at : Place) (e : Phrase) (t : TExpr)

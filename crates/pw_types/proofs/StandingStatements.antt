@@ -16,7 +16,7 @@ use Rattle.pw_types.specs.Scopes.{Scope, meaning}
 use Rattle.pw_types.specs.Typed.{array_named, typed}
 use Rattle.pw_types.specs.Expressions.{end_of, has_type, faults}
 use Rattle.pw_types.specs.Blocks.{Setting, part, body, head, Block, inner, behind, behind_maybe}
-use Rattle.pw_types.specs.Statements.{holds_too_many, element_holds_too_many, faults_of_option, type_of_target, faults_of_array, faults_of_set, returns_other, faults_by, faults_by_all, faults_by_maybe}
+use Rattle.pw_types.specs.Statements.{has_other_index, set_holds_too_many, set_element_holds_too_many, is_outside_loop, faults_of_option, type_of_target, faults_of_array, faults_of_set, returns_other, faults_by, faults_by_all, faults_by_maybe}
 use Rattle.pw_types.specs.Nests.{Nest, Nests, nest, none, more, whole, leaf, assignment, statement, statements, maybe}
 use Rattle.pw_types.proofs.OwnFaults.{Rises, ends, rises_broken, rises_name, rises_target, rises_array}
 use Rattle.pw_types.proofs.Standing.{Stands, stands, AllStand, no_more, one_more, all_from}
@@ -33,9 +33,9 @@ set_faults x scope at name None e =
 set_faults x scope at name (Some i) e =
     let target = faults_of_array scope name at.first in
     let index = faults scope roles.Value i in
-    let operands = broken rules.Operands (index_end at i) (has_type (λ t. not (is_number t)) (typed scope i)) in
+    let operands = broken rules.Operands (index_end at i) (has_other_index scope name i) in
     let others = faults scope (roles.Assigned (option_map (λ a. a.ty) (array_named scope name))) e
-    ++ broken rules.TooDeep (set_end x.in_head at) (element_holds_too_many (typed scope i) (typed scope e)) in
+    ++ broken rules.TooDeep (set_end x.in_head at) (set_element_holds_too_many scope name i e) in
     both (both refl (both (expression_faults scope roles.Value i) refl))
     (both (expression_faults scope (roles.Assigned (option_map (λ a. a.ty) (array_named scope name))) e) refl)
     ∙ append_assoc target (index ++ operands) others ∙ both refl (append_assoc index operands others)
@@ -110,7 +110,7 @@ set_stands x scope at name None e low h p =
     (one_more at.first (leaf_stands low h (rises_target scope name at.first)) (omega arith)
     (all_from (suc at.first) (omega arith)
     (one_more (end_of e) (expression_stands scope (roles.Assigned (type_of_target (meaning scope name))) e _ _ p) e_in.to no_more)))
-    (rises_broken 0 rules.TooDeep (set_end x.in_head at) (holds_too_many (typed scope e)) (omega arith))
+    (rises_broken 0 rules.TooDeep (set_end x.in_head at) (set_holds_too_many scope name e) (omega arith))
 set_stands x scope at name (Some i) e low h p =
     let i_in = placed_within i p.0 in
     let e_in = placed_within e p.1 in
@@ -121,10 +121,10 @@ set_stands x scope at name (Some i) e low h p =
     (one_more at.first (leaf_stands low h (rises_array scope name at.first)) (omega arith)
     (all_from (suc at.first) (omega arith)
     (one_more (end_of i) (expression_stands scope roles.Value i _ _ p.0) (omega arith) no_more)))
-    (rises_broken 0 rules.Operands (index_end at i) (has_type (λ t. not (is_number t)) (typed scope i)) (omega arith)))
+    (rises_broken 0 rules.Operands (index_end at i) (has_other_index scope name i) (omega arith)))
     (omega arith)
     (one_more (end_of e) (expression_stands scope (roles.Assigned (option_map (λ a. a.ty) (array_named scope name))) e _ _ p.1) e_in.to no_more))
-    (rises_broken 0 rules.TooDeep (set_end x.in_head at) (element_holds_too_many (typed scope i) (typed scope e)) (omega arith))
+    (rises_broken 0 rules.TooDeep (set_end x.in_head at) (set_element_holds_too_many scope name i e) (omega arith))
 
 pub statement_within : {low high : ℕ} (in_head : Bool) (s : Statement) → IsStatementPlaced in_head low high s →
     IsWithin low high (statement_place s)
@@ -191,9 +191,9 @@ mutual
       (all_from low p.0.from (option_stands b.scope roles.Value e _ _ none p.1 no_more))
       (rises_broken 0 rules.ReturnType at.last (returns_other x.result b.scope e) (omega arith))
   statement_stands x b (breaks at) low high p =
-      leaf_stands low (omega (arith, p.from, p.some)) (rises_broken 0 rules.OutsideLoop at.last (not x.in_loop) (omega arith))
+      leaf_stands low (omega (arith, p.from, p.some)) (rises_broken 0 rules.OutsideLoop at.last (is_outside_loop x) (omega arith))
   statement_stands x b (continues at) low high p =
-      leaf_stands low (omega (arith, p.from, p.some)) (rises_broken 0 rules.OutsideLoop at.last (not x.in_loop) (omega arith))
+      leaf_stands low (omega (arith, p.from, p.some)) (rises_broken 0 rules.OutsideLoop at.last (is_outside_loop x) (omega arith))
 
   pub statements_stand : (x : Setting) (b : Block) (ss : Statements) (low high : ℕ) → x.in_head ≡ false →
       AreStatementsPlaced low high ss → AllStand low high (statements x b ss)

@@ -17,7 +17,7 @@ use Rattle.pw_types.specs.declared.names.Local.{Local}
 use Rattle.pw_types.specs.Faults.{broken, broken_by}
 use Rattle.pw_types.specs.Reserved.{is_reserved}
 use Rattle.pw_types.specs.Scopes.{Scope, file_named}
-use Rattle.pw_types.specs.Declarations.{faults_of_parameter_name, faults_of_parameters, locals_of, parameters_in, is_definition_of_function, is_redefined, conflicts, is_too_large, has_bad_size, elements_of, does_not_initialise, is_unknown_name, name_in, uses_of_element, uses_of_elements, uses_of_initialiser, uses_of_form, is_external, file_scope, Whole}
+use Rattle.pw_types.specs.Declarations.{is_parameter_too_many, faults_of_parameter_name, faults_of_parameters, locals_of, parameters_in, is_definition_of_function, is_redefined, conflicts, is_too_large, has_bad_size, elements_of, does_not_initialise, is_unknown_name, name_in, uses_of_element, uses_of_elements, uses_of_initialiser, uses_of_form, is_external, file_scope, Whole}
 use Rattle.pw_types.specs.declared.typed.Body.{Body}
 use Rattle.pw_types.specs.declared.defined.Defined.{Defined}
 use Rattle.pw_types.specs.declared.defined.Defined.TheVariants.{Nothing, Function as AFunction, Variable as AVariable}
@@ -29,14 +29,14 @@ use Rattle.pw_types.specs.Units.{element_of, elements_in, typed_functions_of, ty
 abbrev pub faults_of_parameter : List Local → Param → List Fault
 faults_of_parameter before p =
     faults_of_parameter_name true (length before) before p.last p.name
-    ++ broken rules.TooManyParameters p.last (nat_le 6 (length before))
+    ++ broken rules.TooManyParameters p.last (is_parameter_too_many (length before))
 
 -- those of a prototype from this number on
 unfoldable pub faults_by_number : ℕ → List Param → List Fault
 faults_by_number number [] = []
 faults_by_number number (p ∷ ps) =
     faults_of_parameter_name false 0 [] p.last p.name
-    ++ (broken rules.TooManyParameters p.last (nat_le 6 number) ++ faults_by_number (suc number) ps)
+    ++ (broken rules.TooManyParameters p.last (is_parameter_too_many number) ++ faults_by_number (suc number) ps)
 
 -- ---- up to the declarator's end
 

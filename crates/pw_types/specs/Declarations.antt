@@ -24,7 +24,7 @@ use Rattle.pw_types.specs.Typed.{function_named, Designated}
 use Rattle.pw_types.specs.Uses.{uses_of_name}
 use Rattle.pw_types.specs.Expressions.{is_missing}
 use Rattle.pw_types.specs.Blocks.{Setting, Block, uses_by_all}
-use Rattle.pw_types.specs.Statements.{faults_by_all}
+use Rattle.pw_types.specs.Statements.{is_local_too_many, faults_by_all}
 
 -- ---- what is declared
 
@@ -79,7 +79,7 @@ abbrev pub faults_of_parameter_name : Bool → ℕ → List Local → ℕ → Op
 faults_of_parameter_name is_definition number before at None = []
 faults_of_parameter_name true number before at (Some name) =
     broken_by rules.Redeclared at name (is_some (local_named name before))
-    ++ (broken rules.TooManyLocals at (nat_le 120 number) ++ broken_by rules.Reserved at name (is_reserved name))
+    ++ (broken rules.TooManyLocals at (is_local_too_many number) ++ broken_by rules.Reserved at name (is_reserved name))
 faults_of_parameter_name false number before at (Some name) = broken_by rules.Reserved at name (is_reserved name)
 
 abbrev pub named_or_nothing : Option (List ℕ) → List ℕ
@@ -90,12 +90,15 @@ named_or_nothing None = []
 abbrev pub local_of : ℕ → Param → Local
 local_of number p = record { name = named_or_nothing p.name; ty = p.ty; number = number }
 
--- TooManyParameters: the seventh and each behind it
+-- TooManyParameters: a parameter that has 6 before it
+abbrev pub is_parameter_too_many : ℕ → Bool
+is_parameter_too_many before = nat_le 6 before
+
 unfoldable pub faults_of_parameters : Bool → List Local → List Param → List Fault
 faults_of_parameters is_definition before [] = []
 faults_of_parameters is_definition before (p ∷ ps) =
     faults_of_parameter_name is_definition (length before) before p.last p.name
-    ++ (broken rules.TooManyParameters p.last (nat_le 6 (length before))
+    ++ (broken rules.TooManyParameters p.last (is_parameter_too_many (length before))
     ++ faults_of_parameters is_definition (before ++ local_of (length before) p ∷ []) ps)
 
 -- the locals that the parameters of a definition are
@@ -164,11 +167,14 @@ abbrev pub name_in : InitKind → List ℕ
 name_in (Num n) = []
 name_in (Word name) = name
 
--- Unknown; and Initialiser: it does not fit, or it is an element too many
+-- Initialiser: an element does not fit its variable, or is one too many
+abbrev pub is_wrong_element : Scope → Ty → ℕ → ℕ → InitKind → Bool
+is_wrong_element scope ty size number kind = does_not_initialise scope ty kind || nat_le size number
+
 abbrev pub faults_of_element : Scope → Ty → ℕ → ℕ → InitItem → List Fault
 faults_of_element scope ty size number item =
     broken_by rules.Unknown item.last (name_in item.kind) (is_unknown_name scope item.kind)
-    ++ broken rules.Initialiser item.last (does_not_initialise scope ty item.kind || nat_le size number)
+    ++ broken rules.Initialiser item.last (is_wrong_element scope ty size number item.kind)
 
 unfoldable pub faults_of_elements : Scope → Ty → ℕ → ℕ → List InitItem → List Fault
 faults_of_elements scope ty size number [] = []

@@ -13,7 +13,7 @@ use Rattle.pw_types.specs.declared.fault.Fault.{Fault}
 use Rattle.pw_types.specs.Faults.{broken, broken_by}
 use Rattle.pw_types.specs.Types.{is_number, is_void, is_pointer, converts, unary_type, binary_type, choice_type}
 use Rattle.pw_types.specs.Scopes.{Scope, Meaning, missing, a_local, declared, meaning}
-use Rattle.pw_types.specs.Typed.{type_of, array_of, function_of, callee_of, parameters_of, typed, Designated, Callee as Called}
+use Rattle.pw_types.specs.Typed.{type_of, array_of, function_of, callee_of, parameters_of, typed, typed_all, Designated, Callee as Called}
 
 -- ---- places
 
@@ -113,7 +113,7 @@ abbrev pub has_other_operands : Scope → Phrase → Bool
 has_other_operands scope (unary at op e) = no_unary (unary_type op) (typed scope e)
 has_other_operands scope (binary at op l r) = no_binary (binary_type op) (typed scope l) (typed scope r)
 has_other_operands scope (conditional at c a b) = is_some (typed scope c) && no_binary choice_type (typed scope a) (typed scope b)
-has_other_operands scope (index at b i) = has_type (λ t. not (is_number t)) (typed scope i)
+has_other_operands scope (index at b i) = is_some (array_of scope b) && has_type (λ t. not (is_number t)) (typed scope i)
 has_other_operands scope (constant at value unsigned) = false
 has_other_operands scope (word at name) = false
 has_other_operands scope (call at f es) = false
@@ -127,7 +127,8 @@ callee_in scope f = callee_of (function_of scope f) (typed scope f)
 -- ArgCount: a call has another number of arguments
 abbrev pub has_other_count : Scope → Phrase → Bool
 has_other_count scope (call at f es) =
-    option_map_or (λ params. not (nat_eq (length params) (how_many es))) (parameters_of (callee_in scope f)) false
+    is_some (typed_all scope es)
+    && option_map_or (λ params. not (nat_eq (length params) (how_many es))) (parameters_of (callee_in scope f)) false
 has_other_count scope (unary at op e) = false
 has_other_count scope (binary at op l r) = false
 has_other_count scope (conditional at c a b) = false
@@ -158,7 +159,7 @@ is_not_callable scope role e = is_callee role && is_judged scope e && not (has_t
 
 -- NotArray: an index's base is not an array's name
 abbrev pub is_no_array : Scope → Role → Phrase → Bool
-is_no_array scope role e = is_base role && is_none (array_of scope e)
+is_no_array scope role e = is_base role && (is_judged scope e && is_none (array_of scope e))
 
 -- NeedsIndex: an array's name is not an index's base
 abbrev pub needs_index : Scope → Role → Phrase → Bool

@@ -1,4 +1,5 @@
 pub mod RuleNames
+pub mod Messages
 pub mod Types
 pub mod Scopes
 pub mod Held

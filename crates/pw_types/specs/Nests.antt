@@ -21,8 +21,8 @@ use Rattle.pw_types.specs.Scopes.{Scope, file_named, meaning}
 use Rattle.pw_types.specs.Typed.{Designated, typed, array_named, function_of, parameters_of}
 use Rattle.pw_types.specs.Expressions.{end_of, has_type, own, callee_in, first_parameter, other_parameters}
 use Rattle.pw_types.specs.Blocks.{Setting, part, body, head, Block, inner, behind, behind_maybe}
-use Rattle.pw_types.specs.Statements.{holds_too_many, element_holds_too_many, faults_of_name, type_of_target, faults_of_target, faults_of_array, returns_other}
-use Rattle.pw_types.specs.Declarations.{Whole, file_scope, faults_of_parameter_name, local_of, parameters_in, is_definition_of_function, conflicts, is_redefined, is_too_large, elements_of, faults_of_element, room, outermost, setting, declared_by}
+use Rattle.pw_types.specs.Statements.{holds_too_many, has_other_index, set_holds_too_many, set_element_holds_too_many, is_outside_loop, faults_of_name, type_of_target, faults_of_target, faults_of_array, returns_other}
+use Rattle.pw_types.specs.Declarations.{Whole, is_parameter_too_many, file_scope, faults_of_parameter_name, local_of, parameters_in, is_definition_of_function, conflicts, is_redefined, is_too_large, elements_of, faults_of_element, room, outermost, setting, declared_by}
 use Rattle.pw_types.specs.Units.{whole_of, files_behind, lacks_definition, faults_of_lacking}
 
 -- A phrase: its parts in order of text, and the faults of its own.
@@ -87,12 +87,12 @@ abbrev pub assignment : Setting → Scope → Place → List ℕ → Option Phra
 assignment x scope at name None e =
     nest (more (leaf (faults_of_target scope name at.first))
     (more (expression scope (roles.Assigned (type_of_target (meaning scope name))) e) none))
-    (broken rules.TooDeep (set_end x.in_head at) (holds_too_many (typed scope e)))
+    (broken rules.TooDeep (set_end x.in_head at) (set_holds_too_many scope name e))
 assignment x scope at name (Some i) e =
     nest (more (nest (more (leaf (faults_of_array scope name at.first)) (more (expression scope roles.Value i) none))
-    (broken rules.Operands (index_end at i) (has_type (λ t. not (is_number t)) (typed scope i))))
+    (broken rules.Operands (index_end at i) (has_other_index scope name i)))
     (more (expression scope (roles.Assigned (option_map (λ a. a.ty) (array_named scope name))) e) none))
-    (broken rules.TooDeep (set_end x.in_head at) (element_holds_too_many (typed scope i) (typed scope e)))
+    (broken rules.TooDeep (set_end x.in_head at) (set_element_holds_too_many scope name i e))
 
 unfoldable mutual
   pub statement : Setting → Block → Statement → Nest
@@ -113,8 +113,8 @@ unfoldable mutual
       (more (statement (body x) (behind_maybe last (behind_maybe first (inner b))) s) none)))) []
   statement x b (returns at e) =
       nest (option b.scope roles.Value e none) (broken rules.ReturnType at.last (returns_other x.result b.scope e))
-  statement x b (breaks at) = leaf (broken rules.OutsideLoop at.last (not x.in_loop))
-  statement x b (continues at) = leaf (broken rules.OutsideLoop at.last (not x.in_loop))
+  statement x b (breaks at) = leaf (broken rules.OutsideLoop at.last (is_outside_loop x))
+  statement x b (continues at) = leaf (broken rules.OutsideLoop at.last (is_outside_loop x))
 
   pub statements : Setting → Block → Statements → Nests
   statements x b nil = none
@@ -131,7 +131,7 @@ unfoldable pub parameters : Bool → List Local → List Param → Nests
 parameters is_definition before [] = none
 parameters is_definition before (p ∷ ps) =
     more (leaf (faults_of_parameter_name is_definition (length before) before p.last p.name
-    ++ broken rules.TooManyParameters p.last (nat_le 6 (length before))))
+    ++ broken rules.TooManyParameters p.last (is_parameter_too_many (length before))))
     (parameters is_definition (before ++ local_of (length before) p ∷ []) ps)
 
 unfoldable pub elements : Scope → Ty → ℕ → ℕ → List InitItem → Nests

@@ -1,5 +1,5 @@
 -- The faults of statements, in order of text (C17, 6.8).
-use Rattle.std.specs.Prelude.{ℕ, Bool, false, ◌||◌, not, List, [], ◌++◌, Option, Some, None, is_some, is_none, option_map, nat_le, nat_lt}
+use Rattle.std.specs.Prelude.{ℕ, Bool, false, ◌&&◌, ◌||◌, not, List, [], ◌++◌, Option, Some, None, is_some, is_none, option_map, nat_le, nat_lt}
 use Rattle.std.specs.Option.{option_map_or}
 use Rattle.pw_tree.specs.declared.ty.Ty.{Ty}
 use Rattle.pw_tree.specs.Phrases.{Place, Phrase}
@@ -41,11 +41,15 @@ faults_of_option scope role (Some e) = faults_of_whole scope role e
 
 -- ---- declarations of locals
 
+-- TooManyLocals: a parameter or local of a function that has 120 before it
+abbrev pub is_local_too_many : ℕ → Bool
+is_local_too_many before = nat_le 120 before
+
 -- Redeclared, TooManyLocals and Reserved, of a local's name
 abbrev pub faults_of_name : Block → List ℕ → ℕ → List Fault
 faults_of_name b name at =
     broken_by rules.Redeclared at name (has_own b name)
-    ++ (broken rules.TooManyLocals at (nat_le 120 b.count) ++ broken_by rules.Reserved at name (is_reserved name))
+    ++ (broken rules.TooManyLocals at (is_local_too_many b.count) ++ broken_by rules.Reserved at name (is_reserved name))
 
 -- ---- assignments
 
@@ -60,35 +64,65 @@ type_of_target missing = None
 type_of_target (a_local l) = Some l.ty
 type_of_target (declared f) = type_of_kind f.kind
 
--- Unknown, NeedsIndex and AssignType, of the name that is assigned to
+-- Unknown, of the name that is assigned to, or whose element is
+abbrev pub is_unknown_target : Scope → List ℕ → Bool
+is_unknown_target scope name = is_missing (meaning scope name)
+
+-- NeedsIndex: an array's name is assigned to
+abbrev pub is_array_target : Scope → List ℕ → Bool
+is_array_target scope name = is_some (array_named scope name)
+
+-- AssignType, of the target: it is a function
+abbrev pub is_function_target : Scope → List ℕ → Bool
+is_function_target scope name = is_some (function_named scope name)
+
+-- NotArray: what an element is assigned to is no array
+abbrev pub is_no_array_target : Scope → List ℕ → Bool
+is_no_array_target scope name = is_none (array_named scope name)
+
+-- Operands: the index of the element that is assigned to is no number
+abbrev pub has_other_index : Scope → List ℕ → Phrase → Bool
+has_other_index scope name i = is_some (array_named scope name) && has_type (λ t. not (is_number t)) (typed scope i)
+
+-- TooDeep, of an assignment to a name
+abbrev pub set_holds_too_many : Scope → List ℕ → Phrase → Bool
+set_holds_too_many scope name e = is_some (type_of_target (meaning scope name)) && holds_too_many (typed scope e)
+
+-- TooDeep, of an assignment to an element
+abbrev pub set_element_holds_too_many : Scope → List ℕ → Phrase → Phrase → Bool
+set_element_holds_too_many scope name i e = is_some (array_named scope name) && element_holds_too_many (typed scope i) (typed scope e)
+
 abbrev pub faults_of_target : Scope → List ℕ → ℕ → List Fault
 faults_of_target scope name at =
-    broken_by rules.Unknown at name (is_missing (meaning scope name))
-    ++ (broken rules.NeedsIndex at (is_some (array_named scope name)) ++ broken rules.AssignType at (is_some (function_named scope name)))
+    broken_by rules.Unknown at name (is_unknown_target scope name)
+    ++ (broken rules.NeedsIndex at (is_array_target scope name) ++ broken rules.AssignType at (is_function_target scope name))
 
--- Unknown and NotArray, of the name whose element is assigned to
 abbrev pub faults_of_array : Scope → List ℕ → ℕ → List Fault
 faults_of_array scope name at =
-    broken_by rules.Unknown at name (is_missing (meaning scope name)) ++ broken rules.NotArray at (is_none (array_named scope name))
+    broken_by rules.Unknown at name (is_unknown_target scope name) ++ broken rules.NotArray at (is_no_array_target scope name)
 
 abbrev pub faults_of_set : Setting → Scope → Place → List ℕ → Option Phrase → Phrase → List Fault
 faults_of_set x scope at name None e =
     faults_of_target scope name at.first
     ++ (faults scope (roles.Assigned (type_of_target (meaning scope name))) e
-    ++ broken rules.TooDeep (set_end x.in_head at) (holds_too_many (typed scope e)))
+    ++ broken rules.TooDeep (set_end x.in_head at) (set_holds_too_many scope name e))
 faults_of_set x scope at name (Some i) e =
     faults_of_array scope name at.first
     ++ (faults scope roles.Value i
-    ++ (broken rules.Operands (index_end at i) (has_type (λ t. not (is_number t)) (typed scope i))
+    ++ (broken rules.Operands (index_end at i) (has_other_index scope name i)
     ++ (faults scope (roles.Assigned (option_map (λ a. a.ty) (array_named scope name))) e
-    ++ broken rules.TooDeep (set_end x.in_head at) (element_holds_too_many (typed scope i) (typed scope e)))))
+    ++ broken rules.TooDeep (set_end x.in_head at) (set_element_holds_too_many scope name i e))))
 
 -- ---- leaving
 
 -- ReturnType: a value in a void function, none in another, or one that does not convert
 abbrev pub returns_other : Ty → Scope → Option Phrase → Bool
 returns_other result scope None = not (is_void result)
-returns_other result scope (Some e) = is_void result || has_type (λ t. not (converts t result)) (typed scope e)
+returns_other result scope (Some e) = has_type (λ t. is_void result || not (converts t result)) (typed scope e)
+
+-- OutsideLoop: `break` or `continue` outside a loop
+abbrev pub is_outside_loop : Setting → Bool
+is_outside_loop x = not x.in_loop
 
 -- ---- all forms
 
@@ -112,8 +146,8 @@ unfoldable mutual
       ++ faults_by (body x) (behind_maybe last (behind_maybe first (inner b))) s))
   faults_by x b (returns at e) =
       faults_of_option b.scope roles.Value e ++ broken rules.ReturnType at.last (returns_other x.result b.scope e)
-  faults_by x b (breaks at) = broken rules.OutsideLoop at.last (not x.in_loop)
-  faults_by x b (continues at) = broken rules.OutsideLoop at.last (not x.in_loop)
+  faults_by x b (breaks at) = broken rules.OutsideLoop at.last (is_outside_loop x)
+  faults_by x b (continues at) = broken rules.OutsideLoop at.last (is_outside_loop x)
 
   -- those of statements in a row
   pub faults_by_all : Setting → Block → Statements → List Fault

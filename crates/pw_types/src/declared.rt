@@ -5,16 +5,10 @@ ghost use Rattle.pw_types.specs.Declarations as spec;
 
 use crate::names::{File, Kind};
 use crate::same::is_kind_of;
-use pw_base::NoMemory;
+use pw_base::{Limits, NoMemory};
 use pw_tree::{Decl, DeclKind, Linkage, Param, Sig, Ty};
 use sqlite_items::Items;
 use std::alloc::Global;
-
-/// How many elements an array may have.
-const MOST_ELEMENTS: u64 = 65_536;
-
-/// How many elements the variables of a unit may have.
-pub(crate) const MOST_ELEMENTS_OF_UNIT: u64 = 262_144;
 
 /// Whether the linkage is external.
 pub(crate) fn is_external(linkage: Linkage) -> bool
@@ -113,7 +107,7 @@ fn has_bad_size(kind: &DeclKind) -> bool
     ensures { result ≡ spec.has_bad_size (declaration_form_of kind.now) }
 {
     match kind {
-        DeclKind::Var(_, Some(size), _) => *size == 0 || *size > MOST_ELEMENTS,
+        DeclKind::Var(_, Some(size), _) => *size == 0 || *size > Limits::ARRAY_ELEMENTS,
         DeclKind::Var(_, None, _) | DeclKind::Proto(_, _) | DeclKind::Fun(_, _, _) => false,
     }
 }
@@ -146,5 +140,5 @@ pub(crate) fn is_too_large(elements: u64, d: &Decl) -> bool
     ensures { result ≡ spec.is_too_large elements (declaration_of d.now) }
 {
     let more = elements_of(d);
-    has_bad_size(&d.kind) || (more > 0 && more > MOST_ELEMENTS_OF_UNIT - elements)
+    has_bad_size(&d.kind) || (more > 0 && more > Limits::MODULE_ELEMENTS - elements)
 }

@@ -2,6 +2,8 @@
 
 use crate::rule::Rule;
 use pw_base::{Name, NoMemory, Pos};
+use std::error::Error;
+use std::fmt::{self, Display, Formatter, Write};
 
 /// Why a unit has no typed unit: its first fault.
 #[derive(Debug, Drop)]
@@ -27,3 +29,23 @@ impl From<NoMemory> for TypeError {
         TypeError::NoMemory
     }
 }
+
+/// The rule, and the line with the token.
+impl Display for TypeError {
+    ghost use Rattle.std.specs.Prelude.{Some};
+    ghost use Rattle.pw_types.specs.Messages.{type_message};
+
+    ghost output = { λ error. Some (type_message error) };
+
+    fn fmt<W: Write>(&self, f: &mut Formatter<W>) -> fmt::Result {
+        match self {
+            TypeError::Broken { rule, at, .. } => {
+                let (line, token) = (at.line, at.token);
+                write!(f, "type {rule} at line {line} token {token}")
+            }
+            TypeError::NoMemory => f.write_str("out of memory"),
+        }
+    }
+}
+
+impl Error for TypeError {}

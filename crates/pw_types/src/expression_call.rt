@@ -6,7 +6,7 @@ ghost use Rattle.pw_types.specs.Expressions.{first_parameter, how_many};
 ghost use Rattle.pw_types.specs.CheckingExpressions as spec;
 ghost use Rattle.pw_types.specs.ResumingExpressions.{valued, aim_of, begun, direct_call_from, pointer_call_from, calling_of, taken_of, listed, Gives, Continues, ContinuesInEach, step_size, sizes};
 
-use crate::expression_form::more;
+use crate::expression_form::{CAP, more};
 use crate::expression_kind as kinds;
 use crate::expression_node::{fault, finish, node, type_of};
 use crate::expression_step::{Arguments, Call, Frame, Head, Parameters, Step, Target};
@@ -47,7 +47,7 @@ fn others<'a>(params: Parameters<'a>) -> Parameters<'a>
 fn behind(trees: &Items<TExpr>, values: u32) -> u32
     ensures { result ≡ spec.capped (length trees.now + values) }
 {
-    more(trees.len().min(101) as u32, values)
+    more(trees.len().min(CAP as usize) as u32, values)
 }
 
 /// The arguments with one more.

@@ -13,11 +13,12 @@ use crate::fault::Stop;
 use crate::rule::Rule;
 use crate::typed::Typed;
 use crate::types::{Operation, binary_type, choice_type, is_number, unary_type};
+use pw_base::Limits;
 use pw_tree::{Bin, TKind, Ty, Un};
 use std::alloc::Global;
 
-/// How many values are told apart; a greater number counts as this.
-const CAP: u32 = 101;
+/// How many values are told apart: one more than may be held. A greater number counts as this.
+pub(crate) const CAP: u32 = Limits::HELD_VALUES + 1;
 
 /// So many values and so many more, or 101 where these are more.
 pub(crate) fn more(n: u32, values: u32) -> u32

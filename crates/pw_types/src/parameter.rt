@@ -2,7 +2,6 @@
 ghost use Rattle.std.specs.Prelude.{◌≡◌, ◌<◌, ⊤, true, false, [], length, is_some, IfOk};
 ghost use Rattle.pw_tree.specs.Placed.{HaveNames};
 ghost use Rattle.pw_types.specs.Faults.{Judges};
-ghost use Rattle.pw_types.specs.Scopes.{local_named};
 ghost use Rattle.pw_types.specs.Declarations as spec;
 ghost use Rattle.pw_types.specs.CheckingDeclarations.{faults_of_parameter};
 
@@ -11,18 +10,10 @@ use crate::names::Local;
 use crate::refuse::{refuse_if, refuse_name_if};
 use crate::reserved::is_reserved;
 use crate::rule::Rule;
-use crate::scope::newest;
-use crate::types::{MOST_LOCALS, MOST_PARAMETERS};
-use pw_base::{Name, NoMemory};
+use crate::scope::has_local;
+use pw_base::{Limits, Name, NoMemory};
 use pw_tree::Param;
 use std::alloc::Global;
-
-/// Whether one of the locals has this name.
-fn has_local(locals: &[Local], name: &[u8]) -> bool
-    ensures { result ≡ is_some (local_named name.now locals.now) }
-{
-    newest(locals, name).is_some()
-}
 
 /// The faults of a parameter's name in a definition, behind those before it.
 fn judge_defined_name(alloc: Global, before: &[Local], at: u32, name: &Name) -> Result<(), Stop>
@@ -30,7 +21,7 @@ fn judge_defined_name(alloc: Global, before: &[Local], at: u32, name: &Name) -> 
 {
     let is_taken = has_local(before, name.bytes());
     refuse_name_if(alloc, is_taken, Rule::Redeclared, at, name)?;
-    refuse_if(before.len() >= MOST_LOCALS, Rule::TooManyLocals, at)?;
+    refuse_if(before.len() >= Limits::LOCALS, Rule::TooManyLocals, at)?;
     refuse_name_if(alloc, is_reserved(name.bytes()), Rule::Reserved, at, name)
 }
 
@@ -53,7 +44,11 @@ pub(crate) fn judge_declared(alloc: Global, params: &[Param]) -> Result<(), Stop
     let mut rest = params;
     while let [p, more @ ..] = rest {
         judge_declared_name(alloc, p.last, &p.name)?;
-        refuse_if(number >= MOST_PARAMETERS, Rule::TooManyParameters, p.last)?;
+        refuse_if(
+            number >= Limits::PARAMETERS,
+            Rule::TooManyParameters,
+            p.last,
+        )?;
         number += 1;
         rest = more;
     }
@@ -85,7 +80,7 @@ fn judge_parameter(alloc: Global, before: &[Local], p: &Param) -> Result<Local, 
         None => unreachable!(),
     }
     refuse_if(
-        before.len() >= MOST_PARAMETERS,
+        before.len() >= Limits::PARAMETERS,
         Rule::TooManyParameters,
         p.last,
     )?;

@@ -6,7 +6,7 @@ ghost use Rattle.pw_types.specs.Faults.{Judges};
 ghost use Rattle.pw_types.specs.Declarations.{faults_of_declaration};
 ghost use Rattle.pw_types.specs.CheckingUnits.{faults_of_parts, IsFresh, IsJudged, IsBehind};
 
-use crate::declared::{MOST_ELEMENTS_OF_UNIT, elements_of, file_of};
+use crate::declared::{elements_of, file_of};
 use crate::defined::{Defined, Whole, judge_form};
 use crate::fault::Stop;
 use crate::files::Files;

@@ -1,5 +1,5 @@
 //! What is visible at a place of a unit.
-ghost use Rattle.std.specs.Prelude.{◌≡◌, IfOk, OnOk, ◌∷◌, [], ◌++◌, take, option_copied, find, reverse};
+ghost use Rattle.std.specs.Prelude.{◌≡◌, IfOk, is_some, option_copied, find, reverse};
 ghost use Rattle.std.specs.Str.{bytes_eq};
 ghost use Rattle.pw_types.specs.Scopes.{local_named, function_reference, variable_reference};
 ghost use Rattle.pw_types.specs.Lookups.{Means};
@@ -52,6 +52,13 @@ pub fn newest<'a>(locals: &'a [Local], name: &[u8]) -> Option<&'a Local>
     last_named(locals, name)
 }
 
+/// Whether one of these locals has this name.
+pub fn has_local(locals: &[Local], name: &[u8]) -> bool
+    ensures { result ≡ is_some (local_named name.now locals.now) }
+{
+    newest(locals, name).is_some()
+}
+
 impl<'a> Scope<'a> {
     /// What a name means: the newest local of the name, which hides the others and a name at file level.
     pub fn meaning(&self, name: &[u8]) -> Meaning<'_>
@@ -64,23 +71,6 @@ impl<'a> Scope<'a> {
                 None => Meaning::Missing,
             },
         }
-    }
-
-    /// A local is declared, and is the newest.
-    pub fn declare(&mut self, local: Local) -> Result<(), NoMemory>
-        ensures { OnOk result (self.new ≡ record self.old { locals = self.old.locals ++ local ∷ [] }) }
-    {
-        match self.locals.push(local) {
-            Ok(()) => Ok(()),
-            Err(_) => Err(NoMemory),
-        }
-    }
-
-    /// This many locals stay visible, the oldest.
-    pub fn leave(&mut self, visible: usize)
-        ensures { self.new ≡ record self.old { locals = take visible self.old.locals } }
-    {
-        self.locals.truncate(visible);
     }
 
     /// How the unit names a function: by its name where its linkage is external, else by its number.

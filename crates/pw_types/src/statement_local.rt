@@ -1,11 +1,10 @@
 //! Declarations of locals.
-ghost use Rattle.std.specs.Prelude.{◌≡◌, ◌<◌, ⊤, drop, true, is_some, option_map, IfOk};
+ghost use Rattle.std.specs.Prelude.{◌≡◌, ◌<◌, ⊤, drop, true, option_map, IfOk};
 ghost use Rattle.pw_tree.specs.Phrases.{phrase_of};
 ghost use Rattle.pw_tree.specs.Placed as placed;
 ghost use Rattle.pw_tree.specs.Statements as statement;
 ghost use Rattle.pw_types.specs.Faults as faults;
 ghost use Rattle.pw_types.specs.Faults.{Judges};
-ghost use Rattle.pw_types.specs.Scopes.{local_named};
 ghost use Rattle.pw_types.specs.Statements.{faults_of_name};
 ghost use Rattle.pw_types.specs.CheckingStatements.{Fails, Finishes, block_of, outcome_at, place_of};
 ghost use Rattle.pw_types.specs.StatementValues.{Declares};
@@ -15,12 +14,11 @@ use crate::names::Local;
 use crate::reserved::is_reserved;
 use crate::role::Role;
 use crate::rule::Rule;
-use crate::scope::newest;
+use crate::scope::has_local;
 use crate::statement_simple::broken;
 use crate::statement_step::{Setting, Span};
 use crate::statement_walk::Walk;
-use crate::types::MOST_LOCALS;
-use pw_base::{Name, NoMemory};
+use pw_base::{Limits, Name, NoMemory};
 use pw_tree::{Expr, TStmt, Ty};
 use std::alloc::Global;
 
@@ -48,13 +46,6 @@ fn own_locals(locals: &[Local], start: usize) -> &[Local]
     }
 }
 
-/// Whether one of the locals has the name.
-fn is_declared(locals: &[Local], name: &[u8]) -> bool
-    ensures { result ≡ is_some (local_named name.now locals.now) }
-{
-    newest(locals, name).is_some()
-}
-
 /// The token of a local's name: its type has one token, or two.
 fn local_name_at(at: Span, ty: Ty) -> u64
     ensures { result ≡ placed.local_name_at (place_of at) ty }
@@ -70,10 +61,10 @@ impl<'a> Walk<'a> {
     fn declarable(&self, name: &Name, at: u64) -> Result<(), Stop>
         ensures { Judges (faults_of_name (block_of self.now) name.now at) (λ _. ⊤) result }
     {
-        if is_declared(own_locals(&self.scope.locals, self.start), name.bytes()) {
+        if has_local(own_locals(&self.scope.locals, self.start), name.bytes()) {
             return Err(broken_by(self.alloc, Rule::Redeclared, at, name));
         }
-        if self.count as usize >= MOST_LOCALS {
+        if self.count as usize >= Limits::LOCALS {
             return Err(broken(Rule::TooManyLocals, at));
         }
         if is_reserved(name.bytes()) {

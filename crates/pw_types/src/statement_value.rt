@@ -9,18 +9,15 @@ use crate::fault::{Fault, Stop};
 use crate::role::Role;
 use crate::rule::Rule;
 use crate::statement_walk::Walk;
-use pw_base::NoMemory;
+use pw_base::{Limits, NoMemory};
 use pw_tree::{Expr, TExpr};
-
-/// How many values an expression or an assignment may hold at a time.
-const HELD_VALUES: u32 = 100;
 
 impl<'a> Walk<'a> {
     /// An expression holds so many values. Refusal: `TooDeep`.
     pub fn hold(&mut self, held: u32, at: u64) -> Result<(), Stop>
         ensures { Judges (broken Rule.TooDeep at (nat_lt 100 held)) (λ _. self.new ≡ record self.old { held = max self.old.held held }) result }
     {
-        if held > HELD_VALUES {
+        if held > Limits::HELD_VALUES {
             return Err(Stop::Fault(Fault {
                 rule: Rule::TooDeep,
                 at,

@@ -5,13 +5,8 @@ ghost use Rattle.pw_tree.specs.declared.ty.Ty.TheVariants.{Long};
 ghost use Rattle.pw_types.specs.Types as spec;
 ghost use Rattle.pw_types.specs.Operations.{Operates};
 
+use pw_base::Limits;
 use pw_tree::{Bin, Sig, Ty, Un};
-
-/// How many parameters a function may have.
-pub(crate) const MOST_PARAMETERS: usize = 6;
-
-/// How many parameters and locals a function may have.
-pub(crate) const MOST_LOCALS: usize = 120;
 
 /// Whether it is long or unsigned long.
 pub(crate) fn is_number(ty: Ty) -> bool
@@ -217,7 +212,7 @@ pub(crate) fn pointer_to(sig: &Sig) -> Option<Ty>
     ensures { result ≡ spec.pointer_to sig.now }
 {
     let params = sig.params.as_slice();
-    if is_long(sig.result) && are_long(params) && params.len() <= MOST_PARAMETERS {
+    if is_long(sig.result) && are_long(params) && params.len() <= Limits::PARAMETERS {
         Some(Ty::Fn(params.len() as u8))
     } else {
         None
