@@ -1,6 +1,7 @@
 -- The status and the message line of each answer.
 use Rattle.std.specs.Prelude.{ℕ, List, [], ◌∷◌, ◌++◌, codes, decimal, slice_index_or, if◌then◌else◌, ◌==◌, Result, Ok, Err}
-use Rattle.pw_front.specs.Messages.{lex_message, rule_message, syntax_message}
+use Rattle.pw_front.specs.Messages.{lex_message, syntax_message}
+use Rattle.pw_types.specs.Messages.{rule_message}
 use Rattle.pw_cmd.specs.declared.answer.Outcome.{Outcome}
 use Rattle.pw_cmd.specs.declared.answer.Outcome.TheVariants.{Ended}
 use Rattle.pw_cmd.specs.declared.answer.Stop.{Stop}

@@ -1,6 +1,7 @@
 //! Puts on a sink why a file is refused.
 ghost use Rattle.std.specs.Prelude.{◌++◌, codes, decimal};
-ghost use Rattle.pw_front.specs.Messages.{lex_message, rule_message, syntax_message};
+ghost use Rattle.pw_front.specs.Messages.{lex_message, syntax_message};
+ghost use Rattle.pw_types.specs.Messages.{rule_message};
 ghost use Rattle.pw_cmd.specs.Answer.{refused};
 ghost use Rattle.pw_cmd.specs.Message.{Puts};
 

@@ -133,16 +133,20 @@ fn deep_texts() -> [Deep; 14] {
     ]
 }
 
+/// A piece joins a text this many times.
+fn push_times(text: &mut String, times: usize, piece: &str) -> Result<(), AllocError> {
+    for _ in 0..times {
+        text.push_str(piece)?;
+    }
+    Ok(())
+}
+
 /// The text.
 fn text_of(alloc: Global, deep: Deep) -> Result<String, AllocError> {
     let mut text = String::from_str(alloc, deep.head)?;
-    for _ in 0..deep.times {
-        text.push_str(deep.open)?;
-    }
+    push_times(&mut text, deep.times, deep.open)?;
     text.push_str(deep.core)?;
-    for _ in 0..deep.times {
-        text.push_str(deep.close)?;
-    }
+    push_times(&mut text, deep.times, deep.close)?;
     text.push_str(deep.tail)?;
     Ok(text)
 }

@@ -1,4 +1,5 @@
 pub mod Lines
 pub mod OneReading
+pub mod OneFault
 pub mod Weights
 pub mod Written

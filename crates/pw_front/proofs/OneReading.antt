@@ -21,7 +21,7 @@ use Rattle.pw_front.specs.Units.{IsUnitOf, IsTypedUnitOf, HasLexFault, HasSyntax
 use Rattle.pw_front.specs.Laws.{OneTypedUnit, UnitOrFault}
 
 -- a text has one unit
-one_unit : (text : Text) (a b : Unit) → IsUnitOf text a → IsUnitOf text b → a ≡ b
+pub one_unit : (text : Text) (a b : Unit) → IsUnitOf text a → IsUnitOf text b → a ≡ b
 one_unit text a b is also =
     let same : also.tokens ≡ is.tokens = one_list text also.tokens is.tokens also.has_tokens is.has_tokens in
     one_tree is.tokens a b is.derives (subst (λ ts. Derives ts b) same also.derives)
@@ -30,10 +30,10 @@ pub one_typed_unit : OneTypedUnit
 one_typed_unit text a b is also =
     is.is_typed.is ∙ ap (λ u. typed_unit (written_unit_of u)) (one_unit text is.unit also.unit is.is_unit also.is_unit) ∙ sym also.is_typed.is
 
-no_lex_fault : (text : Text) (unit : Unit) (fault : LexError) (line : ℕ) → IsUnitOf text unit → HasLexFault text fault line → ⊥
+pub no_lex_fault : (text : Text) (unit : Unit) (fault : LexError) (line : ℕ) → IsUnitOf text unit → HasLexFault text fault line → ⊥
 no_lex_fault text unit fault line is h = not_both text is.tokens fault is.has_tokens h.is
 
-no_syntax_fault : (text : Text) (unit : Unit) (fault : SyntaxError) (line : ℕ) → IsUnitOf text unit → HasSyntaxFault text fault line → ⊥
+pub no_syntax_fault : (text : Text) (unit : Unit) (fault : SyntaxError) (line : ℕ) → IsUnitOf text unit → HasSyntaxFault text fault line → ⊥
 no_syntax_fault text unit fault line is h =
     let same : is.tokens ≡ h.tokens = one_list text is.tokens h.tokens is.has_tokens h.has_tokens in
     let none : IsFaultless h.tokens = subst (λ ts. IsFaultless ts) same is.no_fault in

@@ -1,4 +1,4 @@
--- Laws of whole texts: a text has one typed unit, and none where it has a fault.
+-- Laws of whole texts: a text has one typed unit or one fault, and not both.
 use Rattle.std.specs.Prelude.{◌≡◌, ◌≢◌}
 use Rattle.pw_lex.specs.Bytes.{Text}
 use Rattle.pw_tree.specs.declared.tunit.TUnit.{TUnit}
@@ -14,3 +14,7 @@ OneTypedUnit = (text : Text) (a b : TUnit) → IsTypedUnitOf text a → IsTypedU
 -- and a typed unit or a fault, not both
 abbrev pub UnitOrFault : Type 0
 UnitOrFault = (text : Text) (unit : TUnit) (fault : FrontError) → IsTypedUnitOf text unit → fault ≢ NoMemory → ¬ FaultOf text fault
+
+-- and one fault at most, but for want of memory
+abbrev pub OneFault : Type 0
+OneFault = (text : Text) (a b : FrontError) → FaultOf text a → FaultOf text b → a ≢ NoMemory → b ≢ NoMemory → a ≡ b

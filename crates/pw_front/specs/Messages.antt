@@ -1,16 +1,12 @@
 -- What messages say of each fault: what is wrong, and where.
 use Rattle.std.specs.Prelude.{ℕ, List, ◌++◌, codes, decimal, Option, Some, None}
-use Rattle.pw_base.specs.declared.pos.Pos.{Pos}
 use Rattle.pw_lex.specs.declared.error.LexError.{LexError}
 use Rattle.pw_lex.specs.declared.error.LexError.TheVariants as lex
 use Rattle.pw_lex.specs.Text.{place_of}
 use Rattle.pw_grammar.specs.declared.error.SyntaxError.{SyntaxError}
 use Rattle.pw_grammar.specs.declared.error.SyntaxError.TheVariants as syntax
 use Rattle.pw_grammar.specs.Faults.{token_of}
-use Rattle.pw_types.specs.declared.rule.Rule.{Rule}
-use Rattle.pw_types.specs.declared.error.TypeError.{TypeError}
-use Rattle.pw_types.specs.declared.error.TypeError.TheVariants as types
-use Rattle.pw_types.specs.RuleNames.{name_of}
+use Rattle.pw_types.specs.Messages.{at_token, type_message}
 use Rattle.pw_front.specs.declared.error.FrontError.{FrontError}
 use Rattle.pw_front.specs.declared.error.FrontError.TheVariants.{Lex, Syntax, Typing, NoMemory}
 
@@ -30,12 +26,9 @@ syntax_phrase (syntax.TooNested _) = codes "brackets too deep"
 syntax_phrase (syntax.TooLong _) = codes "function too long"
 syntax_phrase syntax.NoMemory = codes "out of memory"
 
--- where it is: the line, and the number of the byte or the token
+-- where it is: the line, and the number of the byte
 abbrev pub at_byte : (line byte : ℕ) → List ℕ
 at_byte line byte = codes " at line " ++ (decimal line ++ (codes " byte " ++ decimal byte))
-
-abbrev pub at_token : (line token : ℕ) → List ℕ
-at_token line token = codes " at line " ++ (decimal line ++ (codes " token " ++ decimal token))
 
 -- where a fault of the bytes is; want of memory is nowhere
 abbrev pub at_place : ℕ → Option ℕ → List ℕ
@@ -49,14 +42,6 @@ lex_message fault line = lex_phrase fault ++ at_place line (place_of fault)
 -- the fault of a list of tokens as a unit, on this line
 abbrev pub syntax_message : SyntaxError → ℕ → List ℕ
 syntax_message fault line = syntax_phrase fault ++ at_token line (token_of fault)
-
--- the broken rule, and the last token of the phrase that breaks it
-abbrev pub rule_message : Rule → Pos → List ℕ
-rule_message rule at = codes "type " ++ (name_of rule ++ at_token at.line at.token)
-
-abbrev pub type_message : TypeError → List ℕ
-type_message (types.Broken rule at _) = rule_message rule at
-type_message types.NoMemory = codes "out of memory"
 
 -- why a text gave no typed unit
 abbrev pub message_of : FrontError → List ℕ

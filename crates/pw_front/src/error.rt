@@ -39,11 +39,7 @@ impl Display for FrontError {
                 let (what, token) = (syntax_phrase(*fault), fault.token());
                 write!(f, "{what} at line {line} token {token}")
             }
-            FrontError::Typing(TypeError::Broken { rule, at, .. }) => {
-                let (line, token) = (at.line, at.token);
-                write!(f, "type {rule} at line {line} token {token}")
-            }
-            FrontError::Typing(TypeError::NoMemory) => f.write_str("out of memory"),
+            FrontError::Typing(fault) => write!(f, "{fault}"),
             FrontError::NoMemory => f.write_str("out of memory"),
         }
     }

@@ -5,6 +5,7 @@ ghost use Rattle.std.specs.Prelude.{◌<◌, ◌^◌, length};
 use super::{FrontError, front};
 use pw_grammar::SyntaxError;
 use pw_lex::LexError;
+use pw_tree::TUnit;
 use pw_types::TypeError;
 use std::alloc::{AllocError, Global};
 use std::test::Fail;
@@ -47,6 +48,24 @@ const ROWS: [(&str, &str); 13] = [
     ("long x;\nlong main(void) { return x; }\n", "main/2 x "),
 ];
 
+/// The functions of a unit, each with its line.
+fn push_functions(alloc: Global, out: &mut String, unit: &TUnit) -> Result<(), Fail> {
+    for fun in unit.funs.as_slice() {
+        let name = str::from_utf8(fun.name.bytes())?;
+        out.push_str(format!(in alloc; "{name}/{} ", fun.line)?.as_str())?;
+    }
+    Ok(())
+}
+
+/// The variables of a unit.
+fn push_variables(out: &mut String, unit: &TUnit) -> Result<(), Fail> {
+    for var in unit.vars.as_slice() {
+        out.push_str(str::from_utf8(var.name.bytes())?)?;
+        out.push_str(" ")?;
+    }
+    Ok(())
+}
+
 /// The functions and variables of a text, or its fault.
 fn said(alloc: Global, text: &[u8]) -> Result<String, Fail>
     requires { length text.now < 2 ^ 32 }
@@ -54,14 +73,8 @@ fn said(alloc: Global, text: &[u8]) -> Result<String, Fail>
     let mut out = String::new(alloc);
     match front(alloc, text) {
         Ok(unit) => {
-            for fun in unit.funs.as_slice() {
-                let name = str::from_utf8(fun.name.bytes())?;
-                out.push_str(format!(in alloc; "{name}/{} ", fun.line)?.as_str())?;
-            }
-            for var in unit.vars.as_slice() {
-                out.push_str(str::from_utf8(var.name.bytes())?)?;
-                out.push_str(" ")?;
-            }
+            push_functions(alloc, &mut out, &unit)?;
+            push_variables(&mut out, &unit)?;
         }
         Err(fault) => out.push_str(format!(in alloc; "{fault}")?.as_str())?,
     }
