@@ -1,5 +1,5 @@
-//! Reads, types, copies and drops trees as deep and as long as a function may be, and refuses deeper ones, in the stack
-//! that a program has.
+//! Reads, copies and drops deep and long trees, types them where they have types, and refuses those that pass a limit, in
+//! the stack that a program has.
 #![tactic(auto)]
 
 use pw_front::front;
@@ -56,7 +56,7 @@ fn done(name: &'static str, open: &'static [u8], times: usize) -> Shape {
     }
 }
 
-/// The shapes, each as large as a function may be or larger.
+/// The shapes: deep or long, up to what a function may be, and beyond it.
 fn shapes() -> [Shape; 13] {
     [
         returned("8,182 prefix operators", b"~", b"1", b"", 8182),
@@ -68,24 +68,28 @@ fn shapes() -> [Shape; 13] {
         returned("199 brackets in a body", b"(", b"1", b")", 199),
         returned("200 brackets in a body", b"(", b"1", b")", 200),
         returned("2,700 calls", b"", b"f", b"()", 2700),
-        done("1,362 else ifs", b"if(a);else ", 1362),
+        done("1,364 else ifs", b"if(a);else ", 1364),
         done("2,000 else ifs", b"if(a);else ", 2000),
         done("2,000 loops", b"while(a)", 2000),
         done("1,000 for loops", b"for(;;)", 1000),
     ]
 }
 
+/// A piece joins a text this many times.
+fn push_times(text: &mut Vec<u8>, times: usize, piece: &[u8]) -> io::Result<()> {
+    for _ in 0..times {
+        text.extend_from_slice(piece)?;
+    }
+    Ok(())
+}
+
 /// The text of a shape.
 fn text<A: AllocGlobal>(rt: &A, shape: &Shape) -> io::Result<Vec<u8>> {
     let mut text = Vec::new(rt.alloc());
     text.extend_from_slice(shape.head)?;
-    for _ in 0..shape.times {
-        text.extend_from_slice(shape.open)?;
-    }
+    push_times(&mut text, shape.times, shape.open)?;
     text.extend_from_slice(shape.core)?;
-    for _ in 0..shape.times {
-        text.extend_from_slice(shape.close)?;
-    }
+    push_times(&mut text, shape.times, shape.close)?;
     text.extend_from_slice(shape.tail)?;
     Ok(text)
 }

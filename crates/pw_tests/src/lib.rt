@@ -1,9 +1,16 @@
-//! Worked rows that cross crates, with the values of the manual, and that with ample memory each copy succeeds.
+//! Worked rows that cross crates, with the values of the manual or of an independent model of the language, and that with
+//! ample memory each copy succeeds.
 #![tactic(auto)]
 
 #[cfg(test)]
 mod copies;
 #[cfg(test)]
+mod cut_texts;
+#[cfg(test)]
+mod deep_copies;
+#[cfg(test)]
 mod division;
+#[cfg(test)]
+mod statement_trees;
 #[cfg(test)]
 mod units;
