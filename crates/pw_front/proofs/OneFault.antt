@@ -1,7 +1,6 @@
 -- A text has one fault at most: of its tokens, then of its unit, then of the unit's types.
 use Rattle.std.proofs.Common.{◌≡◌, ◌≢◌, ℕ, ◌<◌, ◌≤◌, ◌⊎◌, inl, inr, List, Option, Some, refl, sym, ap, subst, ◌∙◌, arith, IfSome, slice_index_or}
 use Rattle.pw_base.specs.declared.pos.Pos.{Pos}
-use Rattle.pw_lex.specs.declared.token.Token.{Token}
 use Rattle.pw_lex.specs.declared.error.LexError.{LexError}
 use Rattle.pw_lex.specs.declared.error.LexError.TheVariants as lex
 use Rattle.pw_lex.specs.Bytes.{Text}
@@ -14,12 +13,8 @@ use Rattle.pw_grammar.specs.Faults.{IsFirstFault, ComesBefore, token_of}
 use Rattle.pw_parse.specs.Whole.{line_of as line_of_token}
 use Rattle.pw_tree.specs.Declarations.{written_unit_of}
 use Rattle.pw_types.specs.declared.error.TypeError.TheVariants as types
-use Rattle.pw_types.specs.declared.fault.Fault.{Fault}
 use Rattle.pw_types.specs.declared.rule.Rule.{Rule}
-use Rattle.pw_types.specs.Faults.{first_of}
-use Rattle.pw_types.specs.Units.{faults_of}
 use Rattle.pw_types.specs.Checks.{IsFirst}
-use Rattle.pw_front.specs.declared.error.FrontError.{FrontError}
 use Rattle.pw_front.specs.declared.error.FrontError.TheVariants.{Lex, Syntax, Typing, NoMemory}
 use Rattle.pw_front.specs.Units.{HasLexFault, HasSyntaxFault, HasTypeFault, end_line_of}
 use Rattle.pw_front.specs.Laws.{OneFault}

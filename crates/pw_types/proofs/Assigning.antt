@@ -1,10 +1,9 @@
 -- What an assignment comes to.
-use Rattle.std.proofs.Common.{◌≡◌, ℕ, suc, ◌+◌, ◌≤◌, min, max, Bool, true, false, ◌&&◌, not, List, [], ◌∷◌, ◌++◌, length, Option, Some, None, is_some, is_none, option_map, refl, sym, ap, ◌∙◌, subst, append_assoc, arith, nat_lt, slice_index_or}
-use Rattle.std.specs.Option.{option_map_or}
+use Rattle.std.proofs.Common.{◌≡◌, ℕ, suc, ◌+◌, min, max, Bool, true, false, ◌&&◌, not, List, [], ◌∷◌, ◌++◌, Option, Some, None, is_some, is_none, option_map, refl, sym, ap, ◌∙◌, subst, append_assoc, arith, nat_lt, slice_index_or}
 use Rattle.std.proofs.lemmas.Bool.Decides.{nat_tests}
 use Rattle.pw_tree.specs.Phrases.{Place, Phrase}
 use Rattle.pw_tree.specs.Trees.{Tree, tree_of}
-use Rattle.pw_tree.specs.Statements.{Statement, set}
+use Rattle.pw_tree.specs.Statements.{set}
 use Rattle.pw_tree.specs.Placed.{set_end, index_end}
 use Rattle.pw_tree.specs.Commands.{Command}
 use Rattle.pw_tree.specs.Commands as command
@@ -13,8 +12,6 @@ use Rattle.pw_tree.specs.declared.ty.Ref.{Ref}
 use Rattle.pw_tree.specs.declared.texpr.TExpr.{TExpr}
 use Rattle.pw_tree.specs.declared.tstmt.TStmt.TheVariants as kinds
 use Rattle.pw_tree.proofs.CommandFolds.{command_of-SetLocal, command_of-SetVar, command_of-SetElem}
-use Rattle.pw_types.specs.declared.names.Kind.{Kind}
-use Rattle.pw_types.specs.declared.names.File.{File}
 use Rattle.pw_types.specs.declared.fault.Fault.{Fault}
 use Rattle.pw_types.specs.declared.role.Role.TheVariants as roles
 use Rattle.pw_types.specs.declared.rule.Rule.TheVariants as rules
@@ -25,16 +22,16 @@ use Rattle.pw_types.specs.declared.statement_set.Array.{Array}
 use Rattle.pw_types.specs.declared.fault.Stop.{Stop}
 use Rattle.pw_types.specs.Types.{is_number}
 use Rattle.pw_types.specs.Faults.{broken, broken_by}
-use Rattle.pw_types.specs.Scopes.{Scope, Meaning, meaning, declared}
-use Rattle.pw_types.specs.Held.{held, held_option, held_by, held_element}
-use Rattle.pw_types.specs.Uses.{uses, uses_of_meaning, uses_of_name}
+use Rattle.pw_types.specs.Scopes.{Scope, Meaning, meaning}
+use Rattle.pw_types.specs.Held.{held, held_by, held_element}
+use Rattle.pw_types.specs.Uses.{uses, uses_of_meaning}
 use Rattle.pw_types.specs.Typed.{typed, array_of_meaning, array_of_kind, array_named}
 use Rattle.pw_types.specs.Typed as typed_trees
 use Rattle.pw_types.specs.Expressions.{has_type, faults}
-use Rattle.pw_types.specs.Blocks.{Setting, Block, behind, uses_by, uses_of_option}
+use Rattle.pw_types.specs.Blocks.{uses_by}
 use Rattle.pw_types.specs.Statements.{faults_of_target, faults_of_array, faults_by, type_of_target, type_of_kind, holds_too_many, element_holds_too_many, is_unknown_target, has_other_index, set_element_holds_too_many}
 use Rattle.pw_types.specs.Commands.{tree_in, command_of, assigned, element_assigned, bracket_line}
-use Rattle.pw_types.specs.CheckingStatements.{Outcome, outcome, judged, block_of, outcome_at, judged_at, setting_of, Fails}
+use Rattle.pw_types.specs.CheckingStatements.{Outcome, block_of, outcome_at, judged_at, setting_of, Fails}
 use Rattle.pw_types.specs.StatementValues.{Notes, IsValue}
 use Rattle.pw_types.specs.StatementTargets.{IsFile, IsLocal, IsArray, IsIndex, IsElementValue, faults_of_index, faults_of_element_value, holds_too_many_beside}
 use Rattle.pw_types.proofs.EnclosingStatements.{same, in_front, tree_is}

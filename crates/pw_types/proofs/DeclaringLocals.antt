@@ -1,10 +1,8 @@
 -- What a local's declaration comes to.
-use Rattle.std.proofs.Common.{◌≡◌, ℕ, suc, ◌+◌, ◌<◌, ◌≤◌, max, Bool, true, false, if◌then◌else◌, List, [], ◌∷◌, ◌++◌, ◌||◌, length, drop, Option, Some, None, option_map, refl, sym, ap, ◌∙◌, subst, cond, add-one, arith, bytes_eq, is_some, nat_le}
-use Rattle.std.specs.List.{list_any}
-use Rattle.std.proofs.lemmas.List.{append-nil}
+use Rattle.std.proofs.Common.{◌≡◌, ℕ, suc, max, List, [], Option, Some, option_map, sym, ap, ◌∙◌}
 use Rattle.pw_tree.specs.Phrases.{Place, Phrase}
-use Rattle.pw_tree.specs.Trees.{Tree, tree_of}
-use Rattle.pw_tree.specs.Statements.{Statement, local}
+use Rattle.pw_tree.specs.Trees.{Tree}
+use Rattle.pw_tree.specs.Statements.{local}
 use Rattle.pw_tree.specs.Placed.{local_name_at}
 use Rattle.pw_tree.specs.Commands.{Command}
 use Rattle.pw_tree.specs.Commands as command
@@ -12,18 +10,15 @@ use Rattle.pw_tree.specs.declared.ty.Ty.{Ty}
 use Rattle.pw_tree.specs.declared.texpr.TExpr.{TExpr}
 use Rattle.pw_tree.specs.declared.tstmt.TStmt.TheVariants as kinds
 use Rattle.pw_tree.proofs.CommandFolds.{command_of-SetLocal}
-use Rattle.pw_types.specs.declared.names.Local.{Local}
-use Rattle.pw_types.specs.declared.fault.Fault.{Fault}
 use Rattle.pw_types.specs.declared.role.Role.TheVariants as roles
 use Rattle.pw_types.specs.declared.statement_walk.Walk.{Walk}
 use Rattle.pw_types.specs.declared.statement_step.Setting.{Setting as Given}
-use Rattle.pw_types.specs.Scopes.{Scope, local_named}
-use Rattle.pw_types.specs.Held.{held, held_option, held_by}
-use Rattle.pw_types.specs.Blocks.{Block, with_local, declaring, behind, uses_by, uses_of_option}
+use Rattle.pw_types.specs.Held.{held_option, held_by}
+use Rattle.pw_types.specs.Blocks.{with_local, declaring, uses_by}
 use Rattle.pw_types.specs.Statements.{faults_of_name, faults_of_option, faults_by}
 use Rattle.pw_types.specs.Commands.{tree_in, command_of}
-use Rattle.pw_types.specs.CheckingStatements.{Outcome, outcome, judged, block_of, outcome_at, judged_at}
-use Rattle.pw_types.specs.StatementValues.{Notes, IsMaybeValue, Declares}
+use Rattle.pw_types.specs.CheckingStatements.{block_of, outcome_at, judged_at}
+use Rattle.pw_types.specs.StatementValues.{IsMaybeValue, Declares}
 use Rattle.pw_types.proofs.EnclosingStatements.{same, in_front}
 
 same_block : (old new : Walk) (name : List ℕ) (ty : Ty)

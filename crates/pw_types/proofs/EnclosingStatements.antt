@@ -1,5 +1,5 @@
 -- What a statement that holds others comes to: each part in its turn, and then what is left.
-use Rattle.std.proofs.Common.{◌≡◌, ℕ, ◌+◌, ◌≤◌, max, List, [], ◌∷◌, ◌++◌, length, Option, Some, None, option_map, refl, sym, ap, ◌∙◌, subst, append_assoc, arith}
+use Rattle.std.proofs.Common.{◌≡◌, ℕ, ◌+◌, ◌≤◌, max, List, [], ◌∷◌, ◌++◌, length, Option, Some, option_map, refl, sym, ap, ◌∙◌, append_assoc, arith}
 use Rattle.std.proofs.Math.Nat.{max-zero}
 use Rattle.std.proofs.lemmas.List.{append-nil}
 use Rattle.pw_tree.specs.Phrases.{Place, Phrase}
@@ -18,7 +18,7 @@ use Rattle.pw_types.specs.Blocks.{Setting, part, body, head, Block, inner, local
 use Rattle.pw_types.specs.Statements.{faults_of_whole, faults_of_option, faults_by, faults_by_all, faults_by_maybe}
 use Rattle.pw_types.specs.Commands.{no_tree, tree_in, command_of, commands_of, maybe_of}
 use Rattle.pw_types.specs.CheckingStatements.{Outcome, outcome, judged, leave, behind_all, before, rest_of_block, rest_of_if, rest_of_do, rest_of_for, behind_first, closed}
-use Rattle.pw_types.proofs.LeavingStatements.{Keeps, stays, then_keeps, keeps, keeps_maybe, keeps_all, left, left_inner, past_none}
+use Rattle.pw_types.proofs.LeavingStatements.{then_keeps, keeps, keeps_maybe, keeps_all, left, left_inner, past_none}
 
 -- ---- two outcomes are one
 

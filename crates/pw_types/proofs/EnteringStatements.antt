@@ -1,10 +1,9 @@
 -- A statement that holds others is what its first part leads to.
-use Rattle.std.proofs.Common.{◌≡◌, ℕ, suc, true, false, ◌+◌, ◌-◌, ◌<◌, ◌≤◌, max, List, [], ◌∷◌, ◌++◌, length, take, drop, get_or, map, Option, Some, None, option_map, Ok, Err, refl, sym, ap, ◌∙◌, subst, arith}
+use Rattle.std.proofs.Common.{◌≡◌, ℕ, true, false, ◌-◌, ◌<◌, ◌≤◌, max, List, [], ◌∷◌, ◌++◌, length, take, drop, get_or, Option, Some, None, option_map, Err, refl, sym, ap, ◌∙◌, arith}
 use Rattle.std.specs.Borrow.{Bor}
 use Rattle.std.proofs.lemmas.Grind.{common_steps}
-use Rattle.std.proofs.Math.Seq.{take-length}
 use Rattle.pw_tree.specs.Phrases.{Place, Phrase, phrase_of}
-use Rattle.pw_tree.specs.Trees.{Tree, tree_of}
+use Rattle.pw_tree.specs.Trees.{tree_of}
 use Rattle.pw_tree.specs.Statements.{Statement, Statements, Maybe, block, if_else, while_loop, do_loop, for_loop, nil, cons, absent, present, maybe, statement_of, statements_of}
 use Rattle.pw_tree.specs.Commands.{Command}
 use Rattle.pw_tree.specs.Commands as command
@@ -14,7 +13,6 @@ use Rattle.pw_tree.specs.declared.texpr.TExpr.{TExpr}
 use Rattle.pw_tree.specs.declared.tstmt.TStmt.{TStmt}
 use Rattle.pw_tree.specs.declared.tstmt.TStmt.TheVariants as kinds
 use Rattle.pw_tree.proofs.CommandFolds.{command_of-Block}
-use Rattle.pw_types.specs.declared.fault.Fault.{Fault}
 use Rattle.pw_types.specs.declared.fault.Stop.{Stop}
 use Rattle.pw_types.specs.declared.role.Role.{Role}
 use Rattle.pw_types.specs.declared.role.Role.TheVariants as roles
@@ -23,13 +21,11 @@ use Rattle.pw_types.specs.declared.statement_step.Setting.{Setting as Given}
 use Rattle.pw_types.specs.declared.statement_step.Outer.{Outer}
 use Rattle.pw_types.specs.declared.statement_step.Form.{Form}
 use Rattle.pw_types.specs.declared.statement_step.Form.TheVariants as forms
-use Rattle.pw_types.specs.Faults.{Judges}
-use Rattle.pw_types.specs.Typed.{typed}
-use Rattle.pw_types.specs.Blocks.{Setting, part, body, head, Block, inner}
+use Rattle.pw_types.specs.Blocks.{Setting, body, head, Block}
 use Rattle.pw_types.specs.Statements.{faults_of_whole, faults_of_option, faults_by}
-use Rattle.pw_types.specs.CheckingStatements.{Outcome, outcome, judged, block_of, outer_at, outcome_at, judged_at, setting_of, resumed_at, Fails, rest_of_block, leave, behind_first_at, typed_maybe, block_at}
+use Rattle.pw_types.specs.CheckingStatements.{Outcome, outcome, block_of, outer_at, outcome_at, judged_at, setting_of, resumed_at, Fails, leave, behind_first_at, typed_maybe, block_at}
 use Rattle.pw_types.specs.StatementValues.{Notes, IsValue, IsMaybeValue, JudgesValue, JudgesMaybeValue}
-use Rattle.pw_types.proofs.EnclosingStatements.{same, tree_is, block_begins, block_of_none, if_begins, while_begins, do_begins, for_begins, for_begins_bare, for_goes_on, for_has_no_last}
+use Rattle.pw_types.proofs.EnclosingStatements.{tree_is, block_begins, block_of_none, if_begins, while_begins, do_begins, for_begins, for_begins_bare, for_goes_on, for_has_no_last}
 use Rattle.pw_types.proofs.Failing.{fails_of, fails_in_front}
 
 -- ---- values

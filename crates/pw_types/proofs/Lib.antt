@@ -13,6 +13,7 @@ pub mod Keys
 pub mod Places
 pub mod KeyedFiles
 pub mod NameNumbers
+pub mod UnitNames
 pub mod NewestLocals
 pub mod Meanings
 pub mod OwnFaults

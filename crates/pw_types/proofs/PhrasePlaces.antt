@@ -1,9 +1,9 @@
 -- The place of a phrase is that of its node.
 use Rattle.std.proofs.Common.{◌≡◌, refl, ap, ◌∙◌}
-use Rattle.pw_tree.specs.Phrases.{Place, Phrase, form_step, phrase_step, phrase_of, form_of}
+use Rattle.pw_tree.specs.Phrases.{Place, Phrase, form_step, phrase_step, phrase_of}
 use Rattle.pw_tree.specs.Placed as placed
 use Rattle.pw_tree.specs.declared.expr.Expr.{Expr, out-Expr}
-use Rattle.pw_tree.specs.declared.expr.ExprKind.{ExprKind, fold_out-ExprKind}
+use Rattle.pw_tree.specs.declared.expr.ExprKind.{fold_out-ExprKind}
 use Rattle.pw_tree.specs.declared.expr.ExprKind.TheOpen.{ExprKind-F}
 use Rattle.pw_tree.proofs.PhraseFolds.{phrase_of-out}
 

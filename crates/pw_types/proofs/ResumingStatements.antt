@@ -1,13 +1,11 @@
 -- Behind its last part a statement is judged; behind another it waits for the next.
-use Rattle.std.proofs.Common.{◌≡◌, ℕ, ◌<◌, true, false, max, IfOk, List, [], ◌∷◌, ◌++◌, map, Option, Some, None, option_map, Result, Ok, Err, refl, sym, ap, ◌∙◌, subst}
-use Rattle.std.specs.Borrow.{Bor}
+use Rattle.std.proofs.Common.{◌≡◌, ℕ, ◌<◌, false, IfOk, List, [], ◌∷◌, ◌++◌, map, Option, Some, None, Result, Err, refl, sym, ap, ◌∙◌, subst}
 use Rattle.std.proofs.lemmas.List.{map-append}
-use Rattle.pw_tree.specs.Phrases.{Phrase, phrase_of}
-use Rattle.pw_tree.specs.Trees.{Tree, tree_of}
-use Rattle.pw_tree.specs.Statements.{Statement, Statements, Maybe, nil, cons, absent, present, statement_of, statements_of}
+use Rattle.pw_tree.specs.Phrases.{Phrase}
+use Rattle.pw_tree.specs.Trees.{tree_of}
+use Rattle.pw_tree.specs.Statements.{Statements, Maybe, nil, cons, absent, present, statement_of, statements_of}
 use Rattle.pw_tree.specs.Commands.{Command}
 use Rattle.pw_tree.specs.Commands as command
-use Rattle.pw_tree.specs.declared.expr.Expr.{Expr}
 use Rattle.pw_tree.specs.declared.stmt.Stmt.{Stmt}
 use Rattle.pw_tree.specs.declared.texpr.TExpr.{TExpr}
 use Rattle.pw_tree.specs.declared.tstmt.TStmt.{TStmt}
@@ -23,11 +21,9 @@ use Rattle.pw_types.specs.declared.statement_step.Form.TheVariants as forms
 use Rattle.pw_types.specs.declared.statement_step.Frame.{Frame}
 use Rattle.pw_types.specs.declared.statement_step.Step.{Step}
 use Rattle.pw_types.specs.StatementWeights.{weight_of_form, weight_of_step}
-use Rattle.pw_types.specs.Uses.{uses}
-use Rattle.pw_types.specs.Held.{held}
 use Rattle.pw_types.specs.Blocks.{Block}
 use Rattle.pw_types.specs.Statements.{faults_of_whole}
-use Rattle.pw_types.specs.CheckingStatements.{Outcome, outcome, judged, block_of, outcome_at, judged_at, setting_of, resumed_at, leave, block_at, rest_of_block, rest_of_if, rest_of_do, typed_maybe, Leaves, Fails, Finishes, Steps, resumed, done}
+use Rattle.pw_types.specs.CheckingStatements.{Outcome, judged, block_of, outcome_at, judged_at, setting_of, resumed_at, leave, block_at, rest_of_block, rest_of_if, rest_of_do, Leaves, Fails, Finishes, Steps, resumed, done}
 use Rattle.pw_types.specs.StatementValues.{IsValue, JudgesValue}
 use Rattle.pw_types.proofs.EnclosingStatements.{same, tree_is, block_ends, block_goes_on, if_ends, if_goes_on, do_ends}
 use Rattle.pw_types.proofs.Failing.{fails_as}

@@ -1,10 +1,10 @@
 -- What a statement without parts comes to.
-use Rattle.std.proofs.Common.{◌≡◌, ℕ, ◌+◌, max, Bool, true, false, List, [], ◌∷◌, ◌++◌, ◌||◌, not, length, Option, Some, None, option_map, refl, sym, ap, ◌∙◌, subst, append_assoc, arith}
+use Rattle.std.proofs.Common.{◌≡◌, ℕ, max, Bool, true, false, List, [], ◌++◌, ◌||◌, not, Option, Some, None, refl, sym, ap, ◌∙◌}
 use Rattle.std.proofs.Math.Nat.{max-zero}
 use Rattle.std.proofs.lemmas.List.{append-nil}
 use Rattle.pw_tree.specs.Phrases.{Place, Phrase}
 use Rattle.pw_tree.specs.Trees.{Tree, tree_of}
-use Rattle.pw_tree.specs.Statements.{Statement, empty, evaluate, returns, breaks, continues}
+use Rattle.pw_tree.specs.Statements.{empty, evaluate, returns, breaks, continues}
 use Rattle.pw_tree.specs.Commands.{Command, Commands}
 use Rattle.pw_tree.specs.Commands as command
 use Rattle.pw_tree.specs.declared.ty.Ty.{Ty}
@@ -19,13 +19,12 @@ use Rattle.pw_types.specs.Expressions.{has_type}
 use Rattle.pw_types.specs.declared.role.Role.TheVariants as roles
 use Rattle.pw_types.specs.declared.statement_walk.Walk.{Walk}
 use Rattle.pw_types.specs.declared.statement_step.Setting.{Setting as Given}
-use Rattle.pw_types.specs.Held.{held, held_option, held_by, held_by_all}
+use Rattle.pw_types.specs.Held.{held, held_by, held_by_all}
 use Rattle.pw_types.specs.Uses.{uses}
-use Rattle.pw_types.specs.Typed.{typed, type_of}
-use Rattle.pw_types.specs.Blocks.{Setting, Block, behind, uses_by, uses_of_option}
-use Rattle.pw_types.specs.Statements.{faults_of_whole, faults_of_option, faults_by, returns_other}
-use Rattle.pw_types.specs.Commands.{tree_in, command_of}
-use Rattle.pw_types.specs.CheckingStatements.{Outcome, outcome, judged, block_of, outcome_at, judged_at, setting_of}
+use Rattle.pw_types.specs.Blocks.{uses_by}
+use Rattle.pw_types.specs.Statements.{faults_of_whole, faults_by, returns_other}
+use Rattle.pw_types.specs.Commands.{command_of}
+use Rattle.pw_types.specs.CheckingStatements.{Outcome, judged, block_of, outcome_at, judged_at}
 use Rattle.pw_types.specs.StatementValues.{Notes, IsValue}
 use Rattle.pw_types.proofs.EnclosingStatements.{same, in_front, tree_is}
 use Rattle.pw_types.proofs.TreeTypes.{type_is}

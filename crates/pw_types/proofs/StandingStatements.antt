@@ -1,5 +1,5 @@
 -- Statements as phrases: their faults are those of the list, and they stand where they are placed.
-use Rattle.std.proofs.Common.{◌≡◌, ℕ, suc, ◌≤◌, Bool, true, false, not, List, [], ◌++◌, arith, refl, sym, ◌∙◌, subst, append_assoc, append-nil}
+use Rattle.std.proofs.Common.{◌≡◌, ℕ, suc, ◌≤◌, Bool, true, false, List, [], ◌++◌, arith, refl, sym, ◌∙◌, subst, append_assoc, append-nil}
 use Rattle.std.specs.Prelude.{Option, Some, None, option_map}
 use Rattle.pw_tree.specs.declared.ty.Ty.TheVariants.{Void, Long, Ulong, Fn}
 use Rattle.pw_tree.specs.declared.ty.Ty.{Ty}
@@ -11,10 +11,9 @@ use Rattle.pw_types.specs.declared.role.Role.{Role}
 use Rattle.pw_types.specs.declared.role.Role.TheVariants as roles
 use Rattle.pw_types.specs.declared.fault.Fault.{Fault}
 use Rattle.pw_types.specs.Faults.{broken}
-use Rattle.pw_types.specs.Types.{is_number}
 use Rattle.pw_types.specs.Scopes.{Scope, meaning}
-use Rattle.pw_types.specs.Typed.{array_named, typed}
-use Rattle.pw_types.specs.Expressions.{end_of, has_type, faults}
+use Rattle.pw_types.specs.Typed.{array_named}
+use Rattle.pw_types.specs.Expressions.{end_of, faults}
 use Rattle.pw_types.specs.Blocks.{Setting, part, body, head, Block, inner, behind, behind_maybe}
 use Rattle.pw_types.specs.Statements.{has_other_index, set_holds_too_many, set_element_holds_too_many, is_outside_loop, faults_of_option, type_of_target, faults_of_array, faults_of_set, returns_other, faults_by, faults_by_all, faults_by_maybe}
 use Rattle.pw_types.specs.Nests.{Nest, Nests, nest, none, more, whole, leaf, assignment, statement, statements, maybe}

@@ -1,6 +1,6 @@
 -- Which form a statement has, and what entering it answers.
-use Rattle.std.proofs.Common.{◌≡◌, ℕ, ◌<◌, List, Option, Some, None, option_map, Result, Ok, Err, IfOk, refl, sym, ap, ◌∙◌, subst}
-use Rattle.pw_tree.specs.Phrases.{Place, Phrase, phrase_of}
+use Rattle.std.proofs.Common.{◌≡◌, ℕ, ◌<◌, List, Option, option_map, Result, Ok, Err, IfOk, sym, ap, ◌∙◌, subst}
+use Rattle.pw_tree.specs.Phrases.{Place, phrase_of}
 use Rattle.pw_tree.specs.Statements.{Statement, empty, block, local, set, evaluate, if_else, while_loop, do_loop, for_loop, returns, breaks, continues, maybe, statement_of, statement_form_of, statements_of}
 use Rattle.pw_tree.specs.declared.ty.Ty.{Ty}
 use Rattle.pw_tree.specs.declared.expr.Expr.{Expr}

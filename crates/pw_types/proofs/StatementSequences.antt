@@ -1,8 +1,8 @@
 -- Statements in a row, one after another.
-use Rattle.std.proofs.Common.{◌≡◌, ℕ, ◌+◌, ◌≤◌, max, List, [], ◌∷◌, ◌++◌, length, map, Option, Some, None, Result, Ok, Err, refl, sym, ap, ◌∙◌, subst, arith, add-zero}
+use Rattle.std.proofs.Common.{◌≡◌, ℕ, ◌+◌, max, List, [], ◌∷◌, ◌++◌, map, refl, sym, ap, ◌∙◌, arith, add-zero}
 use Rattle.std.proofs.Math.Nat.{max-zero}
 use Rattle.std.proofs.lemmas.List.{append-nil, map-append}
-use Rattle.pw_tree.specs.Statements.{Statement, Statements, nil, cons, statement_of, statements_of}
+use Rattle.pw_tree.specs.Statements.{Statement, Statements, nil, cons}
 use Rattle.pw_tree.specs.Commands.{Command, Commands}
 use Rattle.pw_tree.specs.Commands as command
 use Rattle.pw_tree.specs.declared.tstmt.TStmt.{TStmt}
@@ -10,14 +10,13 @@ use Rattle.pw_types.specs.declared.fault.Fault.{Fault}
 use Rattle.pw_types.specs.declared.fault.Stop.{Stop}
 use Rattle.pw_types.specs.declared.statement_walk.Walk.{Walk}
 use Rattle.pw_types.specs.declared.statement_step.Setting.{Setting as Given}
-use Rattle.pw_types.specs.declared.typed.Body.{Body}
 use Rattle.pw_types.specs.Scopes.{Scope}
-use Rattle.pw_types.specs.Held.{held_by, held_by_all}
-use Rattle.pw_types.specs.Blocks.{Setting, Block, behind, locals_in, locals_in_all, uses_by, uses_by_all}
+use Rattle.pw_types.specs.Held.{held_by_all}
+use Rattle.pw_types.specs.Blocks.{Setting, Block, locals_in_all, uses_by_all}
 use Rattle.pw_types.specs.Statements.{faults_by, faults_by_all}
-use Rattle.pw_types.specs.Commands.{command_of, commands_of}
+use Rattle.pw_types.specs.Commands.{commands_of}
 use Rattle.pw_types.specs.Judged.{IsTypedBody}
-use Rattle.pw_types.specs.CheckingStatements.{Outcome, outcome, judged, block_of, outcome_at, judged_at, setting_of, before, Sequence, sequence, sequence_at, Fails}
+use Rattle.pw_types.specs.CheckingStatements.{Outcome, outcome, block_of, outcome_at, judged_at, setting_of, before, Sequence, sequence, sequence_at, Fails}
 use Rattle.pw_types.proofs.LeavingStatements.{keeps}
 use Rattle.pw_types.proofs.EnclosingStatements.{max_assoc, used_by_both, before_snoc, before_nothing, zero-max}
 use Rattle.pw_types.proofs.Failing.{fails_as, fails_in_front}

@@ -1,8 +1,8 @@
 -- The type of a typed tree is that of its node.
 use Rattle.std.proofs.Common.{◌≡◌, refl, ap, ◌∙◌}
-use Rattle.pw_tree.specs.Trees.{Mark, Tree, tree_form, tree_step, tree_of, tree_form_of}
+use Rattle.pw_tree.specs.Trees.{Mark, Tree, tree_form, tree_step, tree_of}
 use Rattle.pw_tree.specs.declared.texpr.TExpr.{TExpr, out-TExpr}
-use Rattle.pw_tree.specs.declared.texpr.TKind.{TKind, fold_out-TKind}
+use Rattle.pw_tree.specs.declared.texpr.TKind.{fold_out-TKind}
 use Rattle.pw_tree.specs.declared.texpr.TKind.TheOpen.{TKind-F}
 use Rattle.pw_tree.proofs.TreeFolds.{tree_of-out}
 use Rattle.pw_types.specs.Typed.{mark_of, type_of}

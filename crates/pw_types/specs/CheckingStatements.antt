@@ -1,13 +1,12 @@
 -- Judging a statement: what it comes to, and how frames say what is still to be done when a part of it is judged.
-use Rattle.std.specs.Prelude.{◌≡◌, ℕ, suc, ◌+◌, max, List, [], ◌∷◌, ◌++◌, length, map, take, Option, Some, None, option_map, Result, Ok, Err, ⊤}
+use Rattle.std.specs.Prelude.{◌≡◌, ℕ, ◌+◌, max, List, [], ◌∷◌, ◌++◌, length, map, take, Option, Some, option_map, Result, Ok, Err, ⊤}
 use Rattle.pw_tree.specs.Phrases.{Place, Phrase, phrase_of}
 use Rattle.pw_tree.specs.Trees.{Tree, tree_of}
-use Rattle.pw_tree.specs.Statements.{Statement, Statements, Maybe, nil, cons, absent, present, maybe, statement_of, statements_of}
+use Rattle.pw_tree.specs.Statements.{Statement, Statements, Maybe, nil, cons, maybe, statement_of, statements_of}
 use Rattle.pw_tree.specs.Commands.{Command, Commands}
 use Rattle.pw_tree.specs.Commands as command
 use Rattle.pw_tree.specs.declared.stmt.Stmt.{Stmt}
 use Rattle.pw_tree.specs.declared.tstmt.TStmt.{TStmt}
-use Rattle.pw_tree.specs.declared.texpr.TExpr.{TExpr}
 use Rattle.pw_types.specs.declared.role.Role.TheVariants as roles
 use Rattle.pw_types.specs.declared.fault.Fault.{Fault}
 use Rattle.pw_types.specs.declared.fault.Stop.{Stop}
@@ -22,7 +21,6 @@ use Rattle.pw_types.specs.declared.statement_step.Form.TheVariants as forms
 use Rattle.pw_types.specs.declared.statement_step.Step.{Step}
 use Rattle.pw_types.specs.declared.statement_step.Step.TheVariants as steps
 use Rattle.pw_types.specs.Faults.{first_of}
-use Rattle.pw_types.specs.Scopes.{Scope}
 use Rattle.pw_types.specs.Held.{held, held_option, held_by, held_by_all, held_by_maybe}
 use Rattle.pw_types.specs.Uses.{uses}
 use Rattle.pw_types.specs.Blocks.{Setting, part, body, head, Block, behind, behind_maybe, locals_in_all, uses_of_option, uses_by, uses_by_all, uses_by_maybe}

@@ -1,5 +1,5 @@
 -- The faults of a unit by phrase: each phrase within another, with the faults of its own.
-use Rattle.std.specs.Prelude.{ℕ, suc, ◌+◌, ◌-◌, Bool, not, List, [], ◌∷◌, ◌++◌, length, map, Option, Some, None, option_map, find, nat_le}
+use Rattle.std.specs.Prelude.{ℕ, suc, ◌+◌, ◌-◌, Bool, List, [], ◌∷◌, ◌++◌, length, map, Option, Some, None, option_map, find}
 use Rattle.pw_tree.specs.declared.ty.Ty.{Ty}
 use Rattle.pw_tree.specs.declared.decl.Param.{Param}
 use Rattle.pw_tree.specs.declared.decl.InitItem.{InitItem}
@@ -15,11 +15,10 @@ use Rattle.pw_types.specs.declared.names.File.{File}
 use Rattle.pw_types.specs.declared.names.Local.{Local}
 use Rattle.pw_types.specs.declared.fault.Fault.{Fault}
 use Rattle.pw_types.specs.Faults.{broken, broken_by}
-use Rattle.pw_types.specs.Types.{is_number}
 use Rattle.pw_types.specs.Reserved.{is_reserved}
 use Rattle.pw_types.specs.Scopes.{Scope, file_named, meaning}
 use Rattle.pw_types.specs.Typed.{Designated, typed, array_named, function_of, parameters_of}
-use Rattle.pw_types.specs.Expressions.{end_of, has_type, own, callee_in, first_parameter, other_parameters}
+use Rattle.pw_types.specs.Expressions.{end_of, own, callee_in, first_parameter, other_parameters}
 use Rattle.pw_types.specs.Blocks.{Setting, part, body, head, Block, inner, behind, behind_maybe}
 use Rattle.pw_types.specs.Statements.{holds_too_many, has_other_index, set_holds_too_many, set_element_holds_too_many, is_outside_loop, faults_of_name, type_of_target, faults_of_target, faults_of_array, returns_other}
 use Rattle.pw_types.specs.Declarations.{Whole, is_parameter_too_many, file_scope, faults_of_parameter_name, local_of, parameters_in, is_definition_of_function, conflicts, is_redefined, is_too_large, elements_of, faults_of_element, room, outermost, setting, declared_by}

@@ -1,5 +1,5 @@
 -- What judging the expressions of a statement answers.
-use Rattle.std.specs.Prelude.{◌≡◌, ℕ, suc, max, List, ◌++◌, Option, Some, None, option_map, Result}
+use Rattle.std.specs.Prelude.{◌≡◌, ℕ, suc, max, List, ◌++◌, Option, Some, option_map, Result}
 use Rattle.pw_tree.specs.declared.ty.Ty.{Ty}
 use Rattle.pw_tree.specs.Phrases.{Phrase}
 use Rattle.pw_tree.specs.Trees.{tree_of}

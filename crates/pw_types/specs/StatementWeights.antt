@@ -1,5 +1,5 @@
 -- How much is still to be done of a statement: each step leaves less.
-use Rattle.std.specs.Prelude.{ℕ, suc, ◌+◌, List, [], ◌∷◌, Option, Some, None, option_map}
+use Rattle.std.specs.Prelude.{ℕ, suc, ◌+◌, List, [], ◌∷◌, option_map}
 use Rattle.pw_tree.specs.Statements.{Statement, Statements, Maybe, empty, block, local, set, evaluate, if_else, while_loop, do_loop, for_loop, returns, breaks, continues, nil, cons, absent, present, maybe, statement_of, statements_of}
 use Rattle.pw_types.specs.declared.statement_step.Frame.{Frame}
 use Rattle.pw_types.specs.declared.statement_step.Form.{Form}

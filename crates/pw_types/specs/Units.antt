@@ -1,6 +1,7 @@
 -- The faults of a whole unit, and its typed unit.
 use Rattle.std.specs.Prelude.{ℕ, suc, ◌+◌, ◌-◌, Bool, true, false, ◌&&◌, ◌||◌, not, if◌then◌else◌, List, [], ◌∷◌, ◌++◌, length, map, find, Option, Some, None, option_map, nat_eq}
-use Rattle.std.specs.List.{list_any}
+use Rattle.std.specs.List.{flat_map, list_any}
+use Rattle.std.specs.Str.{bytes_eq}
 use Rattle.pw_tree.specs.declared.ty.Ty.{Ty}
 use Rattle.pw_tree.specs.declared.tunit.TVar.{TVar}
 use Rattle.pw_tree.specs.declared.tunit.Init.{Init}
@@ -19,7 +20,7 @@ use Rattle.pw_types.specs.declared.fault.Fault.{Fault}
 use Rattle.pw_types.specs.Faults.{broken_by}
 use Rattle.pw_types.specs.declared.names.Kind.{Kind}
 use Rattle.pw_types.specs.declared.names.File.{File}
-use Rattle.pw_types.specs.Scopes.{Scope, joined}
+use Rattle.pw_types.specs.Scopes.{Scope}
 use Rattle.pw_types.specs.declared.names.Kind.TheVariants as kinds
 use Rattle.pw_types.specs.Typed.{function_named, Designated}
 use Rattle.pw_types.specs.Held.{held_by_all}
@@ -29,28 +30,45 @@ use Rattle.pw_types.specs.Declarations.{is_external, is_extern, signature, eleme
 
 -- ---- the names that a unit defines
 
-unfoldable pub functions_of : List (List ℕ) → List Declaration → List (List ℕ)
-functions_of names [] = names
-functions_of names (d ∷ ds) = functions_of (with_function d.form) ds
+-- the function's name, where a declaration defines one
+abbrev pub function_in : Declaration → List (List ℕ)
+function_in d = of_form d.form
   where
-    with_function : DeclarationForm → List (List ℕ)
-    with_function (definition result params body) = joined names d.name
-    with_function (prototype result params) = names
-    with_function (variable ty size items) = names
+    of_form : DeclarationForm → List (List ℕ)
+    of_form (definition result params body) = d.name ∷ []
+    of_form (prototype result params) = []
+    of_form (variable ty size items) = []
 
-unfoldable pub variables_of : List (List ℕ) → List Declaration → List (List ℕ)
-variables_of names [] = names
-variables_of names (d ∷ ds) = variables_of (with_variable d.form) ds
+-- the variable's name, where a declaration defines one
+abbrev pub variable_in : Declaration → List (List ℕ)
+variable_in d = of_form d.form
   where
-    with_variable : DeclarationForm → List (List ℕ)
-    with_variable (variable ty size items) = if is_extern d.linkage then names else joined names d.name
-    with_variable (prototype result params) = names
-    with_variable (definition result params body) = names
+    of_form : DeclarationForm → List (List ℕ)
+    of_form (variable ty size items) = if is_extern d.linkage then [] else d.name ∷ []
+    of_form (prototype result params) = []
+    of_form (definition result params body) = []
+
+-- a list without this name
+unfoldable pub without : List ℕ → List (List ℕ) → List (List ℕ)
+without name [] = []
+without name (other ∷ others) = if bytes_eq name other then without name others else other ∷ without name others
+
+-- the names of a list, each where it stands first
+unfoldable pub each_once : List (List ℕ) → List (List ℕ)
+each_once [] = []
+each_once (name ∷ names) = name ∷ without name (each_once names)
+
+-- in order of text; a unit without faults defines each of them once
+abbrev pub functions_of : List Declaration → List (List ℕ)
+functions_of ds = each_once (flat_map function_in ds)
+
+abbrev pub variables_of : List Declaration → List (List ℕ)
+variables_of ds = each_once (flat_map variable_in ds)
 
 abbrev pub whole_of : WrittenUnit → Whole
 whole_of unit = record {
-  functions = functions_of [] unit.declarations;
-  variables = variables_of [] unit.declarations;
+  functions = functions_of unit.declarations;
+  variables = variables_of unit.declarations;
   lines = unit.lines;
 }
 

@@ -10,9 +10,10 @@ ghost use Rattle.pw_types.specs.ResumingExpressions.{Gives, GivesWith};
 use crate::expression_form::leaf;
 use crate::expression_node::{fault, is_base};
 use crate::expression_step::Head;
-use crate::fault::{Fault, Stop};
+use crate::fault::Stop;
 use crate::meaning::Meaning;
 use crate::names::{File, Kind};
+use crate::refuse::broken_by;
 use crate::role::Role;
 use crate::rule::Rule;
 use crate::scope::Scope;
@@ -36,11 +37,7 @@ pub(crate) fn note(used: &mut Vec<usize>, number: usize) -> Result<(), NoMemory>
 fn unknown(alloc: Global, head: Head, name: &Name) -> Result<Typed, Stop>
     ensures { Gives (refuse (record { rule = Unknown; at = head.last; name = Some name.now })) result }
 {
-    Err(Stop::Fault(Fault {
-        rule: Rule::Unknown,
-        at: u64::from(head.last),
-        name: Some(name.copy(alloc)?),
-    }))
+    Err(broken_by(alloc, Rule::Unknown, u64::from(head.last), name))
 }
 
 /// The rule that the name of a function breaks that no pointer type fits.

@@ -8,7 +8,8 @@ ghost use Rattle.pw_types.specs.CheckingExpressions as spec;
 ghost use Rattle.pw_types.specs.ResumingExpressions.{valued, Gives};
 
 use crate::expression_step::Head;
-use crate::fault::{Fault, Stop};
+use crate::fault::Stop;
+use crate::refuse::broken;
 use crate::role::Role;
 use crate::rule::Rule;
 use crate::typed::Typed;
@@ -40,11 +41,7 @@ pub(crate) fn node(head: Head, ty: Ty, kind: TKind, held: u32) -> Typed
 pub(crate) fn fault(head: Head, rule: Rule) -> Stop
     ensures { result ≡ stops.Fault (spec.fault_under head rule) }
 {
-    Stop::Fault(Fault {
-        rule,
-        at: u64::from(head.last),
-        name: None,
-    })
+    broken(rule, u64::from(head.last))
 }
 
 /// Whether a value is needed.

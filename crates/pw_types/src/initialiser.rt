@@ -12,10 +12,10 @@ ghost use Rattle.pw_types.specs.Declarations as spec;
 ghost use Rattle.pw_types.specs.Units.{designated_or};
 ghost use Rattle.pw_types.specs.CheckingDeclarations.{faults_of_value, IsElement, AreElements};
 
-use crate::fault::{Fault, Stop};
+use crate::fault::Stop;
 use crate::meaning::Meaning;
 use crate::names::{File, Kind};
-use crate::refuse::refuse_if;
+use crate::refuse::{broken, broken_by, refuse_if};
 use crate::rule::Rule;
 use crate::same::same_type;
 use crate::scope::Scope;
@@ -72,11 +72,7 @@ fn judge_file(
 {
     match &file.kind {
         Kind::Function(sig) => judge_function(alloc, scope, ty, is_extra, at, file, sig),
-        Kind::Variable(_, _) => Err(Stop::Fault(Fault {
-            rule: Rule::Initialiser,
-            at: u64::from(at),
-            name: None,
-        })),
+        Kind::Variable(_, _) => Err(broken(Rule::Initialiser, u64::from(at))),
     }
 }
 
@@ -93,16 +89,8 @@ fn judge_word(
     ensures { Judges (faults_of_value scope.now ty is_extra at (Word name.now)) (IsElement scope.now (Word name.now) used.old.items used.new.items) result }
 {
     match scope.meaning(name.bytes()) {
-        Meaning::Missing => Err(Stop::Fault(Fault {
-            rule: Rule::Unknown,
-            at: u64::from(at),
-            name: Some(name.copy(alloc)?),
-        })),
-        Meaning::Local(_) => Err(Stop::Fault(Fault {
-            rule: Rule::Initialiser,
-            at: u64::from(at),
-            name: None,
-        })),
+        Meaning::Missing => Err(broken_by(alloc, Rule::Unknown, u64::from(at), name)),
+        Meaning::Local(_) => Err(broken(Rule::Initialiser, u64::from(at))),
         Meaning::File(number, file) => {
             let value = judge_file(alloc, scope, ty, is_extra, at, file)?;
             match used.push(number) {

@@ -1,22 +1,45 @@
 //! Faults, where rules are broken.
-ghost use Rattle.std.specs.Prelude.{◌≡◌, ⊤};
-ghost use Rattle.pw_types.specs.Faults.{Judges, broken, broken_by};
+ghost use Rattle.std.specs.Prelude.{◌≡◌, ⊤, true};
+ghost use Rattle.pw_types.specs.Faults as faults;
+ghost use Rattle.pw_types.specs.Faults.{Judges};
+ghost use Rattle.pw_types.specs.CheckingStatements.{Fails};
 
 use crate::fault::{Fault, Stop};
 use crate::rule::Rule;
-use pw_base::{Name, NoMemory};
+use pw_base::Name;
 use std::alloc::Global;
+
+/// The fault at a token, which is about no name.
+pub(crate) fn broken(rule: Rule, at: u64) -> Stop
+    ensures { result ≡ Stop.Fault (record { rule = rule; at = at; name = None }) }
+{
+    Stop::Fault(Fault {
+        rule,
+        at,
+        name: None,
+    })
+}
+
+/// The fault at a token, which is about a name.
+pub(crate) fn broken_by(alloc: Global, rule: Rule, at: u64, name: &Name) -> Stop
+    ensures { Fails (faults.broken_by rule at name.now true) result }
+{
+    match name.copy(alloc) {
+        Ok(name) => Stop::Fault(Fault {
+            rule,
+            at,
+            name: Some(name),
+        }),
+        Err(_) => Stop::NoMemory,
+    }
+}
 
 /// The fault at a token, where the rule is broken.
 pub(crate) fn refuse_if(is_broken: bool, rule: Rule, at: u32) -> Result<(), Stop>
-    ensures { Judges (broken rule at is_broken) (λ _. ⊤) result }
+    ensures { Judges (faults.broken rule at is_broken) (λ _. ⊤) result }
 {
     if is_broken {
-        Err(Stop::Fault(Fault {
-            rule,
-            at: u64::from(at),
-            name: None,
-        }))
+        Err(broken(rule, u64::from(at)))
     } else {
         Ok(())
     }
@@ -30,14 +53,10 @@ pub(crate) fn refuse_name_if(
     at: u32,
     name: &Name,
 ) -> Result<(), Stop>
-    ensures { Judges (broken_by rule at name.now is_broken) (λ _. ⊤) result }
+    ensures { Judges (faults.broken_by rule at name.now is_broken) (λ _. ⊤) result }
 {
     if is_broken {
-        Err(Stop::Fault(Fault {
-            rule,
-            at: u64::from(at),
-            name: Some(name.copy(alloc)?),
-        }))
+        Err(broken_by(alloc, rule, u64::from(at), name))
     } else {
         Ok(())
     }

@@ -3,38 +3,23 @@ ghost use Rattle.std.specs.Prelude.{◌≡◌, ◌<◌, ⊤, drop, true, option_
 ghost use Rattle.pw_tree.specs.Phrases.{phrase_of};
 ghost use Rattle.pw_tree.specs.Placed as placed;
 ghost use Rattle.pw_tree.specs.Statements as statement;
-ghost use Rattle.pw_types.specs.Faults as faults;
 ghost use Rattle.pw_types.specs.Faults.{Judges};
 ghost use Rattle.pw_types.specs.Statements.{faults_of_name};
-ghost use Rattle.pw_types.specs.CheckingStatements.{Fails, Finishes, block_of, outcome_at, place_of};
+ghost use Rattle.pw_types.specs.CheckingStatements.{Finishes, block_of, outcome_at, place_of};
 ghost use Rattle.pw_types.specs.StatementValues.{Declares};
 
-use crate::fault::{Fault, Stop};
+use crate::fault::Stop;
 use crate::names::Local;
+use crate::refuse::{broken, broken_by};
 use crate::reserved::is_reserved;
 use crate::role::Role;
 use crate::rule::Rule;
 use crate::scope::has_local;
-use crate::statement_simple::broken;
 use crate::statement_step::{Setting, Span};
 use crate::statement_walk::Walk;
 use pw_base::{Limits, Name, NoMemory};
 use pw_tree::{Expr, TStmt, Ty};
 use std::alloc::Global;
-
-/// The fault at a token, which is about a name.
-pub(crate) fn broken_by(alloc: Global, rule: Rule, at: u64, name: &Name) -> Stop
-    ensures { Fails (faults.broken_by rule at name.now true) result }
-{
-    match name.copy(alloc) {
-        Ok(name) => Stop::Fault(Fault {
-            rule,
-            at,
-            name: Some(name),
-        }),
-        Err(_) => Stop::NoMemory,
-    }
-}
 
 /// The locals from this one on.
 fn own_locals(locals: &[Local], start: usize) -> &[Local]

@@ -6,7 +6,8 @@ ghost use Rattle.pw_tree.specs.Commands.{command_of};
 ghost use Rattle.pw_types.specs.Faults.{Judges, broken};
 ghost use Rattle.pw_types.specs.CheckingStatements.{Finishes, outcome_at, judged_at, place_of};
 
-use crate::fault::{Fault, Stop};
+use crate::fault::Stop;
+use crate::refuse::broken;
 use crate::role::Role;
 use crate::rule::Rule;
 use crate::statement_step::{Setting, Span};
@@ -14,17 +15,6 @@ use crate::statement_walk::Walk;
 use crate::types::{converts, is_void};
 use pw_tree::{Expr, TStmt};
 use sqlite_items::Items;
-
-/// The fault at a token, which is about no name.
-pub(crate) fn broken(rule: Rule, at: u64) -> Stop
-    ensures { result ≡ Stop.Fault (record { rule = rule; at = at; name = None }) }
-{
-    Stop::Fault(Fault {
-        rule,
-        at,
-        name: None,
-    })
-}
 
 /// `;`
 #[tactic(auto, using(crate::proofs::SimpleStatements::empty_is), unfolding(crate::specs::Statements::faults_by))]

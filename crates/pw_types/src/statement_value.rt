@@ -5,7 +5,8 @@ ghost use Rattle.pw_types.specs.Faults.{Judges, broken};
 ghost use Rattle.pw_types.specs.StatementValues.{JudgesWhole, JudgesValue, JudgesMaybeValue, Notes};
 
 use crate::expression::judge;
-use crate::fault::{Fault, Stop};
+use crate::fault::Stop;
+use crate::refuse::broken;
 use crate::role::Role;
 use crate::rule::Rule;
 use crate::statement_walk::Walk;
@@ -18,11 +19,7 @@ impl<'a> Walk<'a> {
         ensures { Judges (broken Rule.TooDeep at (nat_lt 100 held)) (λ _. self.new ≡ record self.old { held = max self.old.held held }) result }
     {
         if held > Limits::HELD_VALUES {
-            return Err(Stop::Fault(Fault {
-                rule: Rule::TooDeep,
-                at,
-                name: None,
-            }));
+            return Err(broken(Rule::TooDeep, at));
         }
         self.held = self.held.max(held);
         Ok(())

@@ -21,9 +21,9 @@ use pw_tree::{Decl, DeclKind, TUnit, Unit};
 use std::alloc::Global;
 
 /// The names of the functions that these declarations define.
-#[tactic(auto, unfolding(crate::specs::Units::functions_of))]
+#[tactic(auto, using(crate::proofs::UnitNames::joined_once), unfolding(crate::proofs::UnitNames::joined_all))]
 fn functions_of(alloc: Global, decls: &[Decl]) -> Result<Names, NoMemory>
-    ensures { IfOk result (λ names. names ≡ spec.functions_of [] (map declaration_of decls.now)) }
+    ensures { IfOk result (λ names. names ≡ spec.functions_of (map declaration_of decls.now)) }
 {
     let mut names = Names::new(alloc);
     let mut rest = decls;
@@ -38,9 +38,9 @@ fn functions_of(alloc: Global, decls: &[Decl]) -> Result<Names, NoMemory>
 }
 
 /// The names of the variables that these declarations define.
-#[tactic(auto, unfolding(crate::specs::Units::variables_of))]
+#[tactic(auto, using(crate::proofs::UnitNames::joined_once), unfolding(crate::proofs::UnitNames::joined_all))]
 fn variables_of(alloc: Global, decls: &[Decl]) -> Result<Names, NoMemory>
-    ensures { IfOk result (λ names. names ≡ spec.variables_of [] (map declaration_of decls.now)) }
+    ensures { IfOk result (λ names. names ≡ spec.variables_of (map declaration_of decls.now)) }
 {
     let mut names = Names::new(alloc);
     let mut rest = decls;

@@ -1,4 +1,4 @@
-use Rattle.std.proofs.Common.{refl, ap}
+use Rattle.std.proofs.Common.{refl}
 use Rattle.pw_types.specs.Declarations.{setting}
 use Rattle.pw_types.proofs.StatementSequences.{judged_body}
 use Rattle.pw_types.proofs.statement.judge_body.Goals as goal

@@ -1,11 +1,13 @@
 -- What is left adds the names that are missing.
-use Rattle.std.proofs.Common.{◌≡◌, [], map, length}
+use Rattle.std.proofs.Common.{◌≡◌, map, length}
 use Rattle.pw_tree.specs.Declarations.{declaration_of}
-use Rattle.pw_types.specs.Units.{functions_of}
+use Rattle.std.specs.List.{flat_map}
+use Rattle.pw_types.specs.Units.{function_in, functions_of}
+use Rattle.pw_types.proofs.UnitNames.{joined_all}
 use Rattle.pw_types.proofs.unit.functions_of.Given as goal
 
 abbrev pub invariant-loop-rest : goal.invariant-loop-rest
-invariant-loop-rest l = functions_of [] (map declaration_of l.decls) ≡ functions_of l.names (map declaration_of l.rest)
+invariant-loop-rest l = functions_of (map declaration_of l.decls) ≡ joined_all l.names (flat_map function_in (map declaration_of l.rest))
 
 abbrev pub decreases-loop-rest : goal.decreases-loop-rest
 decreases-loop-rest l = length l.rest

@@ -1,4 +1,4 @@
-use Rattle.std.proofs.Common.{lit<, arith, sym, ◌∙◌, subst, ℕ, ◌<◌, ◌≡◌, ap}
+use Rattle.std.proofs.Common.{lit<, sym, ◌∙◌, subst, ◌<◌, ap}
 use Rattle.pw_tree.specs.Statements.{Statement}
 use Rattle.pw_types.specs.CheckingStatements.{outcome_at}
 use Rattle.pw_types.specs.StatementWeights.{weight, weight_of_step}

@@ -1,5 +1,3 @@
-use Rattle.std.proofs.Common.{◌≡◌, [], Some, ap, sym, ◌∙◌}
-use Rattle.pw_types.specs.StatementTargets.{IsTarget}
 use Rattle.pw_types.proofs.Assigning.{sets_local, sets_variable}
 use Rattle.pw_types.proofs.statement_walk.Walk.set.Goals as goal
 
