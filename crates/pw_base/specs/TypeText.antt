@@ -1,6 +1,7 @@
 -- What the text of a type is, and what reading one answers.
 use Rattle.std.specs.Prelude.{◌≡◌, ℕ, ◌≤◌, Bool, true, ◌||◌, nat_eq, ◌⊎◌, List, [], ◌∷◌, ◌++◌, length, Option, Some, None, Result, Ok, Err, codes, decimal}
 use Rattle.std.specs.List.{list_all}
+use Rattle.pw_base.specs.Limits.{parameters, array_elements}
 use Rattle.pw_base.specs.Name.{is_from}
 use Rattle.pw_base.specs.declared.no_memory.NoMemory.{NoMemory}
 
@@ -25,14 +26,14 @@ pub record IsFunctionText (bytes : List ℕ) : Type 0 where
   pub spelled : bytes ≡ result ∷ codes "(" ++ params ++ codes ")"
   pub typed : is_type_letter result ≡ true
   pub valued : list_all is_value_letter params ≡ true
-  pub few : length params ≤ 6
+  pub few : length params ≤ parameters
 
 -- the size of an array, from 1 to 65536, in decimal
 pub record IsSize (digits : List ℕ) : Type 0 where
   pub size : ℕ
   pub spelled : digits ≡ decimal size
   pub some : 1 ≤ size
-  pub within : size ≤ 65536
+  pub within : size ≤ array_elements
 
 -- an array's: its element's letter, which is not void's, and in brackets its size, as `l[16]`
 pub record IsArrayText (bytes : List ℕ) : Type 0 where
