@@ -7,9 +7,9 @@ use Rattle.pw_first.specs.declared.writer.Writer.{Writer}
 use Rattle.pw_code.specs.Scheme.{HasSmallNumbers}
 use Rattle.pw_code.proofs.CodeWords.{size-function}
 use Rattle.pw_hart.specs.declared.ends.End.TheVariants.{Exit}
-use Rattle.pw_hart.specs.State.{State}
-use Rattle.pw_hart.specs.Run.{Outcome, run}
-use Rattle.pw_agree.specs.Image.{text_start, stack_start, stack_len, function_size, all_words, main_of, main_address, CanPlace}
+use Rattle.pw_hart.specs.State.{MachineState}
+use Rattle.pw_hart.specs.Run.{RunResult, run}
+use Rattle.pw_agree.specs.Image.{text_start, stack_start, stack_len, function_size, all_words, main_writer, main_address, CanPlace}
 use Rattle.pw_agree.specs.Start.{start}
 use Rattle.pw_agree.specs.KeptCode.{IsAmong, LiesInKeptCode}
 use Rattle.pw_agree.specs.Agreement.{KeepsText, RunsAsMeant, RunsOfImagesAreMeant, LimitsSuffice}
@@ -39,20 +39,20 @@ write_all-input : (ds : List ℕ) (st : Source) → (write_all ds st).input ≡ 
 write_all-input [] st = refl
 write_all-input (d ∷ ds) st = write_all-input ds (write d st)
 
-lies_by : (funs : List Writer) (main : Writer) → main_of funs ≡ Some main → (at : ℕ) → IsAmong text_start 6 at ⊎ IsAmong (main_address funs) (function_size main) at → LiesInKeptCode funs at
+lies_by : (funs : List Writer) (main : Writer) → main_writer funs ≡ Some main → (at : ℕ) → IsAmong text_start 6 at ⊎ IsAmong (main_address funs) (function_size main) at → LiesInKeptCode funs at
 lies_by funs main has at (inl a) = inl a
 lies_by funs main has at (inr a) = inr (record { number = number funs main has; function = main; there = main_there funs main has; kept = main_kept funs main has; within = a })
 
 -- an address of the code lies in kept code
-lies : (funs : List Writer) (main : Writer) → main_of funs ≡ Some main → (at : ℕ) → IsCode (code_of funs main) at → LiesInKeptCode funs at
+lies : (funs : List Writer) (main : Writer) → main_writer funs ≡ Some main → (at : ℕ) → IsCode (code_of funs main) at → LiesInKeptCode funs at
 lies funs main has at h = lies_by funs main has at (kept_where funs main at (in_code funs main at h.inst h.there).kept)
 
-all_lie : (funs : List Writer) (main : Writer) → main_of funs ≡ Some main → (ps : List ℕ) → AllByRecursion (IsCode (code_of funs main)) ps → AllByRecursion (LiesInKeptCode funs) ps
+all_lie : (funs : List Writer) (main : Writer) → main_writer funs ≡ Some main → (ps : List ℕ) → AllByRecursion (IsCode (code_of funs main)) ps → AllByRecursion (LiesInKeptCode funs) ps
 all_lie funs main has [] h = tt
 all_lie funs main has (p ∷ ps) h = (lies funs main has p h.0, all_lie funs main has ps h.1)
 
 -- what is fetched is at most all words
-few_words : (funs : List Writer) (main : Writer) → main_of funs ≡ Some main → 16 + 3 * length main.outs ≤ all_words funs
+few_words : (funs : List Writer) (main : Writer) → main_writer funs ≡ Some main → 16 + 3 * length main.outs ≤ all_words funs
 few_words funs main has = fits (all_words (before funs main has)) (function_size main) (length main.outs) (all_words funs) (size-function main) (entry_first _) (main_within funs main has)
   where
     fits : (front size k all : ℕ) → size ≡ 15 + 3 * k → 6 ≤ front → front + size ≤ all → 16 + 3 * k ≤ all
@@ -76,7 +76,7 @@ frame funs main = record { room = lit≤ tt; in_it = record { from = lit≤ tt; 
 abbrev begun : (left : ℕ) (input so_far : List ℕ) → Source
 begun left input so_far = record { output = so_far; input = input; calls = 0; steps = suc left }
 
-module _ (funs : List Writer) (main : Writer) (has : main_of funs ≡ Some main) (can : CanPlace funs) where
+module _ (funs : List Writer) (main : Writer) (has : main_writer funs ≡ Some main) (can : CanPlace funs) where
   numbers : HasSmallNumbers main
   numbers = all_at HasSmallNumbers funs (number funs main has) main (recursion_from_All HasSmallNumbers funs can.small) (main_there funs main has)
 
@@ -104,11 +104,11 @@ module _ (funs : List Writer) (main : Writer) (has : main_of funs ≡ Some main)
 
   runs : (left limit : ℕ) (input so_far : List ℕ) → 16 + 3 * length main.outs ≤ limit → RunsAsMeant funs main input so_far (run limit (start funs (suc left) input so_far))
   runs left limit input so_far enough =
-      let s : State = start funs (suc left) input so_far in
+      let s : MachineState = start funs (suc left) input so_far in
       let x = ends left input so_far in
       let r = x.reaches in
       let count : length r.ps ≡ 15 + 3 * length main.outs = let c = r.count in omega arith in
-      let o : Outcome = record { end = Exit main.ret; state = x.last; fetched = r.ps ++ (x.last.pc ∷ []) } in
+      let o : RunResult = record { end = Exit main.ret; state = x.last; fetched = r.ps ++ (x.last.pc ∷ []) } in
       let is : run limit s ≡ o = run_to_end s x.last x.last r.ps (Exit main.ret) limit r.path x.ends (omega arith) in
       let size : length (r.ps ++ (x.last.pc ∷ [])) ≡ 16 + 3 * length main.outs = omega (arith, length-append r.ps (x.last.pc ∷ []), count) in
       subst (λ q. RunsAsMeant funs main input so_far q) (sym is) (record {

@@ -11,7 +11,7 @@ use Rattle.pw_hart.specs.declared.ends.End.{End}
 use Rattle.pw_hart.specs.declared.ends.End.TheVariants.{Checked}
 use Rattle.pw_hart.specs.Bits.{bits64}
 use Rattle.pw_hart.specs.Integer.{add}
-use Rattle.pw_hart.specs.State.{State, Ends, set, goes_on}
+use Rattle.pw_hart.specs.State.{MachineState, Ends, set, goes_on}
 use Rattle.pw_hart.specs.Exec.{effective}
 use Rattle.pw_hart.specs.Run.{step}
 use Rattle.pw_agree.proofs.Reach.{Reaches, IsCode}
@@ -42,20 +42,20 @@ abbrev pub EndsBy : Why → End → Type 0
 EndsBy (Depth line) end = (pc : ℕ) × (end ≡ Checked 4 line pc)
 
 -- a stretch of a run that ends the run
-pub record Halts (w : World) (own : ℕ) (why : Why) (st : Source) (s : State) : Type 0 where
-  pub last : State
+pub record Halts (w : World) (own : ℕ) (why : Why) (st : Source) (s : MachineState) : Type 0 where
+  pub last : MachineState
   pub n : ℕ
   pub reaches : Reaches w.code w.reach n own s last
   pub here : IsCode w.code last.pc
   pub end : End
-  pub after : State
+  pub after : MachineState
   pub ends : step last ≡ Ends end after
   pub because : EndsBy why end
   pub input : after.input ≡ st.input
   pub output : after.output ≡ st.output
 
 -- the machine does what the source's call gives
-abbrev pub Meets : World → (ℕ → Type 0) → (sp n own to : ℕ) → Res → State → Type 0
+abbrev pub Meets : World → (ℕ → Type 0) → (sp n own to : ℕ) → Res → MachineState → Type 0
 Meets w K sp n own to (Val v st) s = Gives w K sp n own to v st s
 Meets w K sp n own to (Stopped why st) s = Halts w own why st s
 
@@ -65,9 +65,9 @@ pub record HasFrame (w : World) (sp : ℕ) : Type 0 where
   pub in_it : InStack w (sp - 16)
 
 -- the frame of a call is open: the return address is saved in it
-pub record Opened (w : World) (K : ℕ → Type 0) (sp c : ℕ) (st : Source) (s : State) : Type 0 where
+pub record Opened (w : World) (K : ℕ → Type 0) (sp c : ℕ) (st : Source) (s : MachineState) : Type 0 where
   pub lands : Lands w K (sp - 16) 4 8 (s.pc + 32) (record st { calls = c }) s
-  pub saved : Words.word lands.end.mem (sp - 16) ≡ Some (s.x 1)
+  pub saved : Words.doubleword lands.end.mem (sp - 16) ≡ Some (s.x 1)
 
 -- outputs have three words each
 size-outputs : (ds : List ℕ) → size (flat_map output ds) ≡ 3 * length ds
@@ -80,7 +80,7 @@ write_all-calls [] st = refl
 write_all-calls (d ∷ ds) st = write_all-calls ds (write d st)
 
 module _ (w : World) (apart : IsApart w) (sp : ℕ) (frame : HasFrame w sp) where
-  opens : (st : Source) (s : State) (c line : ℕ) → At w sp st s → st.calls ≡ suc c → s.x 1 < 2 ^ 64 → HasAt w.code w.slot s.pc (checks_depth line ++ opens_frame) → Opened w (λ a. sp ≤ a) sp c st s
+  opens : (st : Source) (s : MachineState) (c line : ℕ) → At w sp st s → st.calls ≡ suc c → s.x 1 < 2 ^ 64 → HasAt w.code w.slot s.pc (checks_depth line ++ opens_frame) → Opened w (λ a. sp ≤ a) sp c st s
   opens st s c line a calls fits code =
       let alive = a.alive in
       let top = apart.stack_low in
@@ -88,21 +88,21 @@ module _ (w : World) (apart : IsApart w) (sp : ℕ) (frame : HasFrame w sp) wher
       let room = frame.room in
       let nine : s.x 9 ≡ suc c = a.calls ∙ calls in
       let even = apart.code_even s.pc (Bne 9 0 (pos 20)) code.0 in
-      let s1 : State = record s { pc = s.pc + 20 } in
+      let s1 : MachineState = record s { pc = s.pc + 20 } in
       let go1 : Moves w s s1 = moves_past w apart s 9 20 a.ready code.0 (omega arith) (omega arith) (omega arith) (omega arith) in
       let at1 : s.pc + 4 + 4 + 4 + 4 + 4 ≡ s.pc + 20 = omega arith in
       let code1 = subst (λ p. HasAt w.code w.slot p opens_frame) at1 code.1.1.1.1.1 in
       let less : add (s.x 9) (bits64 (negsuc 0)) ≡ c = omega arith in
-      let s2 : State = record s1 { x = set s1.x 9 c; pc = s1.pc + 4 } in
+      let s2 : MachineState = record s1 { x = set s1.x 9 c; pc = s1.pc + 4 } in
       let go2 : Moves w s1 s2 = moves_on w apart s1 (Addi 9 9 (negsuc 0)) (set s1.x 9 c) a.ready code1.0 (ap (λ v. goes_on (set s1.x 9 v) s1) less) in
       let down : add (s.x 2) (bits64 (negsuc 15)) ≡ sp - 16 = let two = a.stack in omega arith in
-      let s3 : State = record s2 { x = set s2.x 2 (sp - 16); pc = s2.pc + 4 } in
+      let s3 : MachineState = record s2 { x = set s2.x 2 (sp - 16); pc = s2.pc + 4 } in
       let go3 : Moves w s2 s3 = moves_on w apart s2 (Addi 2 2 (negsuc 15)) (set s2.x 2 (sp - 16)) a.ready code1.1.0 (ap (λ v. goes_on (set s2.x 2 v) s2) down) in
       let place : effective 2 (pos 0) s3 ≡ sp - 16 = omega arith in
       let was = a.ready.stack (sp - 16) frame.in_it.from frame.in_it.to frame.in_it.even in
       let m = Words.put_word s.mem (sp - 16) (s.x 1) in
-      let s4 : State = record s3 { mem = m; pc = s3.pc + 4 } in
-      let stores = moves_store w apart s3 2 1 (pos 0) was.value a.ready code1.1.1.0 (subst (λ p. Words.word s.mem p ≡ Some was.value) (sym place) was.is) in
+      let s4 : MachineState = record s3 { mem = m; pc = s3.pc + 4 } in
+      let stores = moves_store w apart s3 2 1 (pos 0) was.value a.ready code1.1.1.0 (subst (λ p. Words.doubleword s.mem p ≡ Some was.value) (sym place) was.is) in
       let go4 : Moves w s3 s4 = subst (λ p. Moves w s3 (record s3 { mem = Words.put_word s3.mem p (s.x 1); pc = s3.pc + 4 })) place stores in
       record {
         lands = record {
@@ -116,7 +116,7 @@ module _ (w : World) (apart : IsApart w) (sp : ℕ) (frame : HasFrame w sp) wher
       }
 
   -- the frame is left, the call given back, and the run goes on at the saved address
-  closes : (K : ℕ → Type 0) (st : Source) (s : State) (c v to : ℕ) → At w (sp - 16) st s → st.calls ≡ c → suc c ≤ 1000 → s.x 10 ≡ v → Words.word s.mem (sp - 16) ≡ Some to → to % 4 ≡ 0 → to < 2 ^ 64 → HasAt w.code w.slot s.pc closes_frame → Gives w K sp 4 4 to v (record st { calls = suc c }) s
+  closes : (K : ℕ → Type 0) (st : Source) (s : MachineState) (c v to : ℕ) → At w (sp - 16) st s → st.calls ≡ c → suc c ≤ 1000 → s.x 10 ≡ v → Words.doubleword s.mem (sp - 16) ≡ Some to → to % 4 ≡ 0 → to < 2 ^ 64 → HasAt w.code w.slot s.pc closes_frame → Gives w K sp 4 4 to v (record st { calls = suc c }) s
   closes K st s c v to a calls alive value saved even fits code =
       let top = apart.stack_low in
       let frame_to = frame.in_it.to in
@@ -124,15 +124,15 @@ module _ (w : World) (apart : IsApart w) (sp : ℕ) (frame : HasFrame w sp) wher
       let two = a.stack in
       let nine : s.x 9 ≡ c = a.calls ∙ calls in
       let place : effective 2 (pos 0) s ≡ sp - 16 = omega arith in
-      let s1 : State = record s { x = set s.x 1 to; pc = s.pc + 4 } in
-      let go1 : Moves w s s1 = moves_load w apart s 1 2 (pos 0) to a.ready code.0 (subst (λ p. Words.word s.mem p ≡ Some to) (sym place) saved) in
+      let s1 : MachineState = record s { x = set s.x 1 to; pc = s.pc + 4 } in
+      let go1 : Moves w s s1 = moves_load w apart s 1 2 (pos 0) to a.ready code.0 (subst (λ p. Words.doubleword s.mem p ≡ Some to) (sym place) saved) in
       let up : add (s.x 2) (bits64 (pos 16)) ≡ sp = omega arith in
-      let s2 : State = record s1 { x = set s1.x 2 sp; pc = s1.pc + 4 } in
+      let s2 : MachineState = record s1 { x = set s1.x 2 sp; pc = s1.pc + 4 } in
       let go2 : Moves w s1 s2 = moves_on w apart s1 (Addi 2 2 (pos 16)) (set s1.x 2 sp) a.ready code.1.0 (ap (λ k. goes_on (set s1.x 2 k) s1) up) in
       let more : add (s.x 9) (bits64 (pos 1)) ≡ suc c = omega arith in
-      let s3 : State = record s2 { x = set s2.x 9 (suc c); pc = s2.pc + 4 } in
+      let s3 : MachineState = record s2 { x = set s2.x 9 (suc c); pc = s2.pc + 4 } in
       let go3 : Moves w s2 s3 = moves_on w apart s2 (Addi 9 9 (pos 1)) (set s2.x 9 (suc c)) a.ready code.1.1.0 (ap (λ k. goes_on (set s2.x 9 k) s2) more) in
-      let s4 : State = record s3 { pc = to } in
+      let s4 : MachineState = record s3 { pc = to } in
       let go4 : Moves w s3 s4 = moves_back w apart s3 1 to a.ready code.1.1.1.0 refl even fits in
       record {
         lands = record {
@@ -146,16 +146,16 @@ module _ (w : World) (apart : IsApart w) (sp : ℕ) (frame : HasFrame w sp) wher
       }
 
   -- no call is left
-  faults : (st : Source) (s : State) (line : ℕ) → line ≤ 2047 → At w sp st s → st.calls ≡ 0 → HasAt w.code w.slot s.pc (checks_depth line) → Halts w 4 (Depth line) st s
+  faults : (st : Source) (s : MachineState) (line : ℕ) → line ≤ 2047 → At w sp st s → st.calls ≡ 0 → HasAt w.code w.slot s.pc (checks_depth line) → Halts w 4 (Depth line) st s
   faults st s line fits a calls code =
       let nine : s.x 9 ≡ 0 = a.calls ∙ calls in
-      let s1 : State = record s { pc = s.pc + 4 } in
+      let s1 : MachineState = record s { pc = s.pc + 4 } in
       let go1 : Moves w s s1 = moves_into w apart s 9 20 a.ready code.0 nine in
-      let s2 : State = record s1 { x = set s1.x 10 4; pc = s1.pc + 4 } in
+      let s2 : MachineState = record s1 { x = set s1.x 10 4; pc = s1.pc + 4 } in
       let go2 : Moves w s1 s2 = moves_on w apart s1 (Addi 10 0 (pos 4)) (set s1.x 10 4) a.ready code.1.0 refl in
-      let s3 : State = record s2 { x = set s2.x 11 line; pc = s2.pc + 4 } in
+      let s3 : MachineState = record s2 { x = set s2.x 11 line; pc = s2.pc + 4 } in
       let go3 : Moves w s2 s3 = moves_on w apart s2 (Addi 11 0 (pos line)) (set s2.x 11 line) a.ready code.1.1.0 (ap (λ v. goes_on (set s2.x 11 v) s2) (small line fits)) in
-      let s4 : State = record s3 { x = set s3.x 17 1026; pc = s3.pc + 4 } in
+      let s4 : MachineState = record s3 { x = set s3.x 17 1026; pc = s3.pc + 4 } in
       let go4 : Moves w s3 s4 = moves_on w apart s3 (Addi 17 0 (pos 1026)) (set s3.x 17 1026) a.ready code.1.1.1.0 refl in
       record {
         last = s4;
@@ -171,7 +171,7 @@ module _ (w : World) (apart : IsApart w) (sp : ℕ) (frame : HasFrame w sp) wher
       }
 
   -- a function with a call left
-  call_runs_on : (f : Writer) (st : Source) (s : State) (c : ℕ) → HasSmallNumbers f → At w sp st s → st.calls ≡ suc c → s.x 1 % 4 ≡ 0 → s.x 1 < 2 ^ 64 → HasAt w.code w.slot s.pc (function_items f) → Gives w (λ a. sp ≤ a) sp (10 + 3 * length f.outs) (15 + 3 * length f.outs) (s.x 1) f.ret (record (write_all f.outs (record st { calls = c })) { calls = suc c }) s
+  call_runs_on : (f : Writer) (st : Source) (s : MachineState) (c : ℕ) → HasSmallNumbers f → At w sp st s → st.calls ≡ suc c → s.x 1 % 4 ≡ 0 → s.x 1 < 2 ^ 64 → HasAt w.code w.slot s.pc (function_items f) → Gives w (λ a. sp ≤ a) sp (10 + 3 * length f.outs) (15 + 3 * length f.outs) (s.x 1) f.ret (record (write_all f.outs (record st { calls = c })) { calls = suc c }) s
   call_runs_on f st s c numbers a calls even fits code =
       let K : ℕ → Type 0 = λ b. sp ≤ b in
       let Kb : ℕ → Type 0 = λ b. sp - 16 ≤ b in
@@ -216,7 +216,7 @@ module _ (w : World) (apart : IsApart w) (sp : ℕ) (frame : HasFrame w sp) wher
       }
 
   -- what a call does, with calls left or with none
-  call_runs_by : (f : Writer) (st : Source) (s : State) (c : ℕ) → HasSmallNumbers f → At w sp st s → st.calls ≡ c → s.x 1 % 4 ≡ 0 → s.x 1 < 2 ^ 64 → HasAt w.code w.slot s.pc (function_items f) → Meets w (λ a. sp ≤ a) sp (10 + 3 * length f.outs) (15 + 3 * length f.outs) (s.x 1) (called f c st) s
+  call_runs_by : (f : Writer) (st : Source) (s : MachineState) (c : ℕ) → HasSmallNumbers f → At w sp st s → st.calls ≡ c → s.x 1 % 4 ≡ 0 → s.x 1 < 2 ^ 64 → HasAt w.code w.slot s.pc (function_items f) → Meets w (λ a. sp ≤ a) sp (10 + 3 * length f.outs) (15 + 3 * length f.outs) (s.x 1) (called f c st) s
   call_runs_by f st s zero numbers a calls even fits code =
       let h = faults st s f.line numbers.line a calls (has_front w.code w.slot s.pc (checks_depth f.line) (opens_frame ++ (flat_map output f.outs ++ (returns f.ret ++ (falls_off ++ closes_frame)))) code) in
       record {
@@ -234,5 +234,5 @@ module _ (w : World) (apart : IsApart w) (sp : ℕ) (frame : HasFrame w sp) wher
   call_runs_by f st s (suc c) numbers a calls even fits code = call_runs_on f st s c numbers a calls even fits code
 
   -- The machine does what the source's call of a function gives, from every state that agrees.
-  pub call_runs : (f : Writer) (st : Source) (s : State) → HasSmallNumbers f → At w sp st s → s.x 1 % 4 ≡ 0 → s.x 1 < 2 ^ 64 → HasAt w.code w.slot s.pc (function_items f) → Meets w (λ a. sp ≤ a) sp (10 + 3 * length f.outs) (15 + 3 * length f.outs) (s.x 1) (call_of f st) s
+  pub call_runs : (f : Writer) (st : Source) (s : MachineState) → HasSmallNumbers f → At w sp st s → s.x 1 % 4 ≡ 0 → s.x 1 < 2 ^ 64 → HasAt w.code w.slot s.pc (function_items f) → Meets w (λ a. sp ≤ a) sp (10 + 3 * length f.outs) (15 + 3 * length f.outs) (s.x 1) (call_of f st) s
   call_runs f st s numbers a even fits code = call_runs_by f st s st.calls numbers a refl even fits code

@@ -8,7 +8,7 @@ use Rattle.std.proofs.lemmas.List.Sums.{sum_by-append, sum_by-cons}
 use Rattle.std.proofs.lemmas.Grind.{flat_map-append}
 use Rattle.pw_first.specs.declared.writer.Writer.{Writer}
 use Rattle.pw_code.specs.Scheme.{function_items, words, entry_words}
-use Rattle.pw_agree.specs.Image.{text_start, data_start, function_size, all_words, is_kept, main_of, image_words, text_words}
+use Rattle.pw_agree.specs.Image.{text_start, data_start, function_size, all_words, is_kept, main_writer, image_words, text_words}
 use Rattle.pw_agree.proofs.Sizes.{length-text_words}
 
 -- what is found passes the test
@@ -26,7 +26,7 @@ cut_at [] i x h = cc
 cut_at (y ∷ xs) zero x h = let same : y ≡ x = cc in ap (λ z. z ∷ xs) same
 cut_at (y ∷ xs) (suc i) x h = ap (λ zs. y ∷ zs) (cut_at xs i x h)
 
-module _ (funs : List Writer) (main : Writer) (has : main_of funs ≡ Some main) where
+module _ (funs : List Writer) (main : Writer) (has : main_writer funs ≡ Some main) where
   -- how many functions stand before it
   abbrev pub number : ℕ
   number = prefix_len (λ f. not (is_kept f)) funs

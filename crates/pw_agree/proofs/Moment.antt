@@ -22,7 +22,7 @@ pub record Fetches (m : Mem) (at : ℕ) (i : Inst) : Type 0 where
 -- an address has a word
 pub record HasSomeWord (m : Mem) (at : ℕ) : Type 0 where
   pub value : ℕ
-  pub is : Words.word m at ≡ Some value
+  pub is : Words.doubleword m at ≡ Some value
 
 -- a place where a pair of instructions brings what a slot holds
 pub record Brings (code : ℕ → Option Inst) (at rd slot : ℕ) : Type 0 where
@@ -74,12 +74,12 @@ pub record IsApart (w : World) : Type 0 where
 pub record Ready (w : World) (m : Mem) : Type 0 where
   pub sealed : m.sealed ≡ true
   pub text : (at : ℕ) (i : Inst) → w.code at ≡ Some i → Fetches m at i
-  pub slots : (name : List ℕ) → w.is_slot name ≡ true → Words.word m (w.slot name) ≡ Some (w.holds name)
+  pub slots : (name : List ℕ) → w.is_slot name ≡ true → Words.doubleword m (w.slot name) ≡ Some (w.holds name)
   pub stack : (at : ℕ) → w.low ≤ at → at + 8 ≤ w.high → at % 8 ≡ 0 → HasSomeWord m at
 
 -- the words at some addresses are as they were
 abbrev pub Keeps : (ℕ → Type 0) → Mem → Mem → Type 0
-Keeps K m n = (at : ℕ) → K at → Words.word n at ≡ Words.word m at
+Keeps K m n = (at : ℕ) → K at → Words.doubleword n at ≡ Words.doubleword m at
 
 -- an aligned address of the stack
 pub record InStack (w : World) (at : ℕ) : Type 0 where
@@ -90,8 +90,8 @@ pub record InStack (w : World) (at : ℕ) : Type 0 where
 fetches_same : (m n : Mem) (at : ℕ) (i : Inst) → fetch n at ≡ fetch m at → Fetches m at i → Fetches n at i
 fetches_same m n at i e h = record { value = h.value; fetched = e ∙ h.fetched; reads = h.reads }
 
-stack_after : (m : Mem) (a v x at : ℕ) → x < 2 ^ 64 → Words.word m a ≡ Some v → HasSomeWord m at → (t : Bool) → eqb a at ≡ t → HasSomeWord (Words.put_word m a x) at
-stack_after m a v x at small h was true e = let same : a ≡ at = grind (arith, nat_tests) in record { value = x; is = subst (λ b. Words.word (Words.put_word m a x) b ≡ Some x) same (word-put_same m a v x small h) }
+stack_after : (m : Mem) (a v x at : ℕ) → x < 2 ^ 64 → Words.doubleword m a ≡ Some v → HasSomeWord m at → (t : Bool) → eqb a at ≡ t → HasSomeWord (Words.put_word m a x) at
+stack_after m a v x at small h was true e = let same : a ≡ at = grind (arith, nat_tests) in record { value = x; is = subst (λ b. Words.doubleword (Words.put_word m a x) b ≡ Some x) same (word-put_same m a v x small h) }
 stack_after m a v x at small h was false e = let apart : a ≢ at = grind (arith, nat_tests) in record { value = was.value; is = word-put_other m a at v x h apart ∙ was.is }
 
 -- a word stored in the stack leaves the memory ready

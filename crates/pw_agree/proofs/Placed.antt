@@ -14,7 +14,7 @@ use Rattle.pw_mem.specs.declared.errors.Access.{Access}
 use Rattle.pw_mem.specs.Regions.{holds, region_at}
 use Rattle.pw_mem.specs.Memory.{Mem, fetch, zeros}
 use Rattle.pw_mem.proofs.Text.{fetch_word}
-use Rattle.pw_agree.specs.Image.{text_start, data_start, stack_start, stack_len, function_size, all_words, main_of, main_address, text_words, text_len, all_text, text_region, data_region, stack_region, image, CanPlace}
+use Rattle.pw_agree.specs.Image.{text_start, data_start, stack_start, stack_len, function_size, all_words, main_writer, main_address, text_words, text_len, all_text, text_region, data_region, stack_region, image, CanPlace}
 use Rattle.pw_agree.specs.KeptCode.{IsAmong}
 use Rattle.pw_agree.proofs.Sizes.{length-text_words, length-all_text}
 use Rattle.pw_agree.proofs.Found.{before, main_word, main_within}
@@ -125,7 +125,7 @@ placed code slot at place (word i ∷ items) s h =
     )
 placed code slot at place (address _ _ ∷ items) s h = absurd s
 
-module _ (funs : List Writer) (main : Writer) (has : main_of funs ≡ Some main) (can : CanPlace funs) where
+module _ (funs : List Writer) (main : Writer) (has : main_writer funs ≡ Some main) (can : CanPlace funs) where
   abbrev w : World
   w = world_of funs main
 

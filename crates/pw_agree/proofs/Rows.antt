@@ -5,7 +5,7 @@ use Rattle.pw_isa.specs.declared.instruction.Inst.TheVariants.{Addi, Ecall}
 use Rattle.pw_code.specs.Scheme.{output, returns}
 use Rattle.pw_hart.specs.Bits.{bits64}
 use Rattle.pw_hart.specs.Integer.{add}
-use Rattle.pw_hart.specs.State.{State, Goes, set, goes_on}
+use Rattle.pw_hart.specs.State.{MachineState, Goes, set, goes_on}
 use Rattle.pw_hart.specs.Exec.{exec}
 use Rattle.pw_agree.proofs.Reach.{reaches_here}
 use Rattle.pw_agree.proofs.Moment.{World, IsApart, HasAt, has_front, has_back}
@@ -27,13 +27,13 @@ small d h = omega arith
 
 module _ (w : World) (apart : IsApart w) (K : ℕ → Type 0) (sp : ℕ) where
   -- `__out ( D ) ;`
-  pub output_runs : (st : Source) (s : State) (d : ℕ) → d ≤ 2047 → At w sp st s → HasAt w.code w.slot s.pc (output d) → Lands w K sp 3 3 (s.pc + 12) (write d st) s
+  pub output_runs : (st : Source) (s : MachineState) (d : ℕ) → d ≤ 2047 → At w sp st s → HasAt w.code w.slot s.pc (output d) → Lands w K sp 3 3 (s.pc + 12) (write d st) s
   output_runs st s d fits a code =
-      let s1 : State = record s { x = set s.x 10 d; pc = s.pc + 4 } in
+      let s1 : MachineState = record s { x = set s.x 10 d; pc = s.pc + 4 } in
       let go1 : Moves w s s1 = moves_on w apart s (Addi 10 0 (pos d)) (set s.x 10 d) a.ready code.0 (ap (λ v. goes_on (set s.x 10 v) s) (small d fits)) in
-      let s2 : State = record s1 { x = set s1.x 17 1025; pc = s1.pc + 4 } in
+      let s2 : MachineState = record s1 { x = set s1.x 17 1025; pc = s1.pc + 4 } in
       let go2 : Moves w s1 s2 = moves_on w apart s1 (Addi 17 0 (pos 1025)) (set s1.x 17 1025) a.ready code.1.0 refl in
-      let s3 : State = record s2 { output = s2.output ++ (d % 256 ∷ []); pc = s2.pc + 4 } in
+      let s3 : MachineState = record s2 { output = s2.output ++ (d % 256 ∷ []); pc = s2.pc + 4 } in
       let does : exec Ecall s2 ≡ Goes s3 = ap (λ p. Goes (record s2 { output = s2.output ++ (d % 256 ∷ []); pc = p })) (following_is w apart s2 Ecall code.1.1.0) in
       let go3 : Moves w s2 s3 = record { here = record { inst = Ecall; there = code.1.1.0 }; goes = step_is w s2 Ecall a.ready code.1.1.0 ∙ does; same = refl } in
       record {
@@ -45,7 +45,7 @@ module _ (w : World) (apart : IsApart w) (K : ℕ → Type 0) (sp : ℕ) where
       }
 
   -- outputs, in order
-  pub outputs_run : (st : Source) (s : State) (ds : List ℕ) → AllByRecursion (λ d. d ≤ 2047) ds → At w sp st s → HasAt w.code w.slot s.pc (flat_map output ds) → Lands w K sp (3 * length ds) (3 * length ds) (s.pc + 12 * length ds) (write_all ds st) s
+  pub outputs_run : (st : Source) (s : MachineState) (ds : List ℕ) → AllByRecursion (λ d. d ≤ 2047) ds → At w sp st s → HasAt w.code w.slot s.pc (flat_map output ds) → Lands w K sp (3 * length ds) (3 * length ds) (s.pc + 12 * length ds) (write_all ds st) s
   outputs_run st s [] fits a code = record {
     end = s;
     reaches = reaches_here w.code w.reach s;
@@ -63,9 +63,9 @@ module _ (w : World) (apart : IsApart w) (K : ℕ → Type 0) (sp : ℕ) where
       (lands_then w K sp sp 3 (3 * length ds) 3 (3 * length ds) (s.pc + 12) (first.end.pc + 12 * length ds) (write d st) (write_all ds (write d st)) s first rest)
 
   -- `return D ;`
-  pub return_runs : (st : Source) (s : State) (d : ℕ) → d ≤ 2047 → At w sp st s → HasAt w.code w.slot s.pc (returns d) → Gives w K sp 2 2 (s.pc + 12) d st s
+  pub return_runs : (st : Source) (s : MachineState) (d : ℕ) → d ≤ 2047 → At w sp st s → HasAt w.code w.slot s.pc (returns d) → Gives w K sp 2 2 (s.pc + 12) d st s
   return_runs st s d fits a code =
-      let s1 : State = record s { x = set s.x 10 d; pc = s.pc + 4 } in
+      let s1 : MachineState = record s { x = set s.x 10 d; pc = s.pc + 4 } in
       let go1 : Moves w s s1 = moves_on w apart s (Addi 10 0 (pos d)) (set s.x 10 d) a.ready code.0 (ap (λ v. goes_on (set s.x 10 v) s) (small d fits)) in
       let go2 = moves_ahead w apart s1 8 a.ready code.1.0 (omega arith) (omega (arith, apart.code_even s.pc (Addi 10 0 (pos d)) code.0)) (omega arith) in
       record {

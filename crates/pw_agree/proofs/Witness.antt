@@ -8,7 +8,7 @@ use Rattle.pw_code.specs.Scheme.{HasSmallNumbers, entry_words}
 use Rattle.pw_mem.specs.Memory.{zeros}
 use Rattle.pw_hart.specs.declared.ends.End.TheVariants.{Exit}
 use Rattle.pw_hart.specs.Run.{run}
-use Rattle.pw_agree.specs.Image.{text_start, data_start, start_of, function_size, all_words, main_of, main_address, image_words, text_words, CanPlace}
+use Rattle.pw_agree.specs.Image.{text_start, data_start, start_of, function_size, all_words, main_writer, main_address, image_words, text_words, CanPlace}
 use Rattle.pw_agree.specs.Start.{start}
 use Rattle.pw_agree.specs.Meaning.{output_of}
 use Rattle.pw_agree.specs.Agreement.{RunsAsMeant}
@@ -36,7 +36,7 @@ main_small = record {
 can_place : CanPlace both
 can_place = record { small = All-cons HasSmallNumbers dead (main ∷ []) dead_small (All-cons HasSmallNumbers main [] main_small (All-nil HasSmallNumbers)); short = lit≤ tt }
 
-main_is : main_of both ≡ Some main
+main_is : main_writer both ≡ Some main
 main_is = refl
 
 -- the entry's six words, then 15 zeros, then the 21 words of `main`, whose address the slot holds

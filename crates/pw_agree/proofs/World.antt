@@ -10,7 +10,7 @@ use Rattle.pw_code.specs.Scheme.{entry_items}
 use Rattle.pw_mem.specs.Regions.{holds, region_at, bytes_at}
 use Rattle.pw_mem.specs.Memory.{zeros}
 use Rattle.pw_mem.specs.Words as Words
-use Rattle.pw_agree.specs.Image.{text_start, data_start, stack_start, stack_len, function_size, all_words, main_of, main_address, all_text, text_region, data_region, stack_region, image, CanPlace}
+use Rattle.pw_agree.specs.Image.{text_start, data_start, stack_start, stack_len, function_size, all_words, main_writer, main_address, all_text, text_region, data_region, stack_region, image, CanPlace}
 use Rattle.pw_agree.specs.KeptCode.{IsAmong}
 use Rattle.pw_agree.proofs.Sizes.{length-zeros}
 use Rattle.pw_agree.proofs.Moment.{IsApart, Ready, HasSomeWord, HasAt}
@@ -20,7 +20,7 @@ kept_below : (place count top at : ℕ) → place + 4 * count ≤ top → text_s
 kept_below place count top at h k (inl a) = let to = a.to in omega arith
 kept_below place count top at h k (inr a) = let to = a.to in omega arith
 
-module _ (funs : List Writer) (main : Writer) (has : main_of funs ≡ Some main) (can : CanPlace funs) where
+module _ (funs : List Writer) (main : Writer) (has : main_writer funs ≡ Some main) (can : CanPlace funs) where
   text_below : text_start + 4 * all_words funs ≤ data_start
   text_below = let short = can.short in below (all_words funs) short
     where
@@ -60,7 +60,7 @@ module _ (funs : List Writer) (main : Writer) (has : main_of funs ≡ Some main)
       small : (at n top : ℕ) → at + 4 * n ≤ top → top ≤ data_start → at < 256 ^ 8
       small at n top h k = omega arith
 
-  slot_word : Words.word (image funs) data_start ≡ Some (main_address funs)
+  slot_word : Words.doubleword (image funs) data_start ≡ Some (main_address funs)
   slot_word = ap (λ r. Words.word_in true r data_start) slot_seen ∙ ap Some (le-le_bytes 8 (main_address funs) address_small)
 
   stack_seen : (at : ℕ) → stack_start ≤ at → at + 8 ≤ stack_start + stack_len → region_at (image funs).regions at 8 ≡ Some (stack_region (zeros stack_len))

@@ -3,9 +3,9 @@ use Rattle.std.specs.Prelude.{◌≡◌, ℕ, ◌+◌, ◌*◌, ◌≤◌, List,
 use Rattle.pw_first.specs.declared.writer.Writer.{Writer}
 use Rattle.pw_mem.specs.Memory.{Mem}
 use Rattle.pw_hart.specs.declared.ends.End.TheVariants.{Exit, Limit}
-use Rattle.pw_hart.specs.State.{State}
-use Rattle.pw_hart.specs.Run.{Outcome, run}
-use Rattle.pw_agree.specs.Image.{image_with, all_words, main_of, stack_len, CanPlace}
+use Rattle.pw_hart.specs.State.{MachineState}
+use Rattle.pw_hart.specs.Run.{RunResult, run}
+use Rattle.pw_agree.specs.Image.{image_with, all_words, main_writer, stack_len, CanPlace}
 use Rattle.pw_agree.specs.Start.{start}
 use Rattle.pw_agree.specs.Meaning.{output_of, value_of}
 use Rattle.pw_agree.specs.KeptCode.{LiesInKeptCode}
@@ -19,7 +19,7 @@ pub record KeepsText (funs : List Writer) (m : Mem) : Type 0 where
   pub stack_size : length stack ≡ stack_len
 
 -- a run took as many instructions as it should to do what `main` means
-pub record RunsAsMeant (funs : List Writer) (main : Writer) (input before : List ℕ) (o : Outcome) : Type 0 where
+pub record RunsAsMeant (funs : List Writer) (main : Writer) (input before : List ℕ) (o : RunResult) : Type 0 where
   pub ends : o.end ≡ Exit (value_of main)
   pub writes : o.state.output ≡ before ++ output_of main
   pub reads : o.state.input ≡ input
@@ -33,14 +33,14 @@ pub record RunsAsMeant (funs : List Writer) (main : Writer) (input before : List
 abbrev pub RunsOfImagesAreMeant : Type 0
 RunsOfImagesAreMeant =
     (funs : List Writer) (main : Writer) (input before : List ℕ) (bound limit : ℕ)
-    → CanPlace funs → main_of funs ≡ Some main → 1 ≤ bound → 16 + 3 * length main.outs ≤ limit
+    → CanPlace funs → main_writer funs ≡ Some main → 1 ≤ bound → 16 + 3 * length main.outs ≤ limit
     → RunsAsMeant funs main input before (run limit (start funs bound input before))
 
 -- As many instructions are allowed as the words of the text, for each counted step and once more.
 abbrev pub LimitsSuffice : Type 0
 LimitsSuffice =
     (funs : List Writer) (main : Writer) (bound : ℕ)
-    → main_of funs ≡ Some main → 1 ≤ bound → 16 + 3 * length main.outs ≤ (bound + 1) * all_words funs
+    → main_writer funs ≡ Some main → 1 ≤ bound → 16 + 3 * length main.outs ≤ (bound + 1) * all_words funs
 
 -- However long a run from the start is, the text in memory stays the image's.
 abbrev pub TextStays : Type 0
@@ -49,7 +49,7 @@ TextStays =
     → KeepsText funs (run limit (start funs bound input before)).state.mem
 
 -- what one outcome put, took and fetched is the front of what another did
-pub record IsFrontOf (short long : Outcome) : Type 0 where
+pub record IsFrontOf (short long : RunResult) : Type 0 where
   pub more_output : List ℕ
   pub output : long.state.output ≡ short.state.output ++ more_output
   pub taken : List ℕ
@@ -59,4 +59,4 @@ pub record IsFrontOf (short long : Outcome) : Type 0 where
 
 -- A run that stops at its limit is the front of each longer run.
 abbrev pub RunsGoOn : Type 0
-RunsGoOn = (k n : ℕ) (s : State) → k ≤ n → (run k s).end ≡ Limit → IsFrontOf (run k s) (run n s)
+RunsGoOn = (k n : ℕ) (s : MachineState) → k ≤ n → (run k s).end ≡ Limit → IsFrontOf (run k s) (run n s)

@@ -39,8 +39,8 @@ abbrev pub is_kept : Writer → Bool
 is_kept f = bytes_eq f.name (codes "main")
 
 -- `main`, where there is one, and where it stands
-abbrev pub main_of : List Writer → Option Writer
-main_of funs = find is_kept funs
+abbrev pub main_writer : List Writer → Option Writer
+main_writer funs = find is_kept funs
 
 abbrev pub main_address : List Writer → ℕ
 main_address funs = start_of funs (prefix_len (λ f. not (is_kept f)) funs)

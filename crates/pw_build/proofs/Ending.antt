@@ -14,14 +14,14 @@ use Rattle.pw_hart.specs.Harts.{registers}
 use Rattle.pw_hart.specs.State as machine
 use Rattle.pw_hart.specs.Run.{run}
 use Rattle.pw_hart.specs.Runs.{state_at, RunsTo, Runs}
-use Rattle.pw_agree.specs.Image.{CanPlace, image, main_of, all_words, text_start, stack_start, stack_len}
+use Rattle.pw_agree.specs.Image.{CanPlace, image, main_writer, all_words, text_start, stack_start, stack_len}
 use Rattle.pw_agree.specs.Start.{start}
 use Rattle.pw_agree.specs.Meaning.{value_of}
 use Rattle.pw_agree.specs.Agreement.{RunsAsMeant}
 use Rattle.pw_agree.proofs.Agree.{runs_of_images_are_meant, limits_suffice}
 use Rattle.pw_build.specs.declared.run.Ended.{Ended}
 use Rattle.pw_build.specs.declared.run.Ended.TheVariants.{Exit, ReadFault, WriteFault}
-use Rattle.pw_build.specs.Executed.{Given, moment, HasMain, IsFresh, HasRun, Flushes, Finishes, Executes}
+use Rattle.pw_build.specs.Executed.{Given, moment, HasMain, IsFresh, HasExecuted, Flushes, Finishes, Executes}
 
 -- registers that are 0 but the stack pointer, one by one
 zeros_are_0 : (n r : ℕ) → get_or (replicate {A = ℕ} n 0) r 0 ≡ 0
@@ -48,14 +48,14 @@ starts funs steps hart old input fresh is =
     ∙ ap (λ m. record { x = machine.set (λ _. 0) 2 (stack_start + stack_len); pc = text_start; steps = steps; mem = m; input = input; output = [] }) is
 
 -- the run is as meant, whatever the input is
-pub meant : (funs : List Writer) (main : Writer) (steps : ℕ) (hart : Hart) (old : Given) (input : List ℕ) → CanPlace funs → main_of funs ≡ Some main → 1 ≤ steps → IsFresh steps hart → old.mem ≡ image funs → RunsAsMeant funs main input [] (run ((steps + 1) * all_words funs) (state_at (moment hart old) input))
+pub meant : (funs : List Writer) (main : Writer) (steps : ℕ) (hart : Hart) (old : Given) (input : List ℕ) → CanPlace funs → main_writer funs ≡ Some main → 1 ≤ steps → IsFresh steps hart → old.mem ≡ image funs → RunsAsMeant funs main input [] (run ((steps + 1) * all_words funs) (state_at (moment hart old) input))
 meant funs main steps hart old input placed has bound fresh is =
-    let P : machine.State → Type 0 = λ s. RunsAsMeant funs main input [] (run ((steps + 1) * all_words funs) s) in
+    let P : machine.MachineState → Type 0 = λ s. RunsAsMeant funs main input [] (run ((steps + 1) * all_words funs) s) in
     subst P (sym (starts funs steps hart old input fresh is))
     (runs_of_images_are_meant funs main input [] steps ((steps + 1) * all_words funs) placed has bound (limits_suffice funs main steps has bound))
 
 -- so a run that is the machine's ends with the value of `main`
-pub ends_with_main : (funs : List Writer) (main : Writer) (steps : ℕ) (hart last : Hart) (old new : Given) (end : End) → CanPlace funs → main_of funs ≡ Some main → 1 ≤ steps → IsFresh steps hart → old.mem ≡ image funs → RunsTo ((steps + 1) * all_words funs) (moment hart old) (moment last new) end → end ≡ ends.Exit (value_of main)
+pub ends_with_main : (funs : List Writer) (main : Writer) (steps : ℕ) (hart last : Hart) (old new : Given) (end : End) → CanPlace funs → main_writer funs ≡ Some main → 1 ≤ steps → IsFresh steps hart → old.mem ≡ image funs → RunsTo ((steps + 1) * all_words funs) (moment hart old) (moment last new) end → end ≡ ends.Exit (value_of main)
 ends_with_main funs main steps hart last old new end placed has bound fresh is r =
     sym r.ends ∙ (meant funs main steps hart old r.input placed has bound fresh is).ends
 

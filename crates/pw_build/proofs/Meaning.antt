@@ -10,9 +10,9 @@ use Rattle.pw_io.proofs.Sources.{after_nothing}
 use Rattle.pw_hart.specs.declared.hart.Hart.{Hart}
 use Rattle.pw_hart.specs.declared.ends.End.{End}
 use Rattle.pw_hart.specs.declared.ends.End.TheVariants as ends
-use Rattle.pw_hart.specs.Run.{Outcome, run}
+use Rattle.pw_hart.specs.Run.{RunResult, run}
 use Rattle.pw_hart.specs.Runs.{Moment, state_at, Leaves, RunsTo, RunsUpTo, FailsToRead, FailsToWrite}
-use Rattle.pw_agree.specs.Image.{CanPlace, image, main_of, all_words}
+use Rattle.pw_agree.specs.Image.{CanPlace, image, main_writer, all_words}
 use Rattle.pw_agree.specs.Start.{start}
 use Rattle.pw_agree.specs.Meaning.{output_of, value_of}
 use Rattle.pw_agree.specs.Agreement.{RunsAsMeant, KeepsText, IsFrontOf}
@@ -20,7 +20,7 @@ use Rattle.pw_agree.proofs.TextStays.{text_stays}
 use Rattle.pw_agree.proofs.CutShort.{front_of_longer}
 use Rattle.pw_build.specs.declared.run.Ended.{Ended}
 use Rattle.pw_build.specs.declared.run.Ended.TheVariants.{Exit, ReadFault, WriteFault}
-use Rattle.pw_build.specs.Executed.{Given, moment, HasMain, IsFresh, HasRun, Flushes, Finishes, Executes}
+use Rattle.pw_build.specs.Executed.{Given, moment, HasMain, IsFresh, HasExecuted, Flushes, Finishes, Executes}
 use Rattle.pw_build.specs.Meant.{FetchesKeptCode, EndsAsMeant, BreaksOffAsMeant, StopsAsMeant, IsMeant}
 use Rattle.pw_build.proofs.Ending.{meant, starts, ends_with_main, finishes}
 
@@ -41,7 +41,7 @@ nothing_before input (b ∷ taken) rest e f =
     absurd (omega (arith, n, m))
 
 -- what a run takes of the input, where its outcome has the input whole, is nothing
-takes_nothing : (old new : Moment) (input : List ℕ) (o : Outcome) → o.state.input ≡ input → Leaves old input o new → new.input ≡ old.input
+takes_nothing : (old new : Moment) (input : List ℕ) (o : RunResult) → o.state.input ≡ input → Leaves old input o new → new.input ≡ old.input
 takes_nothing old new input o whole l = l.left ∙ ap (λ t. after t old.input) (nothing_before input l.taken o.state.input l.took whole) ∙ after_nothing old.input
 
 -- the memory that a run leaves keeps the text
@@ -53,7 +53,7 @@ keeps_text funs steps k fresh old new input is_fresh is l =
     subst P (ap (λ s. s.mem) l.state) here
 
 -- a run that ended with a value, with the flush behind it
-ended_as_meant : (funs : List Writer) (main : Writer) (steps value : ℕ) (fresh last : Hart) (old new : Given) (mid : SinkState) → CanPlace funs → main_of funs ≡ Some main → 1 ≤ steps → IsFresh steps fresh → old.mem ≡ image funs → RunsTo ((steps + 1) * all_words funs) (moment fresh old) (moment last (record new { out = mid })) (ends.Exit value) → new.out ≡ flushed_all mid → EndsAsMeant funs old new value
+ended_as_meant : (funs : List Writer) (main : Writer) (steps value : ℕ) (fresh last : Hart) (old new : Given) (mid : SinkState) → CanPlace funs → main_writer funs ≡ Some main → 1 ≤ steps → IsFresh steps fresh → old.mem ≡ image funs → RunsTo ((steps + 1) * all_words funs) (moment fresh old) (moment last (record new { out = mid })) (ends.Exit value) → new.out ≡ flushed_all mid → EndsAsMeant funs old new value
 ended_as_meant funs main steps value fresh last old new mid placed has bound is_fresh is r flushed =
     let m = meant funs main steps fresh old r.input placed has bound is_fresh is in
     let l = r.leaves in
@@ -71,7 +71,7 @@ ended_as_meant funs main steps value fresh last old new mid placed has bound is_
     value_same e = cc
 
 -- the output failed at a byte
-broke_off_at : (funs : List Writer) (main : Writer) (steps : ℕ) (fresh last : Hart) (old new : Given) → CanPlace funs → main_of funs ≡ Some main → 1 ≤ steps → IsFresh steps fresh → old.mem ≡ image funs → RunsUpTo ((steps + 1) * all_words funs) FailsToWrite (moment fresh old) (moment last new) → BreaksOffAsMeant funs old new
+broke_off_at : (funs : List Writer) (main : Writer) (steps : ℕ) (fresh last : Hart) (old new : Given) → CanPlace funs → main_writer funs ≡ Some main → 1 ≤ steps → IsFresh steps fresh → old.mem ≡ image funs → RunsUpTo ((steps + 1) * all_words funs) FailsToWrite (moment fresh old) (moment last new) → BreaksOffAsMeant funs old new
 broke_off_at funs main steps fresh last old new placed has bound is_fresh is r =
     let b = r.before in
     let m = meant funs main steps fresh old b.input placed has bound is_fresh is in
@@ -92,7 +92,7 @@ broke_off_at funs main steps fresh last old new placed has bound is_fresh is r =
     }
 
 -- the input failed at a byte
-stopped_at : (funs : List Writer) (main : Writer) (steps : ℕ) (fresh last : Hart) (old new : Given) → CanPlace funs → main_of funs ≡ Some main → 1 ≤ steps → IsFresh steps fresh → old.mem ≡ image funs → RunsUpTo ((steps + 1) * all_words funs) FailsToRead (moment fresh old) (moment last new) → StopsAsMeant funs old new
+stopped_at : (funs : List Writer) (main : Writer) (steps : ℕ) (fresh last : Hart) (old new : Given) → CanPlace funs → main_writer funs ≡ Some main → 1 ≤ steps → IsFresh steps fresh → old.mem ≡ image funs → RunsUpTo ((steps + 1) * all_words funs) FailsToRead (moment fresh old) (moment last new) → StopsAsMeant funs old new
 stopped_at funs main steps fresh last old new placed has bound is_fresh is r =
     let b = r.before in
     let m = meant funs main steps fresh old b.input placed has bound is_fresh is in
@@ -113,7 +113,7 @@ stopped_at funs main steps fresh last old new placed has bound is_fresh is r =
     }
 
 -- the output failed at the flush behind the last byte
-broke_off_behind : (funs : List Writer) (main : Writer) (steps value : ℕ) (fresh last : Hart) (old new : Given) (mid : SinkState) → CanPlace funs → main_of funs ≡ Some main → 1 ≤ steps → IsFresh steps fresh → old.mem ≡ image funs → RunsTo ((steps + 1) * all_words funs) (moment fresh old) (moment last (record new { out = mid })) (ends.Exit value) → SinkFails mid new.out → BreaksOffAsMeant funs old new
+broke_off_behind : (funs : List Writer) (main : Writer) (steps value : ℕ) (fresh last : Hart) (old new : Given) (mid : SinkState) → CanPlace funs → main_writer funs ≡ Some main → 1 ≤ steps → IsFresh steps fresh → old.mem ≡ image funs → RunsTo ((steps + 1) * all_words funs) (moment fresh old) (moment last (record new { out = mid })) (ends.Exit value) → SinkFails mid new.out → BreaksOffAsMeant funs old new
 broke_off_behind funs main steps value fresh last old new mid placed has bound is_fresh is r fails =
     let m = meant funs main steps fresh old r.input placed has bound is_fresh is in
     let l = r.leaves in

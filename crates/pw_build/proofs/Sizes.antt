@@ -9,7 +9,7 @@ use Rattle.pw_code.specs.Items.{size}
 use Rattle.pw_code.specs.Scheme.{function_items}
 use Rattle.pw_code.proofs.CodeWords.{size-function}
 use Rattle.pw_mem.specs.Memory.{zeros}
-use Rattle.pw_agree.specs.Image.{CanPlace, all_words, function_size, is_kept, main_of}
+use Rattle.pw_agree.specs.Image.{CanPlace, all_words, function_size, is_kept, main_writer}
 
 -- the words before a function and its own are at most all
 pub words_to : (funs : List Writer) (i : ℕ) (f : Writer) → CanPlace funs → i < length funs → f ≡ get_or funs i f → all_words (take i funs) + function_size f ≤ 2 ^ 22
@@ -42,7 +42,7 @@ none_before_more funs i f inside is other before =
       counted = before.counted ∙ ap (λ rest. i + prefix_len (λ f. not (is_kept f)) rest) e ∙ rw other (omega arith);
     }
 
-pub main_here : (funs : List Writer) (i : ℕ) (f : Writer) → i < length funs → f ≡ get_or funs i f → is_kept f ≡ true → NoneBefore funs i → (main_of funs ≡ Some f) × (prefix_len (λ f. not (is_kept f)) funs ≡ i)
+pub main_here : (funs : List Writer) (i : ℕ) (f : Writer) → i < length funs → f ≡ get_or funs i f → is_kept f ≡ true → NoneBefore funs i → (main_writer funs ≡ Some f) × (prefix_len (λ f. not (is_kept f)) funs ≡ i)
 main_here funs i f inside is kept before =
     let e : drop i funs ≡ f ∷ drop (i + 1) funs = drop_more funs i f inside ∙ ap (λ g. g ∷ drop (i + 1) funs) (sym is) in (
       before.found ∙ ap (find is_kept) e ∙ rw kept refl,

@@ -11,7 +11,7 @@ use Rattle.pw_code.specs.Scheme.{words, function_items, entry_words, entry_items
 use Rattle.pw_code.proofs.CodeWords.{length-words_at}
 use Rattle.pw_mem.specs.Memory.{Mem, zeros}
 use Rattle.pw_mem.specs.Words.{text_bytes}
-use Rattle.pw_agree.specs.Image.{CanPlace, image, image_words, text_words, text_start, data_start, all_words, function_size, is_kept, main_of, main_address, data_region, stack_region, stack_len}
+use Rattle.pw_agree.specs.Image.{CanPlace, image, image_words, text_words, text_start, data_start, all_words, function_size, is_kept, main_writer, main_address, data_region, stack_region, stack_len}
 use Rattle.pw_build.specs.declared.memory_image.ImageError.{ImageError}
 use Rattle.pw_build.specs.declared.memory_image.ImageError.TheVariants.{NoMain, NoMemory}
 use Rattle.pw_build.specs.Built.{Held, HoldsImage, HoldsParts, Places, LeavesImage, memory_of, rounded, text_region_of}
@@ -55,7 +55,7 @@ memory_is_image funs =
     }) (length-text funs)
 
 -- the parts of the functions, where they are placed, are the image
-pub image_from_parts : (funs : List Writer) (main : Writer) (text : List ℕ) (at : ℕ) (old new : Held) (r : Result (Unit {0}) ImageError) → main_of funs ≡ Some main → at ≡ main_address funs → text ≡ text_bytes (text_words funs) → Places text at old new r → LeavesImage funs old new r
+pub image_from_parts : (funs : List Writer) (main : Writer) (text : List ℕ) (at : ℕ) (old new : Held) (r : Result (Unit {0}) ImageError) → main_writer funs ≡ Some main → at ≡ main_address funs → text ≡ text_bytes (text_words funs) → Places text at old new r → LeavesImage funs old new r
 image_from_parts funs main text at old new (Ok _) has at_is text_is h = record {
   main = main;
   has_main = has;

@@ -6,7 +6,7 @@ use Rattle.pw_base.specs.Bytes.{le_bytes}
 use Rattle.pw_mem.specs.declared.region.Region.{Region}
 use Rattle.pw_mem.specs.Regions.{MappedRegion}
 use Rattle.pw_mem.specs.Memory.{Mem, zeros}
-use Rattle.pw_agree.specs.Image.{image, main_of, main_address, text_start, data_start, stack_start, stack_len, data_region, stack_region}
+use Rattle.pw_agree.specs.Image.{image, main_writer, main_address, text_start, data_start, stack_start, stack_len, data_region, stack_region}
 use Rattle.pw_build.specs.declared.memory_image.ImageError.{ImageError}
 use Rattle.pw_build.specs.declared.memory_image.ImageError.TheVariants as errors
 
@@ -18,8 +18,8 @@ pub record Held : Type 0 where
 
 -- the address of `main`, or that there is none
 abbrev pub IsMainAddress : List Writer → Option ℕ → Type 0
-IsMainAddress funs (Some at) = (at ≡ main_address funs) × ((main : Writer) × (main_of funs ≡ Some main))
-IsMainAddress funs None = main_of funs ≡ None
+IsMainAddress funs (Some at) = (at ≡ main_address funs) × ((main : Writer) × (main_writer funs ≡ Some main))
+IsMainAddress funs None = main_writer funs ≡ None
 
 -- the words are behind the old ones, or memory was refused
 abbrev pub Appended : (words old new : List ℕ) → Result (Unit {0}) NoMemory → Type 0
@@ -69,7 +69,7 @@ Places text main old new (Err errors.NoMemory) = new ≡ old
 -- The memory holds the image, sealed, and no fetch is counted since.
 pub record HoldsImage (funs : List Writer) (new : Held) : Type 0 where
   pub main : Writer
-  pub has_main : main_of funs ≡ Some main
+  pub has_main : main_writer funs ≡ Some main
   pub mem : new.mem ≡ image funs
   pub fetches : new.fetches ≡ 0
   pub told : IfSome new.told (λ list. list ≡ [])
@@ -77,5 +77,5 @@ pub record HoldsImage (funs : List Writer) (new : Held) : Type 0 where
 -- the image, or that there is no `main`; after a refusal the memory is as before
 abbrev pub LeavesImage : List Writer → Held → Held → Result (Unit {0}) ImageError → Type 0
 LeavesImage funs old new (Ok _) = HoldsImage funs new
-LeavesImage funs old new (Err errors.NoMain) = (main_of funs ≡ None) × (new ≡ old)
+LeavesImage funs old new (Err errors.NoMain) = (main_writer funs ≡ None) × (new ≡ old)
 LeavesImage funs old new (Err errors.NoMemory) = new ≡ old

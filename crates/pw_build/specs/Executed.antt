@@ -10,7 +10,7 @@ use Rattle.pw_hart.specs.declared.ends.End.TheVariants as ends
 use Rattle.pw_hart.specs.Harts.{registers}
 use Rattle.pw_hart.specs.State.{set}
 use Rattle.pw_hart.specs.Runs.{Moment, Runs}
-use Rattle.pw_agree.specs.Image.{text_start, stack_start, stack_len, all_words, main_of}
+use Rattle.pw_agree.specs.Image.{text_start, stack_start, stack_len, all_words, main_writer}
 use Rattle.pw_build.specs.declared.run.Ended.{Ended}
 use Rattle.pw_build.specs.declared.run.Ended.TheVariants.{Exit, ReadFault, WriteFault}
 
@@ -29,7 +29,7 @@ moment hart g = record { hart = hart; mem = g.mem; fetches = g.fetches; told = g
 -- There is a function named `main`.
 pub record HasMain (funs : List Writer) : Type 0 where
   pub main : Writer
-  pub is : main_of funs ≡ Some main
+  pub is : main_writer funs ≡ Some main
 
 -- The processor as a run begins: at the entry, its registers 0 but the stack pointer, with these counted steps.
 pub record IsFresh (steps : ℕ) (hart : Hart) : Type 0 where
@@ -39,7 +39,7 @@ pub record IsFresh (steps : ℕ) (hart : Hart) : Type 0 where
 
 -- The machine's run from the start, of at most as many instructions as the words for each counted step and once more,
 -- ends so and leaves that.
-pub record HasRun (funs : List Writer) (steps : ℕ) (old new : Given) (end : End) : Type 0 where
+pub record HasExecuted (funs : List Writer) (steps : ℕ) (old new : Given) (end : End) : Type 0 where
   pub fresh : Hart
   pub is_fresh : IsFresh steps fresh
   pub last : Hart
@@ -55,11 +55,11 @@ Flushes value old new WriteFault = SinkFails old new
 pub record Finishes (funs : List Writer) (steps : ℕ) (old new : Given) (ended : Ended) : Type 0 where
   pub value : ℕ
   pub mid : SinkState
-  pub runs : HasRun funs steps old (record new { out = mid }) (ends.Exit value)
+  pub runs : HasExecuted funs steps old (record new { out = mid }) (ends.Exit value)
   pub flushes : Flushes value mid new.out ended
 
 -- the run of an image: it ends with a value, and the output is flushed; or the input or the output failed
 abbrev pub Executes : List Writer → ℕ → Given → Given → Ended → Type 0
 Executes funs steps old new (Exit value) = Finishes funs steps old new (Exit value)
-Executes funs steps old new ReadFault = HasRun funs steps old new ends.ReadFault
-Executes funs steps old new WriteFault = HasRun funs steps old new ends.WriteFault ⊎ Finishes funs steps old new WriteFault
+Executes funs steps old new ReadFault = HasExecuted funs steps old new ends.ReadFault
+Executes funs steps old new WriteFault = HasExecuted funs steps old new ends.WriteFault ⊎ Finishes funs steps old new WriteFault

@@ -4,7 +4,7 @@ use Rattle.pw_first.specs.declared.writer.Writer.{Writer}
 use Rattle.pw_mem.specs.Fetches.{counted, Told}
 use Rattle.pw_io.specs.Source.{SourceFails}
 use Rattle.pw_io.specs.Sink.{SinkFails, wrote, flushed_all}
-use Rattle.pw_agree.specs.Image.{main_of}
+use Rattle.pw_agree.specs.Image.{main_writer}
 use Rattle.pw_agree.specs.Meaning.{output_of, value_of}
 use Rattle.pw_agree.specs.KeptCode.{LiesInKeptCode}
 use Rattle.pw_agree.specs.Agreement.{KeepsText}
@@ -22,7 +22,7 @@ pub record FetchesKeptCode (funs : List Writer) (old new : Given) : Type 0 where
 -- The run ended with what `main` returns; the output gained what `main` writes and is flushed, and the input lost nothing.
 pub record EndsAsMeant (funs : List Writer) (old new : Given) (value : ℕ) : Type 0 where
   pub main : Writer
-  pub is_main : main_of funs ≡ Some main
+  pub is_main : main_writer funs ≡ Some main
   pub value_is : value ≡ value_of main
   pub out : new.out ≡ flushed_all (wrote (output_of main) old.out)
   pub input : new.input ≡ old.input
@@ -32,7 +32,7 @@ pub record EndsAsMeant (funs : List Writer) (old new : Given) (value : ℕ) : Ty
 -- The output failed: it gained a front of what `main` writes, and the input lost nothing.
 pub record BreaksOffAsMeant (funs : List Writer) (old new : Given) : Type 0 where
   pub main : Writer
-  pub is_main : main_of funs ≡ Some main
+  pub is_main : main_writer funs ≡ Some main
   pub front : List ℕ
   pub more : List ℕ
   pub whole : output_of main ≡ front ++ more
@@ -43,7 +43,7 @@ pub record BreaksOffAsMeant (funs : List Writer) (old new : Given) : Type 0 wher
 -- The input failed: the output gained a front of what `main` writes, and the input lost nothing.
 pub record StopsAsMeant (funs : List Writer) (old new : Given) : Type 0 where
   pub main : Writer
-  pub is_main : main_of funs ≡ Some main
+  pub is_main : main_writer funs ≡ Some main
   pub front : List ℕ
   pub more : List ℕ
   pub whole : output_of main ≡ front ++ more

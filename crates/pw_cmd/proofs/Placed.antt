@@ -4,11 +4,11 @@ use Rattle.std.proofs.Common.{◌≡◌, ℕ, ◌+◌, ◌*◌, ◌≤◌, List,
 use Rattle.std.specs.Prelude.{sum_by, All}
 use Rattle.std.proofs.lemmas.List.Elements.{All-nil, All-cons}
 use Rattle.std.proofs.lemmas.List.Sums.{sum_by-cons}
-use Rattle.pw_tree.specs.Trees.{Tree, constant, output}
-use Rattle.pw_tree.specs.Commands.{Command, Commands, evaluate, returns, nil, cons}
+use Rattle.pw_tree.specs.TypedExpressions.{TypedExpression, constant, output}
+use Rattle.pw_tree.specs.TypedStatements.{TypedStatement, TypedStatements, evaluate, returns, nil, cons}
 use Rattle.pw_tree.specs.Units.{Function, TypedUnit}
 use Rattle.pw_first.specs.declared.writer.Writer.{Writer}
-use Rattle.pw_first.specs.FirstForm.{IsConstant, IsOutput, IsWritten, IsReturned, Writes, IsWriter, AreWriters, IsFirstForm}
+use Rattle.pw_first.specs.FirstForm.{IsConstant, IsOutput, IsWrittenBy, IsReturned, Writes, IsWriter, AreWriters, IsFirstForm}
 use Rattle.pw_front.specs.Weights.{statement_count, weight}
 use Rattle.pw_code.proofs.CodeWords.{size-function}
 use Rattle.pw_code.specs.Scheme.{HasSmallNumbers}
@@ -17,7 +17,7 @@ use Rattle.pw_agree.specs.Image.{CanPlace, function_size}
 -- ---- the statements of a body
 
 -- a body has a statement for each output, and one that returns
-statements_of_writer : (ss : Commands) (outs : List ℕ) (ret : ℕ) → Writes ss outs ret → statement_count ss ≡ 1 + length outs
+statements_of_writer : (ss : TypedStatements) (outs : List ℕ) (ret : ℕ) → Writes ss outs ret → statement_count ss ≡ 1 + length outs
 unfolding statement_count
 statements_of_writer (cons s nil) [] ret k = refl
 statements_of_writer (cons s (cons t ss)) [] ret k = absurd k
@@ -35,28 +35,28 @@ words_for_weight (f ∷ fs) (w ∷ ws) k =
 
 -- ---- the numbers of a body
 
-constant_small : (e : Tree) (n : ℕ) → IsConstant e n → n ≤ 2047
+constant_small : (e : TypedExpression) (n : ℕ) → IsConstant e n → n ≤ 2047
 constant_small (constant at value) n k = k.1
 constant_small _ n k = absurd k
 
-output_small : (e : Tree) (n : ℕ) → IsOutput e n → n ≤ 2047
+output_small : (e : TypedExpression) (n : ℕ) → IsOutput e n → n ≤ 2047
 output_small (output at e) n k = constant_small e n k
 output_small _ n k = absurd k
 
-written_small : (s : Command) (n : ℕ) → IsWritten s n → n ≤ 2047
+written_small : (s : TypedStatement) (n : ℕ) → IsWrittenBy s n → n ≤ 2047
 written_small (evaluate e) n k = output_small e n k
 written_small _ n k = absurd k
 
-returned_small : (s : Command) (n : ℕ) → IsReturned s n → n ≤ 2047
+returned_small : (s : TypedStatement) (n : ℕ) → IsReturned s n → n ≤ 2047
 returned_small (returns (Some e)) n k = constant_small e n k
 returned_small _ n k = absurd k
 
-outputs_small : (ss : Commands) (outs : List ℕ) (ret : ℕ) → Writes ss outs ret → All (λ n. n ≤ 2047) outs
+outputs_small : (ss : TypedStatements) (outs : List ℕ) (ret : ℕ) → Writes ss outs ret → All (λ n. n ≤ 2047) outs
 outputs_small ss [] ret k = All-nil (λ n. n ≤ 2047)
 outputs_small nil (n ∷ outs) ret k = absurd k
 outputs_small (cons s ss) (n ∷ outs) ret k = All-cons (λ n. n ≤ 2047) n outs (written_small s n k.0) (outputs_small ss outs ret k.1)
 
-return_small : (ss : Commands) (outs : List ℕ) (ret : ℕ) → Writes ss outs ret → ret ≤ 2047
+return_small : (ss : TypedStatements) (outs : List ℕ) (ret : ℕ) → Writes ss outs ret → ret ≤ 2047
 return_small (cons s nil) [] ret k = returned_small s ret k
 return_small (cons s (cons t ss)) [] ret k = absurd k
 return_small nil [] ret k = absurd k

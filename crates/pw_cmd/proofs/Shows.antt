@@ -17,7 +17,7 @@ use Rattle.pw_io.specs.Source.{SourceState, SourceFails, after}
 use Rattle.pw_io.specs.Store.{Files, StoreState, StandsIn, PassesLimit}
 use Rattle.pw_cmd.specs.Unit.{HasTooMany, HasFirstForm, HasOtherForm}
 use Rattle.pw_io.specs.Sink.{SinkState, wrote, flushed_all}
-use Rattle.pw_agree.specs.Image.{main_of}
+use Rattle.pw_agree.specs.Image.{main_writer}
 use Rattle.pw_agree.specs.Meaning.{output_of, value_of}
 use Rattle.pw_build.specs.declared.run.Ended.TheVariants.{Exit, ReadFault}
 use Rattle.pw_build.specs.Executed.{Given, Executes}
@@ -31,7 +31,7 @@ use Rattle.pw_cmd.specs.Comes.{Outside, given, HasLoaded, HasNotRun, HasRun, Ref
 use Rattle.pw_cmd.specs.Shows.{status_of_value, line_of_value, ShowsMeaning, Means, ReadFailedOnly, WriteFailedOnly, NoneFailed, PassesNone, AsksForProgram, CountsCanRise, Completes}
 
 -- the project of one unit of the first form means what its `main` writes and returns
-source_means : (unit : TypedUnit) (funs : List Writer) (main : Writer) (value : ℕ) → IsFirstForm unit funs → main_of funs ≡ Some main → value ≡ value_of main
+source_means : (unit : TypedUnit) (funs : List Writer) (main : Writer) (value : ℕ) → IsFirstForm unit funs → main_writer funs ≡ Some main → value ≡ value_of main
     → (input : List ℕ) → meaning ((unit ∷ []) ∷ []) input 1000000 ≡ record { output = output_of main; rest = input; end = exit value }
 source_means unit funs main value form is_main value_is input =
     means_its_main unit funs main input 1000000 form is_main (lit≤ tt)
@@ -218,12 +218,12 @@ has_form words old new text funs p loaded other =
 -- a program with a `main` completes where no call fails
 pub completes : (words : List (List ℕ)) (old new : Outside) (msg msg' : SinkState) (status : ℕ) → Answers words old new msg msg' status → Completes words old new msg msg' status
 completes words old new msg msg' status a = by_answer a.answer a.comes a.told where
-  by_answer : (answer : Answer) → Comes words old new answer → Tells (line_of words answer) (status_of answer) msg msg' status → (funs : List Writer) (main : Writer) → AsksForProgram words old.store.files funs → main_of funs ≡ Some main → CountsCanRise old msg → NoneFailed old new msg msg' → (status ≡ status_of_value (value_of main)) ⊎ (status ≡ 8)
+  by_answer : (answer : Answer) → Comes words old new answer → Tells (line_of words answer) (status_of answer) msg msg' status → (funs : List Writer) (main : Writer) → AsksForProgram words old.store.files funs → main_writer funs ≡ Some main → CountsCanRise old msg → NoneFailed old new msg msg' → (status ≡ status_of_value (value_of main)) ⊎ (status ≡ 8)
   by_answer answer comes (inr broke) funs main p has low none = absurd (rises_not_same msg.faults msg'.faults broke.1.fails.faults none.messages low.messages)
   by_answer (Ok (outcomes.Ended value)) comes (inl told) funs main p has low none =
       let meant = comes.ran.meant in
       let same : comes.funs ≡ funs = same_functions words old.store new.store comes.text funs comes.funs p comes.loaded comes.form in
-      let mains : meant.main ≡ main = some_same (sym meant.is_main ∙ ap main_of same ∙ has) in
+      let mains : meant.main ≡ main = some_same (sym meant.is_main ∙ ap main_writer same ∙ has) in
       inl (told.0 ∙ ap status_of_value (meant.value_is ∙ ap value_of mains))
   by_answer (Err Usage) comes (inl told) funs main p has low none = absurd (comes.refuses.0 p.file p.asks)
   by_answer (Err (TooLong word limit)) comes (inl told) funs main p has low none = absurd (not_too_long words old.store new.store funs comes.refuses.1.0 limit p comes.refuses.1.1 comes.refuses.1.2)
@@ -233,7 +233,7 @@ completes words old new msg msg' status a = by_answer a.answer a.comes a.told wh
   by_answer (Err (Form word)) comes (inl told) funs main p has low none = absurd (has_form words old.store new.store comes.refuses.0 funs p comes.refuses.1 comes.refuses.2.1)
   by_answer (Err NoMain) comes (inl told) funs main p has low none =
       let same : comes.refuses.1 ≡ funs = same_functions words old.store new.store comes.refuses.0 funs comes.refuses.1 p comes.refuses.2 comes.refuses.3 in
-      absurd (none_is_not_some (ap main_of (sym same) ∙ comes.refuses.4) has)
+      absurd (none_is_not_some (ap main_writer (sym same) ∙ comes.refuses.4) has)
   by_answer (Err ReadFailed) (inl not_run) (inl told) funs main p has low none = absurd (rises_not_same old.store.faults new.store.faults not_run.refuses.2.faults none.store low.store)
   by_answer (Err ReadFailed) (inr run) (inl told) funs main p has low none = absurd (rises_not_same old.input.faults new.input.faults (input_rose run.funs 1000000 _ (given new) run.ran.executes) none.input low.input)
   by_answer (Err WriteFailed) comes (inl told) funs main p has low none = absurd (rises_not_same old.out.faults new.out.faults comes.ran.meant.out.faults none.out low.out)

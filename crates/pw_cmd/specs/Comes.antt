@@ -5,7 +5,7 @@ use Rattle.pw_io.specs.Source.{SourceState}
 use Rattle.pw_io.specs.Sink.{SinkState}
 use Rattle.pw_io.specs.Store.{StoreState, ReadFails}
 use Rattle.pw_mem.specs.Memory.{Mem}
-use Rattle.pw_agree.specs.Image.{main_of}
+use Rattle.pw_agree.specs.Image.{main_writer}
 use Rattle.pw_build.specs.declared.run.Ended.{Ended}
 use Rattle.pw_build.specs.declared.run.Ended.TheVariants.{Exit, ReadFault, WriteFault}
 use Rattle.pw_build.specs.Executed.{Given}
@@ -45,7 +45,7 @@ Refuses words old new (Lex word fault line) = (text : List ℕ) × HasLoaded wor
 Refuses words old new (Syntax word fault line) = (text : List ℕ) × HasLoaded words old new text × IsRefused text (Syntax word fault line)
 Refuses words old new (Typing word rule at) = (text : List ℕ) × HasLoaded words old new text × IsRefused text (Typing word rule at)
 Refuses words old new (Form word) = (text : List ℕ) × HasLoaded words old new text × IsRefused text (Form word)
-Refuses words old new NoMain = (text : List ℕ) × (funs : List Writer) × HasLoaded words old new text × HasFirstForm text funs × (main_of funs ≡ None)
+Refuses words old new NoMain = (text : List ℕ) × (funs : List Writer) × HasLoaded words old new text × HasFirstForm text funs × (main_writer funs ≡ None)
 Refuses words old new ReadFailed = (file : List ℕ) × AsksForOne words file × ReadFails old file new
 Refuses words old new WriteFailed = ⊥
 Refuses words old new NoMemory =

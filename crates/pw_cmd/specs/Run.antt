@@ -1,7 +1,7 @@
 -- What running a program answers, and what it leaves.
 use Rattle.std.specs.Prelude.{◌≡◌, ℕ, List, [], Option, None, Result, Ok, Err, IfSome}
 use Rattle.pw_first.specs.declared.writer.Writer.{Writer}
-use Rattle.pw_agree.specs.Image.{image, main_of}
+use Rattle.pw_agree.specs.Image.{image, main_writer}
 use Rattle.pw_build.specs.declared.run.Ended.{Ended}
 use Rattle.pw_build.specs.declared.run.Ended.TheVariants.{Exit, ReadFault, WriteFault}
 use Rattle.pw_build.specs.Executed.{Given, HasMain, Executes}
@@ -30,7 +30,7 @@ abbrev pub RunsProgram : List Writer → Given → Given → Result Outcome Stop
 RunsProgram funs old new (Ok (outcomes.Ended value)) = Ran funs old new (Exit value)
 RunsProgram funs old new (Err ReadFailed) = Ran funs old new ReadFault
 RunsProgram funs old new (Err WriteFailed) = Ran funs old new WriteFault
-RunsProgram funs old new (Err NoMain) = (main_of funs ≡ None) × (new ≡ old)
+RunsProgram funs old new (Err NoMain) = (main_writer funs ≡ None) × (new ≡ old)
 RunsProgram funs old new (Err NoMemory) = new ≡ old
 RunsProgram funs old new (Err Usage) = ⊥
 RunsProgram funs old new (Err (TooLong _ _)) = ⊥

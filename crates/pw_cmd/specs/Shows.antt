@@ -6,7 +6,7 @@ use Rattle.pw_first.specs.declared.writer.Writer.{Writer}
 use Rattle.pw_io.specs.Faults.{Rises}
 use Rattle.pw_io.specs.Sink.{SinkState, wrote, flushed_all}
 use Rattle.pw_io.specs.Store.{Files}
-use Rattle.pw_agree.specs.Image.{image, main_of}
+use Rattle.pw_agree.specs.Image.{image, main_writer}
 use Rattle.pw_agree.specs.Meaning.{output_of, value_of}
 use Rattle.pw_build.specs.Meant.{EndsAsMeant}
 use Rattle.pw_cmd.specs.Words.{AsksForOne}
@@ -87,5 +87,5 @@ pub record CountsCanRise (old : Outside) (msg : SinkState) : Type 0 where
 -- a program with a `main`, where no call fails, gives the status of what `main` returns, unless memory is refused
 abbrev pub Completes : List (List ℕ) → Outside → Outside → SinkState → SinkState → ℕ → Type 0
 Completes words old new msg msg' status =
-    (funs : List Writer) (main : Writer) → AsksForProgram words old.store.files funs → main_of funs ≡ Some main
+    (funs : List Writer) (main : Writer) → AsksForProgram words old.store.files funs → main_writer funs ≡ Some main
     → CountsCanRise old msg → NoneFailed old new msg msg' → (status ≡ status_of_value (value_of main)) ⊎ (status ≡ 8)

@@ -1,40 +1,40 @@
 -- The first form: which typed units have it, and the writers that their functions are.
 use Rattle.std.specs.Prelude.{◌≡◌, ℕ, ◌≤◌, true, List, [], ◌∷◌, length, Some}
-use Rattle.pw_tree.specs.Trees.{Tree, constant, output}
-use Rattle.pw_tree.specs.Commands.{Command, Commands, evaluate, returns, nil, cons}
+use Rattle.pw_tree.specs.TypedExpressions.{TypedExpression, constant, output}
+use Rattle.pw_tree.specs.TypedStatements.{TypedStatement, TypedStatements, evaluate, returns, nil, cons}
 use Rattle.pw_tree.specs.Units.{Function, TypedUnit}
 use Rattle.pw_tree.specs.declared.ty.Ty.TheVariants.{Long}
 use Rattle.pw_first.specs.declared.writer.Writer.{Writer}
 
 -- The expression is this constant, which is at most 2047.
-abbrev pub IsConstant : Tree → ℕ → Type 0
+abbrev pub IsConstant : TypedExpression → ℕ → Type 0
 IsConstant (constant at value) number = (value ≡ number) × (number ≤ 2047)
 IsConstant _ number = ⊥
 
 -- The expression is `__out` of this constant.
-abbrev pub IsOutput : Tree → ℕ → Type 0
+abbrev pub IsOutput : TypedExpression → ℕ → Type 0
 IsOutput (output at e) number = IsConstant e number
 IsOutput _ number = ⊥
 
 -- The statement writes this constant.
-abbrev pub IsWritten : Command → ℕ → Type 0
-IsWritten (evaluate e) number = IsOutput e number
-IsWritten _ number = ⊥
+abbrev pub IsWrittenBy : TypedStatement → ℕ → Type 0
+IsWrittenBy (evaluate e) number = IsOutput e number
+IsWrittenBy _ number = ⊥
 
 -- The statement returns this constant.
-abbrev pub IsReturned : Command → ℕ → Type 0
+abbrev pub IsReturned : TypedStatement → ℕ → Type 0
 IsReturned (returns (Some e)) number = IsConstant e number
 IsReturned _ number = ⊥
 
 -- One statement is left, and it returns this constant.
-abbrev pub IsLast : Commands → ℕ → Type 0
+abbrev pub IsLast : TypedStatements → ℕ → Type 0
 IsLast (cons s nil) number = IsReturned s number
 IsLast _ number = ⊥
 
 -- The statements write these constants in order, and then return this one.
-abbrev pub Writes : Commands → List ℕ → ℕ → Type 0
+abbrev pub Writes : TypedStatements → List ℕ → ℕ → Type 0
 Writes ss [] ret = IsLast ss ret
-Writes (cons s ss) (number ∷ outs) ret = IsWritten s number × Writes ss outs ret
+Writes (cons s ss) (number ∷ outs) ret = IsWrittenBy s number × Writes ss outs ret
 Writes nil (number ∷ outs) ret = ⊥
 
 -- The function is `long f(void)` with external linkage, its name stands in a line up to 2047, and it is this writer. The

@@ -14,12 +14,12 @@ abbrev pub is_main : Writer → Bool
 is_main w = bytes_eq w.name (codes "main")
 
 -- What a writer does as `main`: it writes the low byte of each number, takes no input, and ends with what it returns.
-abbrev pub run_of : Writer → List ℕ → Run
-run_of w input = record { output = map (λ number. number % 256) w.outs; rest = input; end = exit w.ret }
+abbrev pub writer_run : Writer → List ℕ → Run
+writer_run w input = record { output = map (λ number. number % 256) w.outs; rest = input; end = exit w.ret }
 
 -- A program of one unit of the first form means what its `main` does, where there is one and at least one step.
 abbrev pub MeansItsMain : Type 0
 MeansItsMain =
     (unit : TypedUnit) (ws : List Writer) (w : Writer) (input : List ℕ) (bound : ℕ)
     → IsFirstForm unit ws → find is_main ws ≡ Some w → 1 ≤ bound
-    → meaning ((unit ∷ []) ∷ []) input bound ≡ run_of w input
+    → meaning ((unit ∷ []) ∷ []) input bound ≡ writer_run w input

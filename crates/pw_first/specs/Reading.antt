@@ -1,34 +1,34 @@
 -- How a typed unit is asked for the first form: each step gives the numbers or the writers, or nothing.
 use Rattle.std.specs.Prelude.{ℕ, Bool, true, false, ◌&&◌, if◌then◌else◌, nat_le, List, [], ◌∷◌, ◌++◌, length, Option, Some, None, option_map, option_and_then}
-use Rattle.pw_tree.specs.Trees.{Tree, constant, output}
-use Rattle.pw_tree.specs.Commands.{Command, Commands, evaluate, returns, nil, cons}
+use Rattle.pw_tree.specs.TypedExpressions.{TypedExpression, constant, output}
+use Rattle.pw_tree.specs.TypedStatements.{TypedStatement, TypedStatements, evaluate, returns, nil, cons}
 use Rattle.pw_tree.specs.Units.{Function, TypedUnit}
 use Rattle.pw_tree.specs.declared.ty.Ty.{Ty}
 use Rattle.pw_tree.specs.declared.ty.Ty.TheVariants.{Long}
 use Rattle.pw_first.specs.declared.writer.Writer.{Writer}
 
 -- the value of a constant that is at most 2047
-abbrev pub small_constant : Tree → Option ℕ
+abbrev pub small_constant : TypedExpression → Option ℕ
 small_constant (constant at value) = if nat_le value 2047 then Some value else None
 small_constant _ = None
 
 -- the number that `__out` of a constant writes
-abbrev pub written : Tree → Option ℕ
+abbrev pub written : TypedExpression → Option ℕ
 written (output at e) = small_constant e
 written _ = None
 
 -- the number that a statement writes, which does nothing else
-abbrev pub written_by : Command → Option ℕ
+abbrev pub written_by : TypedStatement → Option ℕ
 written_by (evaluate e) = written e
 written_by _ = None
 
 -- the number that a statement returns
-abbrev pub returned_by : Command → Option ℕ
+abbrev pub returned_by : TypedStatement → Option ℕ
 returned_by (returns (Some e)) = small_constant e
 returned_by _ = None
 
 -- the number that is returned by the one statement that is left
-abbrev pub returned_last : Commands → Option ℕ
+abbrev pub returned_last : TypedStatements → Option ℕ
 returned_last (cons s nil) = returned_by s
 returned_last _ = None
 
@@ -37,7 +37,7 @@ abbrev pub numbers_from : Option ℕ → (ℕ → Option (List ℕ × ℕ)) → 
 numbers_from (Some number) next last = next number
 numbers_from None next last = last
 
-unfoldable pub numbers : List ℕ → Commands → Option (List ℕ × ℕ)
+unfoldable pub numbers : List ℕ → TypedStatements → Option (List ℕ × ℕ)
 numbers outs nil = None
 numbers outs (cons s ss) =
     numbers_from (written_by s) (λ number. numbers (outs ++ number ∷ []) ss) (option_map (λ ret. (outs, ret)) (returned_last (cons s ss)))

@@ -10,8 +10,8 @@ use Rattle.pw_grammar.specs.declared.error.SyntaxError.{SyntaxError}
 use Rattle.pw_grammar.specs.declared.error.SyntaxError.TheVariants.{At, TooNested, TooLong}
 use Rattle.pw_grammar.specs.declared.error.SyntaxError.TheVariants as syntax
 use Rattle.pw_grammar.specs.Faults.{IsFirstFault, ComesBefore, token_of}
-use Rattle.pw_parse.specs.Whole.{line_of as line_of_token}
-use Rattle.pw_tree.specs.Declarations.{written_unit_of}
+use Rattle.pw_parse.specs.Whole.{fault_line_of as line_of_token}
+use Rattle.pw_tree.specs.Declarations.{untyped_unit_of}
 use Rattle.pw_types.specs.declared.error.TypeError.TheVariants as types
 use Rattle.pw_types.specs.declared.rule.Rule.{Rule}
 use Rattle.pw_types.specs.Checks.{IsFirst}
@@ -86,13 +86,13 @@ same_type : (text : Text) (r s : Rule) (p q : Pos) (n m : Option (List ℕ)) →
     → Typing (types.Broken r p n) ≡ Typing (types.Broken s q m)
 same_type text r s p q n m a b =
     let unit : b.unit ≡ a.unit = one_unit text b.unit a.unit b.is_unit a.is_unit in
-    let also : IsFirst (written_unit_of a.unit) s q m = subst (λ u. IsFirst (written_unit_of u) s q m) unit b.is in
+    let also : IsFirst (untyped_unit_of a.unit) s q m = subst (λ u. IsFirst (untyped_unit_of u) s q m) unit b.is in
     let some : Some a.is.fault ≡ Some also.fault = sym a.is.first ∙ also.first in
     let fault : a.is.fault ≡ also.fault = cc in
     let rule : r ≡ s = a.is.rule_is ∙ ap (λ f. f.rule) fault ∙ sym also.rule_is in
     let name : n ≡ m = a.is.name_is ∙ ap (λ f. f.name) fault ∙ sym also.name_is in
     let token : p.token ≡ q.token = a.is.token_is ∙ ap (λ f. f.at) fault ∙ sym also.token_is in
-    let line : p.line ≡ q.line = a.is.line_is ∙ ap (λ f. slice_index_or (written_unit_of a.unit).lines f.at 0) fault ∙ sym also.line_is in
+    let line : p.line ≡ q.line = a.is.line_is ∙ ap (λ f. slice_index_or (untyped_unit_of a.unit).lines f.at 0) fault ∙ sym also.line_is in
     ap (λ x. Typing (types.Broken x p n)) rule ∙ ap (λ x. Typing (types.Broken s x n)) (same_place p q line token)
     ∙ ap (λ x. Typing (types.Broken s q x)) name
 

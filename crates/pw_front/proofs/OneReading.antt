@@ -10,7 +10,7 @@ use Rattle.pw_grammar.proofs.Known.{one_tree}
 use Rattle.pw_parse.specs.Whole.{IsFaultless}
 use Rattle.pw_tree.specs.declared.decl.Unit.{Unit}
 use Rattle.pw_tree.specs.declared.tunit.TUnit.{TUnit}
-use Rattle.pw_tree.specs.Declarations.{written_unit_of}
+use Rattle.pw_tree.specs.Declarations.{untyped_unit_of}
 use Rattle.pw_types.specs.declared.error.TypeError.TheVariants as types
 use Rattle.pw_types.specs.declared.fault.Fault.{Fault}
 use Rattle.pw_types.specs.declared.rule.Rule.{Rule}
@@ -28,7 +28,7 @@ one_unit text a b is also =
 
 pub one_typed_unit : OneTypedUnit
 one_typed_unit text a b is also =
-    is.is_typed.is ∙ ap (λ u. typed_unit (written_unit_of u)) (one_unit text is.unit also.unit is.is_unit also.is_unit) ∙ sym also.is_typed.is
+    is.is_typed.is ∙ ap (λ u. typed_unit (untyped_unit_of u)) (one_unit text is.unit also.unit is.is_unit also.is_unit) ∙ sym also.is_typed.is
 
 pub no_lex_fault : (text : Text) (unit : Unit) (fault : LexError) (line : ℕ) → IsUnitOf text unit → HasLexFault text fault line → ⊥
 no_lex_fault text unit fault line is h = not_both text is.tokens fault is.has_tokens h.is
@@ -47,8 +47,8 @@ none_first (f ∷ fs) fault none first = cc
 no_type_fault : (text : Text) (typed : TUnit) (rule : Rule) (at : Pos) (name : Option (List ℕ)) → IsTypedUnitOf text typed → HasTypeFault text rule at name → ⊥
 no_type_fault text typed rule at name is h =
     let same : is.unit ≡ h.unit = one_unit text is.unit h.unit is.is_unit h.is_unit in
-    let none : faults_of (written_unit_of h.unit) ≡ [] = subst (λ u. faults_of (written_unit_of u) ≡ []) same is.is_typed.no_fault in
-    none_first (faults_of (written_unit_of h.unit)) h.is.fault none h.is.first
+    let none : faults_of (untyped_unit_of h.unit) ≡ [] = subst (λ u. faults_of (untyped_unit_of u) ≡ []) same is.is_typed.no_fault in
+    none_first (faults_of (untyped_unit_of h.unit)) h.is.fault none h.is.first
 
 pub unit_or_fault : UnitOrFault
 unit_or_fault text unit (Lex fault line) is known h = no_lex_fault text is.unit fault line is.is_unit h

@@ -5,15 +5,15 @@ use Rattle.pw_grammar.specs.Weights as written
 use Rattle.pw_tree.specs.Declarations.{Declaration, DeclarationForm, prototype, definition, variable}
 use Rattle.pw_tree.specs.Statements.{Statements, nil, cons}
 use Rattle.pw_types.specs.Blocks.{Setting, Block, behind}
-use Rattle.pw_types.specs.Commands.{commands_of}
+use Rattle.pw_types.specs.TypedStatements.{typed_statements}
 use Rattle.pw_types.specs.Declarations.{Whole, declared_by, file_scope, outermost, setting}
 use Rattle.pw_types.specs.declared.names.File.{File}
 use Rattle.pw_types.specs.Units.{typed_functions_of, typed_functions}
 use Rattle.pw_front.specs.Weights.{statement_count, weight}
 
 -- a typed body has as many statements as the body
-same_count : (x : Setting) (b : Block) (ss : Statements) → statement_count (commands_of x b ss) ≡ written.statement_count ss
-unfolding commands_of statement_count written.statement_count
+same_count : (x : Setting) (b : Block) (ss : Statements) → statement_count (typed_statements x b ss) ≡ written.statement_count ss
+unfolding typed_statements statement_count written.statement_count
 same_count x b nil = refl
 same_count x b (cons s ss) = ap suc (same_count x (behind s b) ss)
 

@@ -5,8 +5,8 @@ use Rattle.pw_grammar.proofs.Weighed.{units_are_no_longer}
 use Rattle.pw_grammar.proofs.Written.{trees_are_written}
 use Rattle.pw_tree.specs.declared.decl.Unit.{Unit}
 use Rattle.pw_tree.specs.declared.tunit.TUnit.{TUnit}
-use Rattle.pw_tree.specs.Declarations.{declarations_of, written_unit_of}
-use Rattle.pw_tree.specs.Placed.{IsWritten}
+use Rattle.pw_tree.specs.Declarations.{declarations_of, untyped_unit_of}
+use Rattle.pw_tree.specs.Placed.{IsParsed}
 use Rattle.pw_tree.specs.Units.{TypedUnit, unit_of}
 use Rattle.pw_types.specs.Units.{whole_of}
 use Rattle.pw_front.specs.Units.{IsUnitOf, IsTypedUnitOf}
@@ -14,7 +14,7 @@ use Rattle.pw_front.specs.Weights.{weight}
 use Rattle.pw_front.proofs.Lines.{tokens_within}
 use Rattle.pw_front.proofs.Weights.{functions_weigh}
 
-pub unit_is_written : (text : Text) (unit : Unit) → length text < 2 ^ 32 → IsUnitOf text unit → IsWritten (written_unit_of unit)
+pub unit_is_written : (text : Text) (unit : Unit) → length text < 2 ^ 32 → IsUnitOf text unit → IsParsed (untyped_unit_of unit)
 unit_is_written text unit short is =
     trees_are_written is.tokens unit is.derives (omega (arith, short, tokens_within text is.tokens is.has_tokens))
 
@@ -24,5 +24,5 @@ unit_is_small text typed is =
     let T : TypedUnit → Type 0 = λ u. sum_by weight u.functions ≤ length text in
     let few = tokens_within text is.is_unit.tokens is.is_unit.has_tokens in
     let no_longer = units_are_no_longer is.is_unit.tokens is.unit is.is_unit.derives in
-    let same = functions_weigh (whole_of (written_unit_of is.unit)) [] (declarations_of is.unit) in
+    let same = functions_weigh (whole_of (untyped_unit_of is.unit)) [] (declarations_of is.unit) in
     subst T (sym is.is_typed.is) (omega (arith, few, no_longer, same))

@@ -11,10 +11,10 @@ use Rattle.pw_grammar.specs.declared.error.SyntaxError.{SyntaxError}
 use Rattle.pw_grammar.specs.declared.error.SyntaxError.TheVariants as syntax
 use Rattle.pw_grammar.specs.Declarations.{Derives}
 use Rattle.pw_grammar.specs.Faults.{IsFirstFault, token_of}
-use Rattle.pw_parse.specs.Whole.{IsFaultless, line_of as line_of_token}
+use Rattle.pw_parse.specs.Whole.{IsFaultless, fault_line_of as line_of_token}
 use Rattle.pw_tree.specs.declared.decl.Unit.{Unit}
 use Rattle.pw_tree.specs.declared.tunit.TUnit.{TUnit}
-use Rattle.pw_tree.specs.Declarations.{written_unit_of}
+use Rattle.pw_tree.specs.Declarations.{untyped_unit_of}
 use Rattle.pw_tree.specs.Units.{unit_of}
 use Rattle.pw_types.specs.declared.rule.Rule.{Rule}
 use Rattle.pw_types.specs.declared.error.TypeError.{TypeError}
@@ -34,7 +34,7 @@ pub record IsUnitOf (text : Text) (unit : Unit) : Type 0 where
 pub record IsTypedUnitOf (text : Text) (typed : TUnit) : Type 0 where
   pub unit : Unit
   pub is_unit : IsUnitOf text unit
-  pub is_typed : IsTyped (written_unit_of unit) (unit_of typed)
+  pub is_typed : IsTyped (untyped_unit_of unit) (unit_of typed)
 
 -- the first fault of the text as a list of tokens, on this line
 pub record HasLexFault (text : Text) (fault : LexError) (line : ℕ) : Type 0 where
@@ -58,7 +58,7 @@ pub record HasSyntaxFault (text : Text) (fault : SyntaxError) (line : ℕ) : Typ
 pub record HasTypeFault (text : Text) (rule : Rule) (at : Pos) (name : Option (List ℕ)) : Type 0 where
   pub unit : Unit
   pub is_unit : IsUnitOf text unit
-  pub is : IsFirst (written_unit_of unit) rule at name
+  pub is : IsFirst (untyped_unit_of unit) rule at name
 
 -- what a type fault says of the text; want of memory is told otherwise
 abbrev pub TypeFaultOf : Text → TypeError → Type 0

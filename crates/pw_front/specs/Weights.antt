@@ -1,10 +1,10 @@
 -- How many tokens the functions of a typed unit were at least.
 use Rattle.std.specs.Prelude.{ℕ, suc, ◌+◌}
-use Rattle.pw_tree.specs.Commands.{Commands, nil, cons}
+use Rattle.pw_tree.specs.TypedStatements.{TypedStatements, nil, cons}
 use Rattle.pw_tree.specs.Units.{Function}
 
 -- how many statements there are, those within them not counted
-unfoldable pub statement_count : Commands → ℕ
+unfoldable pub statement_count : TypedStatements → ℕ
 statement_count nil = 0
 statement_count (cons s ss) = suc (statement_count ss)
 

@@ -5,7 +5,7 @@ use Rattle.pw_grammar.specs.contracts.sort.Sort.{the_type}
 use Rattle.pw_grammar.specs.declared.sort.Sort.{Sort}
 use Rattle.pw_grammar.specs.declared.error.SyntaxError.TheVariants.{At}
 use Rattle.pw_grammar.specs.Terminals.{first_sort, is_same}
-use Rattle.pw_grammar.specs.Steps.{Place, Parser, and_then, ◌>>=◌, pure, refuse, next_sort}
+use Rattle.pw_grammar.specs.Steps.{Position, Parser, and_then, ◌>>=◌, pure, refuse, next_sort}
 use Rattle.pw_grammar.proofs.Lawful.{Language, Agree, GoesOn, Says, Same, Lawful, Within, Lax, says_within, Seq, Shrinks, same_passed, near_or_far, leads_nowhere, says_both, same_both, settled_both}
 use Rattle.pw_lex.specs.declared.token.Token.{Token}
 
@@ -30,9 +30,9 @@ sorts_other x y e = false_same the_type tt x y e
 -- ---- the laws where the next token is of a kind
 
 pub record Keeps {A : Type 0} (c : Sort → Type 0) (n : ℕ) (L : Language A) (p q : Parser A) : Type 0 where
-  pub settled : (i : Place) → c (next_sort i) → length i.rest < n → p i ≡ q i
-  pub says : (i : Place) → c (next_sort i) → Says L i (p i)
-  pub steady : (k : ℕ) (i j : Place) → c (next_sort i) → Agree k i j → Same k (p i) (p j)
+  pub settled : (i : Position) → c (next_sort i) → length i.rest < n → p i ≡ q i
+  pub says : (i : Position) → c (next_sort i) → Says L i (p i)
+  pub steady : (k : ℕ) (i j : Position) → c (next_sort i) → Agree k i j → Same k (p i) (p j)
 
 pub keeps : {A : Type 0} (c : Sort → Type 0) (n : ℕ) (L : Language A) (p q : Parser A) → Lawful n L p q → Keeps c n L p q
 keeps c n L p q l = record {
@@ -52,7 +52,7 @@ keeps_within c n L M p q w l = record {
 }
 
 -- two places that agree as far as the first token have the same next sort
-pub next_agrees : (k : ℕ) (i j : Place) → Agree k i j → i.at ≤ k → next_sort j ≡ next_sort i
+pub next_agrees : (k : ℕ) (i j : Position) → Agree k i j → i.at ≤ k → next_sort j ≡ next_sort i
 next_agrees k i j same near = first_agrees same.shared i.rest j.rest same.more same.other same.left same.right (long_enough i.at k (length same.shared) same.far near)
   where
     first_agrees : (v x y w z : List Token) → x ≡ v ++ w → y ≡ v ++ z → 0 < length v → first_sort y ≡ first_sort x
@@ -60,14 +60,14 @@ next_agrees k i j same near = first_agrees same.shared i.rest j.rest same.more s
     first_agrees (t ∷ v) x y w z e f long = ap first_sort f ∙ sym (ap first_sort e)
 
 pub keeps_equal : {A : Type 0} (c : Sort → Type 0) (n : ℕ) (L : Language A) (p q r t : Parser A)
-    → ((i : Place) → c (next_sort i) → p i ≡ r i) → ((i : Place) → c (next_sort i) → q i ≡ t i) → Keeps c n L r t → Keeps c n L p q
+    → ((i : Position) → c (next_sort i) → p i ≡ r i) → ((i : Position) → c (next_sort i) → q i ≡ t i) → Keeps c n L r t → Keeps c n L p q
 keeps_equal c n L p q r t left right l = record {
   settled = λ i h short. left i h ∙ (l.settled i h short ∙ sym (right i h));
   says = λ i h. subst (λ o. Says L i o) (sym (left i h)) (l.says i h);
   steady = λ k i j h same. steady_equal k i j h same (near_or_far i.at k);
 }
   where
-    steady_equal : (k : ℕ) (i j : Place) → c (next_sort i) → Agree k i j → (i.at ≤ k) ⊎ (k < i.at) → Same k (p i) (p j)
+    steady_equal : (k : ℕ) (i j : Position) → c (next_sort i) → Agree k i j → (i.at ≤ k) ⊎ (k < i.at) → Same k (p i) (p j)
     steady_equal k i j h same (inl near) =
         let there = subst c (sym (next_agrees k i j same near)) h in
         subst (λ o. Same k o (p j)) (sym (left i h)) (subst (λ o. Same k (r i) o) (sym (left j there)) (l.steady k i j h same))
@@ -104,19 +104,19 @@ lawful_test {A} t n L p p' q q' yes_ no_ can = record {
   can = can;
 }
   where
-    settles : (i : Place) (b : Bool) → t (next_sort i) ≡ b → length i.rest < n → (if b then p i else q i) ≡ (if b then p' i else q' i)
+    settles : (i : Position) (b : Bool) → t (next_sort i) ≡ b → length i.rest < n → (if b then p i else q i) ≡ (if b then p' i else q' i)
     settles i true e short = yes_.settled i e short
     settles i false e short = no_.settled i e short
 
-    tells : (i : Place) (b : Bool) → t (next_sort i) ≡ b → Says L i (if b then p i else q i)
+    tells : (i : Position) (b : Bool) → t (next_sort i) ≡ b → Says L i (if b then p i else q i)
     tells i true e = yes_.says i e
     tells i false e = no_.says i e
 
-    keeps_on : (k : ℕ) (i j : Place) (b : Bool) → t (next_sort i) ≡ b → Agree k i j → Same k (if b then p i else q i) (if b then p j else q j)
+    keeps_on : (k : ℕ) (i j : Position) (b : Bool) → t (next_sort i) ≡ b → Agree k i j → Same k (if b then p i else q i) (if b then p j else q j)
     keeps_on k i j true e same = yes_.steady k i j e same
     keeps_on k i j false e same = no_.steady k i j e same
 
-    stays : (k : ℕ) (i j : Place) → Agree k i j → (i.at ≤ k) ⊎ (k < i.at)
+    stays : (k : ℕ) (i j : Position) → Agree k i j → (i.at ≤ k) ⊎ (k < i.at)
         → Same k (if t (next_sort i) then p i else q i) (if t (next_sort j) then p j else q j)
     stays k i j same (inl near) =
         subst (λ x. Same k (if t (next_sort i) then p i else q i) (if t x then p j else q j)) (sym (next_agrees k i j same near))
@@ -133,19 +133,19 @@ lawful_option {A} {B} h n L F G none_ some_ can = record {
   can = can;
 }
   where
-    settles : (i : Place) (b : Option B) → h (next_sort i) ≡ b → length i.rest < n → F b i ≡ G b i
+    settles : (i : Position) (b : Option B) → h (next_sort i) ≡ b → length i.rest < n → F b i ≡ G b i
     settles i None e short = none_.settled i e short
     settles i (Some b) e short = (some_ b).settled i e short
 
-    tells : (i : Place) (b : Option B) → h (next_sort i) ≡ b → Says L i (F b i)
+    tells : (i : Position) (b : Option B) → h (next_sort i) ≡ b → Says L i (F b i)
     tells i None e = none_.says i e
     tells i (Some b) e = (some_ b).says i e
 
-    keeps_on : (k : ℕ) (i j : Place) (b : Option B) → h (next_sort i) ≡ b → Agree k i j → Same k (F b i) (F b j)
+    keeps_on : (k : ℕ) (i j : Position) (b : Option B) → h (next_sort i) ≡ b → Agree k i j → Same k (F b i) (F b j)
     keeps_on k i j None e same = none_.steady k i j e same
     keeps_on k i j (Some b) e same = (some_ b).steady k i j e same
 
-    stays : (k : ℕ) (i j : Place) → Agree k i j → (i.at ≤ k) ⊎ (k < i.at) → Same k (F (h (next_sort i)) i) (F (h (next_sort j)) j)
+    stays : (k : ℕ) (i j : Position) → Agree k i j → (i.at ≤ k) ⊎ (k < i.at) → Same k (F (h (next_sort i)) i) (F (h (next_sort j)) j)
     stays k i j same (inl near) =
         subst (λ x. Same k (F (h (next_sort i)) i) (F (h x) j)) (sym (next_agrees k i j same near))
         (keeps_on k i j (h (next_sort i)) refl same)

@@ -6,10 +6,10 @@ use Rattle.pw_grammar.specs.declared.sort.Sort.{Sort}
 use Rattle.pw_grammar.specs.declared.sort.Sort.TheVariants as s
 use Rattle.pw_grammar.specs.Terminals.{sort, first_sort, is_same}
 use Rattle.pw_grammar.specs.Expressions.{name_in}
-use Rattle.pw_grammar.specs.Statements.{TypePhrase, word, unsigned, spelled_type, IsType, type_of, type_in, type_or, Statements, spelled_statements, trees_of_statements}
+use Rattle.pw_grammar.specs.Statements.{TypeDerivation, word, unsigned, spelled_type, IsType, type_of, type_in, type_or, StatementDerivations, spelled_statements, trees_of_statements}
 use Rattle.pw_grammar.specs.Declarations as dc
-use Rattle.pw_grammar.specs.Declarations.{spelled_storage, IsStorage, IsDefining, linkage_of, linkage_by, ResultPhrase, spelled_result, IsResult, result_in, Parameters, spelled_parameters, AreParameters, parameters_of, Variable, spelled_variable, IsVariable, MayHave, Declaration, prototype, function, variable, spelled_declaration, IsDeclaration, name_at, behind_parameters, tree_of_declaration, UnitPhrase, spelled_unit, IsUnit, trees_of_declarations}
-use Rattle.pw_grammar.specs.Steps.{Place, Parser, ◌>>=◌, pure, refuse, next_sort}
+use Rattle.pw_grammar.specs.Declarations.{spelled_storage, IsStorage, IsDefining, linkage_of, linkage_by, ResultDerivation, spelled_result, IsResult, result_in, ParametersDerivation, spelled_parameters, AreParameters, parameters_of, VariableDerivation, spelled_variable, IsVariable, MayHave, DeclarationDerivation, prototype, function, variable, spelled_declaration, IsDeclaration, name_at, behind_parameters, tree_of_declaration, UnitDerivation, spelled_unit, IsUnit, trees_of_declarations}
+use Rattle.pw_grammar.specs.Steps.{Position, Parser, ◌>>=◌, pure, refuse, next_sort}
 use Rattle.pw_grammar.specs.ReadingExpressions.{expression}
 use Rattle.pw_grammar.specs.ReadingStatements as r
 use Rattle.pw_grammar.specs.ReadingDeclarations as rd
@@ -44,7 +44,7 @@ unfolding r.begins_type is_same
 no_type_end = refl
 
 -- the declaration with this name and what its reader gives behind it
-abbrev pub declared : ℕ → Option Token → ResultPhrase → Token → ℕ × DeclKind → ℕ → Decl
+abbrev pub declared : ℕ → Option Token → ResultDerivation → Token → ℕ × DeclKind → ℕ → Decl
 declared at g c x p last = record {
   first = at;
   name_at = name_at at g (spelled_result c);
@@ -56,7 +56,7 @@ declared at g c x p last = record {
   kind = p.1;
 }
 
-reads_front : (expr : Parser Expr) (stmt : Parser Stmt) (n at : ℕ) (g : Option Token) (c : ResultPhrase) (x : Token) (ts : List Token) (p : ℕ × DeclKind) (last m : ℕ) (us : List Token)
+reads_front : (expr : Parser Expr) (stmt : Parser Stmt) (n at : ℕ) (g : Option Token) (c : ResultDerivation) (x : Token) (ts : List Token) (p : ℕ × DeclKind) (last m : ℕ) (us : List Token)
     → IsStorage g → IsResult c → sort x ≡ s.Name
     → rd.declarator expr stmt n (linkage_of g) (result_in c) (spot (suc (name_at at g (spelled_result c))) ts) ≡ Ok (p, spot m us) → m ≡ suc last
     → rd.declaration expr stmt n (spot at (spelled_storage g ++ (spelled_result c ++ x ∷ ts))) ≡ Ok (declared at g c x p last, spot m us)
@@ -70,25 +70,25 @@ reads_front expr stmt n at g c x ts p last m us is_g is_c is_x reads ends =
 
 -- ---- functions
 
-a_function : (expr : Parser Expr) (stmt : Parser Stmt) (n : ℕ) (l : Linkage) (y : Ty) (j : Place) → next_sort j ≡ s.LeftParen
+a_function : (expr : Parser Expr) (stmt : Parser Stmt) (n : ℕ) (l : Linkage) (y : Ty) (j : Position) → next_sort j ≡ s.LeftParen
     → rd.declarator expr stmt n l y j ≡ rd.function expr stmt n l y j
 unfolding rd.declarator
 a_function expr stmt n l y j is = ap (λ b. if b then rd.function expr stmt n l y j else (if rd.is_void y then refuse j else rd.variable n l y j))
     (sees_it s.LeftParen j is)
 
-a_variable : (expr : Parser Expr) (stmt : Parser Stmt) (n : ℕ) (l : Linkage) (y : Ty) (j : Place) → next_sort j ≢ s.LeftParen → rd.is_void y ≡ false
+a_variable : (expr : Parser Expr) (stmt : Parser Stmt) (n : ℕ) (l : Linkage) (y : Ty) (j : Position) → next_sort j ≢ s.LeftParen → rd.is_void y ≡ false
     → rd.declarator expr stmt n l y j ≡ rd.variable n l y j
 unfolding rd.declarator
 a_variable expr stmt n l y j other void =
     ap (λ b. if b then rd.function expr stmt n l y j else (if rd.is_void y then refuse j else rd.variable n l y j)) (sees_other s.LeftParen j other)
     ∙ ap (λ b. if b then refuse j else rd.variable n l y j) void
 
-ends_here : (expr : Parser Expr) (stmt : Parser Stmt) (n : ℕ) (l : Linkage) (y : Ty) (ps : List Param) (j : Place) → next_sort j ≡ s.Semicolon
+ends_here : (expr : Parser Expr) (stmt : Parser Stmt) (n : ℕ) (l : Linkage) (y : Ty) (ps : List Param) (j : Position) → next_sort j ≡ s.Semicolon
     → rd.function_end expr stmt n l y ps j ≡ rd.prototype y ps j
 unfolding rd.function_end
 ends_here expr stmt n l y ps j is = ap (λ b. if (b || not (rd.may_define l ps)) then rd.prototype y ps j else rd.body expr stmt n y ps j) (sees_it s.Semicolon j is)
 
-has_body : (expr : Parser Expr) (stmt : Parser Stmt) (n : ℕ) (l : Linkage) (y : Ty) (ps : List Param) (j : Place) → next_sort j ≢ s.Semicolon → rd.may_define l ps ≡ true
+has_body : (expr : Parser Expr) (stmt : Parser Stmt) (n : ℕ) (l : Linkage) (y : Ty) (ps : List Param) (j : Position) → next_sort j ≢ s.Semicolon → rd.may_define l ps ≡ true
     → rd.function_end expr stmt n l y ps j ≡ rd.body expr stmt n y ps j
 unfolding rd.function_end
 has_body expr stmt n l y ps j other may =
@@ -114,11 +114,11 @@ no_void _ y e = absurd (none e)
     none : None ≡ Some y → ⊥
     none p = cc
 
-type_not_void : (c : TypePhrase) → IsType c → rd.is_void (type_in c) ≡ false
+type_not_void : (c : TypeDerivation) → IsType c → rd.is_void (type_in c) ≡ false
 type_not_void (word t) (y, e) = no_void (sort t) y e
 type_not_void (unsigned u l) is = refl
 
-reads_function : (expr : Parser Expr) (stmt : Parser Stmt) (n : ℕ) (l : Linkage) (y : Ty) (at : ℕ) (o : Token) (ps : Parameters) (c : Token) (ts : List Token) (kind : DeclKind) (j : Place)
+reads_function : (expr : Parser Expr) (stmt : Parser Stmt) (n : ℕ) (l : Linkage) (y : Ty) (at : ℕ) (o : Token) (ps : ParametersDerivation) (c : Token) (ts : List Token) (kind : DeclKind) (j : Position)
     → AreParameters ps → sort c ≡ s.RightParen → length (spelled_parameters ps ++ c ∷ ts) < n
     → rd.function_end expr stmt n l y (parameters_of (suc at) ps) (spot (suc (suc at + length (spelled_parameters ps))) ts) ≡ Ok (kind, j)
     → rd.function expr stmt n l y (spot at (o ∷ (spelled_parameters ps ++ c ∷ ts))) ≡ Ok ((suc at + length (spelled_parameters ps), kind), j)
@@ -134,7 +134,7 @@ a_prototype : (y : Ty) (ps : List Param) (at : ℕ) (e : Token) (ts : List Token
 unfolding rd.prototype
 a_prototype y ps at e ts is = then_ _ (step_expect s.Semicolon at e ts is) refl
 
-a_body : (expr : Parser Expr) (stmt : Parser Stmt) (n : ℕ) (y : Ty) (ps : List Param) (at : ℕ) (b : Token) (ys : Statements) (e : Token) (ts : List Token)
+a_body : (expr : Parser Expr) (stmt : Parser Stmt) (n : ℕ) (y : Ty) (ps : List Param) (at : ℕ) (b : Token) (ys : StatementDerivations) (e : Token) (ts : List Token)
     → sort b ≡ s.LeftBrace → sort e ≡ s.RightBrace
     → ReadsElements expr stmt n ys (suc at) (e ∷ ts)
     → rd.body expr stmt n y ps (spot at (b ∷ (spelled_statements ys ++ e ∷ ts)))
@@ -153,7 +153,7 @@ own_definition : (g : Option Token) → IsDefining g → rd.is_extern (linkage_o
 own_definition None is = refl
 own_definition (Some t) is = ap (λ x. rd.is_extern (linkage_by x)) is
 
-stored : (g : Option Token) (v : Variable) → MayHave g v → IsStorage g
+stored : (g : Option Token) (v : VariableDerivation) → MayHave g v → IsStorage g
 stored None v is = tt
 stored (Some t) v (inl is) = inr is
 stored (Some t) v (inr is) = inl is.0
@@ -176,13 +176,13 @@ front_fits : (u v : List Token) (x : Token) (w : List Token) (n : ℕ) → lengt
 front_fits u v x w n short = omega (arith, length-append u (v ++ x ∷ w), length-append v (x ∷ w))
 
 -- what comes behind a variable's name is no bracket
-variable_no : (v : Variable) (e : Token) (ts : List Token) → IsVariable v → sort e ≡ s.Semicolon → first_sort (spelled_variable v ++ e ∷ ts) ≢ s.LeftParen
+variable_no : (v : VariableDerivation) (e : Token) (ts : List Token) → IsVariable v → sort e ≡ s.Semicolon → first_sort (spelled_variable v ++ e ∷ ts) ≢ s.LeftParen
 variable_no dc.scalar e ts is is_e = no_other is_e (λ p. cc)
 variable_no (dc.scalar_set q x) e ts is is_e = no_other is.0 (λ p. cc)
 variable_no (dc.array o n c) e ts is is_e = no_other is.0 (λ p. cc)
 variable_no (dc.array_set o n c q b x xs z) e ts is is_e = no_other is.0.0 (λ p. cc)
 
-pub reads_declaration : ((m : ℕ) → ReadsExpressions m (expression m)) → (n : ℕ) (c : Declaration) (at : ℕ) (ts : List Token) → IsDeclaration c
+pub reads_declaration : ((m : ℕ) → ReadsExpressions m (expression m)) → (n : ℕ) (c : DeclarationDerivation) (at : ℕ) (ts : List Token) → IsDeclaration c
     → length (spelled_declaration c ++ ts) < n
     → rd.declaration (expression n) (r.statement n) n (spot at (spelled_declaration c ++ ts))
     ≡ Ok (tree_of_declaration at c, spot (at + length (spelled_declaration c)) ts)
@@ -254,12 +254,12 @@ reads_declaration reads n (variable g y x v e) at ts (is_y, is_x, is_v, may, is_
 
 -- ---- units
 
-front_no_end : (g : Option Token) (c : ResultPhrase) (ts : List Token) → IsStorage g → IsResult c → first_sort (spelled_storage g ++ (spelled_result c ++ ts)) ≢ s.End
+front_no_end : (g : Option Token) (c : ResultDerivation) (ts : List Token) → IsStorage g → IsResult c → first_sort (spelled_storage g ++ (spelled_result c ++ ts)) ≢ s.End
 front_no_end None c ts is_g is = result_no c ts s.End is no_type_end (λ p. cc)
 front_no_end (Some t) c ts (inl is_g) is = no_other is_g (λ p. cc)
 front_no_end (Some t) c ts (inr is_g) is = no_other is_g (λ p. cc)
 
-declaration_no_end : (c : Declaration) (ts : List Token) → IsDeclaration c → first_sort (spelled_declaration c ++ ts) ≢ s.End
+declaration_no_end : (c : DeclarationDerivation) (ts : List Token) → IsDeclaration c → first_sort (spelled_declaration c ++ ts) ≢ s.End
 declaration_no_end (prototype g y x o ps c e) ts is = subst (λ v. first_sort v ≢ s.End)
     (sym (function_parts (spelled_storage g) (spelled_result y) x o (spelled_parameters ps) (c ∷ e ∷ []) ts)) (front_no_end g y _ is.0 is.1)
 declaration_no_end (function g y x o ps c b body e) ts is = subst (λ v. first_sort v ≢ s.End)
@@ -275,7 +275,7 @@ next_declaration n turns found = do
 unit_fits : (u v : List Token) (n : ℕ) → 0 < length u → length (u ++ v) < suc n → length v < n
 unit_fits u v n some short = omega (arith, length-append u v)
 
-reads_declarations : ((m : ℕ) → ReadsExpressions m (expression m)) → (n turns : ℕ) (cs : UnitPhrase) (found : List Decl) (at : ℕ) → IsUnit cs
+reads_declarations : ((m : ℕ) → ReadsExpressions m (expression m)) → (n turns : ℕ) (cs : UnitDerivation) (found : List Decl) (at : ℕ) → IsUnit cs
     → length (spelled_unit cs) < n → length (spelled_unit cs) < turns
     → rd.declarations (rd.declaration (expression n) (r.statement n) n) turns found (spot at (spelled_unit cs))
     ≡ Ok (found ++ trees_of_declarations at cs, spot (at + length (spelled_unit cs)) [])
@@ -293,7 +293,7 @@ reads_declarations reads n (suc turns) (c ∷ cs) found at is short1 short2 =
     (append_assoc found (tree_of_declaration at c ∷ []) (trees_of_declarations (at + length (spelled_declaration c)) cs)))
 
 -- a whole unit is read, to the end of its tokens
-pub reads_unit : ((m : ℕ) → ReadsExpressions m (expression m)) → (n : ℕ) (c : UnitPhrase) → IsUnit c → length (spelled_unit c) < n
+pub reads_unit : ((m : ℕ) → ReadsExpressions m (expression m)) → (n : ℕ) (c : UnitDerivation) → IsUnit c → length (spelled_unit c) < n
     → rd.unit n (spot 0 (spelled_unit c)) ≡ Ok (trees_of_declarations 0 c, spot (length (spelled_unit c)) [])
 unfolding rd.unit rd.all_declarations
 reads_unit reads n c is short =

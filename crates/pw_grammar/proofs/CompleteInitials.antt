@@ -7,8 +7,8 @@ use Rattle.pw_grammar.specs.Terminals.{sort, first_sort}
 use Rattle.pw_grammar.specs.Expressions.{value_in, IsConstant}
 use Rattle.pw_grammar.specs.Statements.{first_line}
 use Rattle.pw_grammar.specs.Declarations as dc
-use Rattle.pw_grammar.specs.Declarations.{Element, spelled_element, IsElement, kind_of_element, element_of, MoreElements, spelled_more_elements, AreMoreElements, more_elements_of, Variable, spelled_variable, IsExtent, IsVariable, HasNoValue, MayHave, count_in, extent, elements_of, linkage_of, linkage_by}
-use Rattle.pw_grammar.specs.Steps.{Place, Parser, and_then, ◌>>=◌, pure, refuse, next_sort, sees, take, skip, either}
+use Rattle.pw_grammar.specs.Declarations.{ElementDerivation, spelled_element, IsElement, kind_of_element, element_of, MoreElements, spelled_more_elements, AreMoreElements, more_elements_of, VariableDerivation, spelled_variable, IsExtent, IsVariable, HasNoValue, MayHave, count_in, extent, elements_of, linkage_of, linkage_by}
+use Rattle.pw_grammar.specs.Steps.{Position, Parser, and_then, ◌>>=◌, pure, refuse, next_sort, sees, take, skip, either}
 use Rattle.pw_grammar.specs.ReadingDeclarations as rd
 use Rattle.pw_grammar.proofs.CompleteTokens.{spot, then_, counted, done, valued, step_skip, step_take, step_expect, step_name, sees_it, sees_other, either_this, either_other, behind, parted, fits}
 use Rattle.pw_grammar.proofs.CompleteStatements.{no_other}
@@ -21,7 +21,7 @@ use Rattle.pw_lex.specs.declared.token.Token.{Token}
 
 -- ---- elements
 
-sees_constant : (j : Place) → IsConstant (next_sort j) → (sees s.Number j || sees s.Character j) ≡ true
+sees_constant : (j : Position) → IsConstant (next_sort j) → (sees s.Number j || sees s.Character j) ≡ true
 sees_constant j (inl e) = ap (λ b. b || sees s.Character j) (sees_it s.Number j e)
 sees_constant j (inr e) = ap (λ b. b || sees s.Character j) (sees_other s.Number j (no_other e (λ p. cc))) ∙ sees_it s.Character j e
 
@@ -36,7 +36,7 @@ constant_no : (x y : Sort) → IsConstant x → (s.Number ≡ y → ⊥) → (s.
 constant_no x y (inl e) f g = no_other e f
 constant_no x y (inr e) f g = no_other e g
 
-step_kind : (x : Element) (at : ℕ) (ts : List Token) → IsElement x
+step_kind : (x : ElementDerivation) (at : ℕ) (ts : List Token) → IsElement x
     → rd.element_kind (spot at (spelled_element x ++ ts)) ≡ Ok (kind_of_element x, spot (at + length (spelled_element x)) ts)
 unfolding rd.element_kind rd.element_word rd.element_positive rd.element_negative
 step_kind (dc.word t) at ts is =
@@ -52,22 +52,22 @@ step_kind (dc.negative m t) at ts (is_m, is) =
     ∙ then_ _ (step_skip at m (t ∷ ts)) (then_ _ (step_constant (suc at) t ts is) (done _ _ ts (omega arith)))
 
 -- the node of an element, by its last token and its line
-element_is : (first line n : ℕ) (x : Element) (r : List Token) → n ≡ first + length (spelled_element x) → line ≡ first_line (spelled_element x)
+element_is : (first line n : ℕ) (x : ElementDerivation) (r : List Token) → n ≡ first + length (spelled_element x) → line ≡ first_line (spelled_element x)
     → rd.finish_element first line (kind_of_element x) (spot n r) ≡ Ok (element_of first x, spot (first + length (spelled_element x)) r)
 element_is first line n x r counts lines = cc
 
-element_line : (x : Element) (ts : List Token) → first_line (spelled_element x ++ ts) ≡ first_line (spelled_element x)
+element_line : (x : ElementDerivation) (ts : List Token) → first_line (spelled_element x ++ ts) ≡ first_line (spelled_element x)
 element_line (dc.word t) ts = refl
 element_line (dc.positive t) ts = refl
 element_line (dc.negative m t) ts = refl
 
-step_element : (x : Element) (at : ℕ) (ts : List Token) → IsElement x
+step_element : (x : ElementDerivation) (at : ℕ) (ts : List Token) → IsElement x
     → rd.initial (spot at (spelled_element x ++ ts)) ≡ Ok (element_of at x, spot (at + length (spelled_element x)) ts)
 unfolding rd.initial
 step_element x at ts is = then_ _ (step_kind x at ts is) (element_is at _ _ x ts refl (element_line x ts))
 
 -- an element begins with no closing brace
-element_no : (x : Element) (ts : List Token) → IsElement x → first_sort (spelled_element x ++ ts) ≢ s.RightBrace
+element_no : (x : ElementDerivation) (ts : List Token) → IsElement x → first_sort (spelled_element x ++ ts) ≢ s.RightBrace
 element_no (dc.word t) ts is = no_other is (λ p. cc)
 element_no (dc.positive t) ts is = constant_no (sort t) s.RightBrace is (λ p. cc) (λ p. cc)
 element_no (dc.negative m t) ts is = no_other is.0 (λ p. cc)
@@ -128,27 +128,27 @@ step_size at o n c ts is =
     either_this s.LeftBracket rd.size (pure None) (spot at (o ∷ n ∷ c ∷ ts)) is.0
     ∙ then_ _ (step_skip at o (n ∷ c ∷ ts)) (then_ _ (step_number (suc at) n (c ∷ ts) is.1) (then_ _ (step_expect s.RightBracket (suc (suc at)) c ts is.2) refl))
 
-no_size : (j : Place) → next_sort j ≢ s.LeftBracket → rd.maybe_size j ≡ Ok (None, j)
+no_size : (j : Position) → next_sort j ≢ s.LeftBracket → rd.maybe_size j ≡ Ok (None, j)
 unfolding rd.maybe_size
 no_size j other = either_other s.LeftBracket rd.size (pure None) j other
 
-no_initials : (n : ℕ) (l : Linkage) (count : Option ℕ) (j : Place) → next_sort j ≢ s.Assign → rd.maybe_initials n l count j ≡ Ok (None, j)
+no_initials : (n : ℕ) (l : Linkage) (count : Option ℕ) (j : Position) → next_sort j ≢ s.Assign → rd.maybe_initials n l count j ≡ Ok (None, j)
 unfolding rd.maybe_initials
 no_initials n l count j other = ap (λ b. if (b && not (rd.is_extern l)) then rd.initials_by n count j else pure None j) (sees_other s.Assign j other)
 
-its_initials : (n : ℕ) (l : Linkage) (count : Option ℕ) (j : Place) → next_sort j ≡ s.Assign → rd.is_extern l ≡ false
+its_initials : (n : ℕ) (l : Linkage) (count : Option ℕ) (j : Position) → next_sort j ≡ s.Assign → rd.is_extern l ≡ false
     → rd.maybe_initials n l count j ≡ rd.initials_by n count j
 unfolding rd.maybe_initials
 its_initials n l count j is own =
     ap (λ b. if (b && not (rd.is_extern l)) then rd.initials_by n count j else pure None j) (sees_it s.Assign j is)
     ∙ ap (λ b. if not b then rd.initials_by n count j else pure None j) own
 
-step_one : (n at : ℕ) (q : Token) (x : Element) (ts : List Token) → IsElement x
+step_one : (n at : ℕ) (q : Token) (x : ElementDerivation) (ts : List Token) → IsElement x
     → rd.initials_by n None (spot at (q ∷ (spelled_element x ++ ts))) ≡ Ok (Some (element_of (suc at) x ∷ []), spot (suc at + length (spelled_element x)) ts)
 unfolding rd.one_initial
 step_one n at q x ts is = then_ _ (step_skip at q _) (then_ _ (step_element x (suc at) ts is) refl)
 
-step_listed : (n count at : ℕ) (q b : Token) (x : Element) (xs : MoreElements) (e : Token) (ts : List Token) → sort b ≡ s.LeftBrace → IsElement x → AreMoreElements xs
+step_listed : (n count at : ℕ) (q b : Token) (x : ElementDerivation) (xs : MoreElements) (e : Token) (ts : List Token) → sort b ≡ s.LeftBrace → IsElement x → AreMoreElements xs
     → sort e ≡ s.RightBrace
     → length (spelled_element x ++ (spelled_more_elements xs ++ e ∷ ts)) < n
     → rd.initials_by n (Some count) (spot at (q ∷ b ∷ (spelled_element x ++ (spelled_more_elements xs ++ e ∷ ts))))
@@ -166,10 +166,10 @@ step_listed n count at q b x xs e ts is_b is are is_e short =
     (then_ _ (step_expect s.RightBrace (suc (suc at) + length (spelled_element x) + length (spelled_more_elements xs)) e ts is_e) refl))))
 
 -- the variable has no initialiser, or may have one
-abbrev pub MayBe : Linkage → Variable → Type 0
+abbrev pub MayBe : Linkage → VariableDerivation → Type 0
 MayBe l v = HasNoValue v ⊎ (rd.is_extern l ≡ false)
 
-pub may_be : (g : Option Token) (v : Variable) → MayHave g v → MayBe (linkage_of g) v
+pub may_be : (g : Option Token) (v : VariableDerivation) → MayHave g v → MayBe (linkage_of g) v
 may_be None v is = inr refl
 may_be (Some t) v (inl is) = inr (ap (λ x. rd.is_extern (linkage_by x)) is)
 may_be (Some t) v (inr is) = inl is.1
@@ -181,11 +181,11 @@ not_extern b (inr e) f = f e
 variable_is : (m n : ℕ) (a b : ℕ × DeclKind) (ts : List Token) → a ≡ b → m ≡ n → pure a (spot m ts) ≡ Ok (b, spot n ts)
 variable_is m n a b ts same counts = done a n ts counts ∙ ap (λ a. pure a (spot n ts)) same
 
-scalar_is : (ty : Ty) (x : Element) (a b m n : ℕ) → a ≡ b → m ≡ n
+scalar_is : (ty : Ty) (x : ElementDerivation) (a b m n : ℕ) → a ≡ b → m ≡ n
     → ◌≡◌ {A = ℕ × DeclKind} (a, d.Var ty None (Some (element_of m x ∷ []))) (b, d.Var ty None (Some (element_of n x ∷ [])))
 scalar_is ty x a b m n e f = cc
 
-array_is : (ty : Ty) (count : ℕ) (x : Element) (xs : MoreElements) (a b m n : ℕ) → a ≡ b → m ≡ n
+array_is : (ty : Ty) (count : ℕ) (x : ElementDerivation) (xs : MoreElements) (a b m n : ℕ) → a ≡ b → m ≡ n
     → ◌≡◌ {A = ℕ × DeclKind} (a, d.Var ty (Some count) (Some (element_of m x ∷ more_elements_of (m + length (spelled_element x)) xs)))
     (b, d.Var ty (Some count) (Some (element_of n x ∷ more_elements_of (n + length (spelled_element x)) xs)))
 array_is ty count x xs a b m n e f = cc
@@ -193,7 +193,7 @@ array_is ty count x xs a b m n e f = cc
 listed_parts : (u v : List Token) (z : Token) (ts : List Token) → (u ++ (v ++ z ∷ [])) ++ ts ≡ u ++ (v ++ z ∷ ts)
 listed_parts u v z ts = append_assoc u (v ++ z ∷ []) ts ∙ ap (λ w. u ++ w) (append_assoc v (z ∷ []) ts)
 
-pub step_variable : (n : ℕ) (l : Linkage) (ty : Ty) (v : Variable) (at : ℕ) (e : Token) (ts : List Token) → IsVariable v → MayBe l v → sort e ≡ s.Semicolon
+pub step_variable : (n : ℕ) (l : Linkage) (ty : Ty) (v : VariableDerivation) (at : ℕ) (e : Token) (ts : List Token) → IsVariable v → MayBe l v → sort e ≡ s.Semicolon
     → length (spelled_variable v ++ e ∷ ts) < n
     → rd.variable n l ty (spot (suc at) (spelled_variable v ++ e ∷ ts))
     ≡ Ok ((at + extent v, d.Var ty (count_in v) (elements_of (suc at) v)), spot (suc (suc at + length (spelled_variable v))) ts)

@@ -4,10 +4,10 @@ use Rattle.std.proofs.lemmas.List.{append_assoc, length-append}
 use Rattle.pw_grammar.specs.declared.sort.Sort.{Sort}
 use Rattle.pw_grammar.specs.declared.sort.Sort.TheVariants as s
 use Rattle.pw_grammar.specs.Terminals.{sort, first_sort}
-use Rattle.pw_grammar.specs.Expressions.{Phrase, spelled}
+use Rattle.pw_grammar.specs.Expressions.{ExpressionDerivation, spelled}
 use Rattle.pw_grammar.specs.Statements as st
-use Rattle.pw_grammar.specs.Statements.{Simple, spelled_simple, IsSimple, Start, no_start, local_start, simple_start, spelled_start, IsStart, tree_of_start, spelled_maybe, IsMaybe, tree_of_maybe, spelled_step, IsStep, tree_of_step, spelled_local}
-use Rattle.pw_grammar.specs.Steps.{Place, Parser, pure, next_sort}
+use Rattle.pw_grammar.specs.Statements.{SimpleDerivation, spelled_simple, IsSimple, ForStartDerivation, no_start, local_start, simple_start, spelled_start, IsStart, tree_of_start, spelled_maybe, IsMaybe, tree_of_maybe, spelled_step, IsStep, tree_of_step, spelled_local}
+use Rattle.pw_grammar.specs.Steps.{Position, Parser, pure, next_sort}
 use Rattle.pw_grammar.specs.ReadingStatements as r
 use Rattle.pw_grammar.proofs.CompleteEnds.{ends_expression}
 use Rattle.pw_grammar.proofs.CompleteTokens.{spot, then_, done, step_skip, step_expect, sees_it, sees_other, either_this, either_other, parted, told_apart, fits, ReadsExpressions}
@@ -23,7 +23,7 @@ use Rattle.pw_lex.specs.declared.token.Token.{Token}
 
 -- ---- what may be left out
 
-pub reads_maybe : (n : ℕ) (expr : Parser Expr) → ReadsExpressions n expr → (a : Option Phrase) (at : ℕ) (ts : List Token) → IsMaybe a → first_sort ts ≡ s.Semicolon
+pub reads_maybe : (n : ℕ) (expr : Parser Expr) → ReadsExpressions n expr → (a : Option ExpressionDerivation) (at : ℕ) (ts : List Token) → IsMaybe a → first_sort ts ≡ s.Semicolon
     → length (spelled_maybe a ++ ts) < n → r.maybe_before s.Semicolon expr (spot at (spelled_maybe a ++ ts))
     ≡ Ok (tree_of_maybe at a, spot (at + length (spelled_maybe a)) ts)
 unfolding r.maybe_before r.some
@@ -35,7 +35,7 @@ reads_maybe n expr reads (Some a) at ts is ends short =
 not_assign : (x : Sort) → x ≡ s.RightParen → x ≢ s.Assign
 not_assign x e = no_other e (λ p. cc)
 
-pub reads_step : (n : ℕ) (expr : Parser Expr) → ReadsExpressions n expr → (a : Option Simple) (at : ℕ) (ts : List Token) → IsStep a → first_sort ts ≡ s.RightParen
+pub reads_step : (n : ℕ) (expr : Parser Expr) → ReadsExpressions n expr → (a : Option SimpleDerivation) (at : ℕ) (ts : List Token) → IsStep a → first_sort ts ≡ s.RightParen
     → length (spelled_step a ++ ts) < n
     → r.maybe_before s.RightParen (r.simple_statement expr) (spot at (spelled_step a ++ ts)) ≡ Ok (tree_of_step at a, spot (at + length (spelled_step a)) ts)
 unfolding r.maybe_before r.some
@@ -48,19 +48,19 @@ reads_step n expr reads (Some a) at ts is ends short =
 
 -- ---- the first part of a `for`
 
-starts_so : (expr : Parser Expr) (i : Place) → next_sort i ≡ s.Semicolon → r.start expr i ≡ r.no_start i
+starts_so : (expr : Parser Expr) (i : Position) → next_sort i ≡ s.Semicolon → r.start expr i ≡ r.no_start i
 unfolding r.start
 starts_so expr i e = ap (λ b. if b then r.no_start i else (if r.begins_type (next_sort i) then r.some (r.local expr) i else r.simple_start expr i))
     (sees_it s.Semicolon i e)
 
-starts_with : (expr : Parser Expr) (i : Place) (b : Bool) → next_sort i ≢ s.Semicolon → r.begins_type (next_sort i) ≡ b
+starts_with : (expr : Parser Expr) (i : Position) (b : Bool) → next_sort i ≢ s.Semicolon → r.begins_type (next_sort i) ≡ b
     → r.start expr i ≡ (if b then r.some (r.local expr) i else r.simple_start expr i)
 unfolding r.start
 starts_with expr i b other e =
     ap (λ b. if b then r.no_start i else (if r.begins_type (next_sort i) then r.some (r.local expr) i else r.simple_start expr i)) (sees_other s.Semicolon i other)
     ∙ ap (λ b. if b then r.some (r.local expr) i else r.simple_start expr i) e
 
-pub reads_start : (n : ℕ) (expr : Parser Expr) → ReadsExpressions n expr → (c : Start) (at : ℕ) (ts : List Token) → IsStart c → length (spelled_start c ++ ts) < n
+pub reads_start : (n : ℕ) (expr : Parser Expr) → ReadsExpressions n expr → (c : ForStartDerivation) (at : ℕ) (ts : List Token) → IsStart c → length (spelled_start c ++ ts) < n
     → r.start expr (spot at (spelled_start c ++ ts)) ≡ Ok (tree_of_start at c, spot (at + length (spelled_start c)) ts)
 unfolding r.no_start r.some r.simple_start
 reads_start n expr reads (no_start e) at ts is short =
@@ -92,7 +92,7 @@ for_count : (at : ℕ) (u v : List Token) (e : Token) (w : List Token) (c : Toke
 for_count at u v e w c x = omega (arith, length-append u (v ++ e ∷ (w ++ c ∷ x)), length-append v (e ∷ (w ++ c ∷ x)), length-append w (c ∷ x))
 
 pub reads_for : (n : ℕ) (expr : Parser Expr) (stmt : Parser Stmt) → ReadsExpressions n expr
-    → (at : ℕ) (t o : Token) (start : Start) (a : Option Phrase) (e : Token) (step : Option Simple) (c : Token) (y : st.Statement) (ts : List Token)
+    → (at : ℕ) (t o : Token) (start : ForStartDerivation) (a : Option ExpressionDerivation) (e : Token) (step : Option SimpleDerivation) (c : Token) (y : st.StatementDerivation) (ts : List Token)
     → sort o ≡ s.LeftParen → IsStart start → IsMaybe a → sort e ≡ s.Semicolon → IsStep step → sort c ≡ s.RightParen
     → length (st.spelled_statement (st.for_do t o start a e step c y) ++ ts) < n
     → ReadsPart stmt y (st.behind_head at start a step) ts
@@ -119,7 +119,7 @@ reads_for n expr stmt reads at t o start a e step c y ts is_o is_start is_a is_e
 
 -- ---- statements without statements in them
 
-pub reads_return : (n : ℕ) (expr : Parser Expr) → ReadsExpressions n expr → (at : ℕ) (t : Token) (a : Option Phrase) (e : Token) (ts : List Token)
+pub reads_return : (n : ℕ) (expr : Parser Expr) → ReadsExpressions n expr → (at : ℕ) (t : Token) (a : Option ExpressionDerivation) (e : Token) (ts : List Token)
     → IsMaybe a → sort e ≡ s.Semicolon → length (st.spelled_statement (st.leave t a e) ++ ts) < n
     → r.leave expr (spot at (st.spelled_statement (st.leave t a e) ++ ts))
     ≡ Ok (st.kind_of at (st.leave t a e), spot (at + length (st.spelled_statement (st.leave t a e))) ts)
@@ -142,7 +142,7 @@ pub reads_empty : (at : ℕ) (e : Token) (ts : List Token) → r.empty (spot at 
 unfolding r.empty
 reads_empty at e ts = then_ _ (step_skip at e ts) (done _ _ ts (omega arith))
 
-pub reads_evaluated : (n : ℕ) (expr : Parser Expr) → ReadsExpressions n expr → (at : ℕ) (a : Simple) (e : Token) (ts : List Token)
+pub reads_evaluated : (n : ℕ) (expr : Parser Expr) → ReadsExpressions n expr → (at : ℕ) (a : SimpleDerivation) (e : Token) (ts : List Token)
     → IsSimple a → sort e ≡ s.Semicolon → length (st.spelled_statement (st.simple a e) ++ ts) < n
     → r.evaluated expr (spot at (st.spelled_statement (st.simple a e) ++ ts))
     ≡ Ok (st.kind_of at (st.simple a e), spot (at + length (st.spelled_statement (st.simple a e))) ts)

@@ -7,7 +7,7 @@ use Rattle.pw_grammar.specs.declared.sort.Sort.TheVariants as s
 use Rattle.pw_grammar.specs.Terminals.{sort, first_sort, is_same}
 use Rattle.pw_grammar.specs.Statements.{spelled_type, type_in}
 use Rattle.pw_grammar.specs.Declarations as dc
-use Rattle.pw_grammar.specs.Declarations.{spelled_storage, IsStorage, linkage_of, linkage_by, ResultPhrase, spelled_result, IsResult, result_in, Parameter, spelled_parameter, spelled_name, IsParameter, IsNamed, has_name, named, MoreParameters, Parameters, spelled_more_parameters, spelled_parameters, AreMoreParameters, AreParameters, AllNamed, HaveNames, parameter_of, more_parameters_of, parameters_of}
+use Rattle.pw_grammar.specs.Declarations.{spelled_storage, IsStorage, linkage_of, linkage_by, ResultDerivation, spelled_result, IsResult, result_in, ParameterDerivation, spelled_parameter, spelled_name, IsParameter, IsNamed, has_name, named, MoreParameters, ParametersDerivation, spelled_more_parameters, spelled_parameters, AreMoreParameters, AreParameters, AllNamed, HaveNames, parameter_of, more_parameters_of, parameters_of}
 use Rattle.pw_grammar.specs.Steps.{Parser, ◌>>=◌, pure, skip, name, either}
 use Rattle.pw_grammar.specs.ReadingStatements as r
 use Rattle.pw_grammar.specs.ReadingDeclarations as rd
@@ -38,7 +38,7 @@ unfolding rd.given
 step_given a at t ts = then_ _ (step_skip at t ts) refl
 
 -- a result begins with no such sort
-pub result_no : (c : ResultPhrase) (ts : List Token) (x : Sort) → IsResult c → r.begins_type x ≡ false → (s.Void ≡ x → ⊥) → first_sort (spelled_result c ++ ts) ≢ x
+pub result_no : (c : ResultDerivation) (ts : List Token) (x : Sort) → IsResult c → r.begins_type x ≡ false → (s.Void ≡ x → ⊥) → first_sort (spelled_result c ++ ts) ≢ x
 result_no (dc.nothing t) ts x is other void = no_other is void
 result_no (dc.value c) ts x is other void = told_apart r.begins_type (type_begins c ts is) other
 
@@ -56,7 +56,7 @@ step_storage (Some t) at ts (inr is) extern static =
     ∙ either_this s.Static (rd.given linkage.Static) (pure linkage.Plain) (spot at (t ∷ ts)) is
     ∙ valued (linkage_by (sort t)) (counted _ (step_given linkage.Static at t ts) (omega arith)) (sym (ap linkage_by is))
 
-pub step_result : (c : ResultPhrase) (at : ℕ) (ts : List Token) → IsResult c
+pub step_result : (c : ResultDerivation) (at : ℕ) (ts : List Token) → IsResult c
     → rd.result (spot at (spelled_result c ++ ts)) ≡ Ok (result_in c, spot (at + length (spelled_result c)) ts)
 unfolding rd.result
 step_result (dc.nothing t) at ts is = either_this s.Void (rd.given ty.Void) r.type_name (spot at (t ∷ ts)) is ∙ counted _ (step_given ty.Void at t ts) (omega arith)
@@ -73,12 +73,12 @@ step_maybe_name None at ts is other = either_other s.Name (r.some name) (pure No
 step_maybe_name (Some t) at ts is other = either_this s.Name (r.some name) (pure None) (spot at (t ∷ ts)) is ∙ then_ _ (step_name at t ts is) (done _ _ ts (omega arith))
 
 -- the node of a parameter, by its last token
-parameter_is : (first n : ℕ) (p : Parameter) (r : List Token) → n ≡ first + length (spelled_parameter p)
+parameter_is : (first n : ℕ) (p : ParameterDerivation) (r : List Token) → n ≡ first + length (spelled_parameter p)
     → rd.finish_parameter first (type_in p.ty) (named p.name) (spot n r) ≡ Ok (parameter_of first p, spot (first + length (spelled_parameter p)) r)
 parameter_is first n p r counts =
     ap (λ m. rd.finish_parameter first (type_in p.ty) (named p.name) (spot m r)) counts
 
-pub step_parameter : (p : Parameter) (at : ℕ) (ts : List Token) → IsParameter p → first_sort ts ≢ s.Name
+pub step_parameter : (p : ParameterDerivation) (at : ℕ) (ts : List Token) → IsParameter p → first_sort ts ≢ s.Name
     → rd.parameter (spot at (spelled_parameter p ++ ts)) ≡ Ok (parameter_of at p, spot (at + length (spelled_parameter p)) ts)
 unfolding rd.parameter
 step_parameter p at ts is other =
@@ -87,7 +87,7 @@ step_parameter p at ts is other =
     (then_ _ (step_maybe_name p.name (at + length (spelled_type p.ty)) ts is.1 other)
     (parameter_is at _ p ts (omega (arith, length-append (spelled_type p.ty) (spelled_name p.name))))))
 
-parameter_begins : (p : Parameter) (ts : List Token) → IsParameter p → r.begins_type (first_sort (spelled_parameter p ++ ts)) ≡ true
+parameter_begins : (p : ParameterDerivation) (ts : List Token) → IsParameter p → r.begins_type (first_sort (spelled_parameter p ++ ts)) ≡ true
 parameter_begins p ts is =
     subst (λ v. r.begins_type (first_sort v) ≡ true) (sym (append_assoc (spelled_type p.ty) (spelled_name p.name) ts)) (type_begins p.ty (spelled_name p.name ++ ts) is.0)
 
@@ -130,7 +130,7 @@ step_more_parameters (suc turns) (dc.more t p ps) found at ts is end short =
     (omega (arith, length-append (spelled_parameter p) (spelled_more_parameters ps))))
     (append_assoc found (parameter_of (suc at) p ∷ []) (more_parameters_of (suc at + length (spelled_parameter p)) ps)))))
 
-pub step_parameters : (n : ℕ) (ps : Parameters) (at : ℕ) (ts : List Token) → AreParameters ps → first_sort ts ≡ s.RightParen → length (spelled_parameters ps ++ ts) < n
+pub step_parameters : (n : ℕ) (ps : ParametersDerivation) (at : ℕ) (ts : List Token) → AreParameters ps → first_sort ts ≡ s.RightParen → length (spelled_parameters ps ++ ts) < n
     → rd.parameters n (spot at (spelled_parameters ps ++ ts)) ≡ Ok (parameters_of at ps, spot (at + length (spelled_parameters ps)) ts)
 unfolding rd.parameters rd.some_parameters
 step_parameters n (dc.none t) at ts is end short =
@@ -153,7 +153,7 @@ step_parameters n (dc.some p ps) at ts is end short =
 
 -- ---- what a function's parameters are, as its body asks
 
-param_named : (p : Parameter) → has_name p.name ≡ true → (at : ℕ) → rd.is_named (parameter_of at p) ≡ true
+param_named : (p : ParameterDerivation) → has_name p.name ≡ true → (at : ℕ) → rd.is_named (parameter_of at p) ≡ true
 param_named p e at = named_some p.name e
   where
     named_some : (x : Option Token) → has_name x ≡ true → r.is_some (named x) ≡ true
@@ -168,6 +168,6 @@ unfolding AllNamed more_parameters_of
 more_named dc.end at is = refl
 more_named (dc.more t p ps) at is = both_true (param_named p is.0 (suc at)) (more_named ps (suc at + length (spelled_parameter p)) is.1)
 
-pub all_named : (ps : Parameters) (at : ℕ) → HaveNames ps → list_all rd.is_named (parameters_of at ps) ≡ true
+pub all_named : (ps : ParametersDerivation) (at : ℕ) → HaveNames ps → list_all rd.is_named (parameters_of at ps) ≡ true
 all_named (dc.none t) at is = refl
 all_named (dc.some p ps) at is = both_true (param_named p is.0 at) (more_named ps (at + length (spelled_parameter p)) is.1)

@@ -4,7 +4,7 @@ use Rattle.std.proofs.lemmas.List.{append_assoc, length-append}
 use Rattle.pw_grammar.specs.declared.sort.Sort.{Sort}
 use Rattle.pw_grammar.specs.declared.sort.Sort.TheVariants as s
 use Rattle.pw_grammar.specs.Terminals.{sort, first_sort, prefix_of, level_of}
-use Rattle.pw_grammar.specs.Expressions.{Phrase, identifier, constant, bracketed, input, output, call, index, prefixed, binary, choice, spelled, IsAt, IsOperator}
+use Rattle.pw_grammar.specs.Expressions.{ExpressionDerivation, identifier, constant, bracketed, input, output, call, index, prefixed, binary, choice, spelled, IsAt, IsOperator}
 use Rattle.pw_lex.specs.declared.token.Token.{Token}
 use Rattle.pw_tree.specs.declared.operator.Un.{Un}
 use Rattle.pw_tree.specs.declared.operator.Bin.{Bin}
@@ -33,7 +33,7 @@ first_grouped : (u v r : List Token) (P : Sort → Type 0) → P (first_sort (u 
 first_grouped u v r P h = subst (λ ts. P (first_sort ts)) (sym (append_assoc u v r)) h
 
 -- an expression of the levels up to 1 begins with no prefix operator
-pub no_prefix : (c : Phrase) (r : List Token) → IsAt 1 c → prefix_of (first_sort (spelled c ++ r)) ≡ None
+pub no_prefix : (c : ExpressionDerivation) (r : List Token) → IsAt 1 c → prefix_of (first_sort (spelled c ++ r)) ≡ None
 unfolding IsAt spelled
 no_prefix (identifier t) r is = ap prefix_of is
 no_prefix (constant t) r (inl e) = ap prefix_of e
@@ -71,7 +71,7 @@ prefix_begins s.Tilde op e = refl
 prefix_begins s.Bang op e = refl
 prefix_begins _ op e = absurd cc
 
-pub begins : (n : ℕ) (c : Phrase) (r : List Token) → IsAt n c → BeginsExpression (first_sort (spelled c ++ r))
+pub begins : (n : ℕ) (c : ExpressionDerivation) (r : List Token) → IsAt n c → BeginsExpression (first_sort (spelled c ++ r))
 unfolding IsAt spelled
 begins n (identifier t) r is = ap begins_expression is
 begins n (constant t) r (inl e) = ap begins_expression e

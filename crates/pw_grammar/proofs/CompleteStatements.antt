@@ -4,7 +4,7 @@ use Rattle.std.proofs.lemmas.List.{append_assoc, length-append}
 use Rattle.pw_grammar.specs.declared.sort.Sort.{Sort}
 use Rattle.pw_grammar.specs.declared.sort.Sort.TheVariants as s
 use Rattle.pw_grammar.specs.Terminals.{sort, first_sort}
-use Rattle.pw_grammar.specs.Expressions.{Phrase, spelled, IsAt, tree_of}
+use Rattle.pw_grammar.specs.Expressions.{ExpressionDerivation, spelled, IsAt, expression_tree}
 use Rattle.pw_grammar.specs.Statements as st
 use Rattle.pw_grammar.specs.Steps.{Parser, pure}
 use Rattle.pw_grammar.specs.ReadingStatements as r
@@ -20,9 +20,9 @@ no_other is other = λ e. other (sym is ∙ e)
 
 -- ---- `( e )`
 
-pub reads_test : (n : ℕ) (expr : Parser Expr) → ReadsExpressions n expr → (at : ℕ) (o : Token) (a : Phrase) (c : Token) (ts : List Token)
+pub reads_test : (n : ℕ) (expr : Parser Expr) → ReadsExpressions n expr → (at : ℕ) (o : Token) (a : ExpressionDerivation) (c : Token) (ts : List Token)
     → sort o ≡ s.LeftParen → IsAt 13 a → sort c ≡ s.RightParen → length (spelled a ++ c ∷ ts) < n
-    → r.test expr (spot at (o ∷ (spelled a ++ c ∷ ts))) ≡ Ok (tree_of (suc at) a, spot (suc (suc at + length (spelled a))) ts)
+    → r.test expr (spot at (o ∷ (spelled a ++ c ∷ ts))) ≡ Ok (expression_tree (suc at) a, spot (suc (suc at + length (spelled a))) ts)
 unfolding r.test
 reads_test n expr reads at o a c ts is_o is_a is_c short =
     then_ _ (step_expect s.LeftParen at o (spelled a ++ c ∷ ts) is_o)
@@ -32,14 +32,14 @@ reads_test n expr reads at o a c ts is_o is_a is_c short =
 -- ---- a part of another statement, as it is read
 
 -- the reader reads these tokens as this statement
-abbrev pub ReadsPart : Parser Stmt → st.Statement → ℕ → List Token → Type 0
+abbrev pub ReadsPart : Parser Stmt → st.StatementDerivation → ℕ → List Token → Type 0
 ReadsPart stmt y at ts = stmt (spot at (st.spelled_statement y ++ ts)) ≡ Ok (st.tree_of_statement at y, spot (at + length (st.spelled_statement y)) ts)
 
 tested_parts : (t o : Token) (v : List Token) (c : Token) (w ts : List Token) → (t ∷ o ∷ (v ++ c ∷ w)) ++ ts ≡ t ∷ o ∷ (v ++ c ∷ (w ++ ts))
 tested_parts t o v c w ts = ap (λ u. t ∷ o ∷ u) (append_assoc v (c ∷ w) ts)
 
 pub reads_while : (n : ℕ) (expr : Parser Expr) (stmt : Parser Stmt) → ReadsExpressions n expr
-    → (at : ℕ) (t o : Token) (a : Phrase) (c : Token) (y : st.Statement) (ts : List Token)
+    → (at : ℕ) (t o : Token) (a : ExpressionDerivation) (c : Token) (y : st.StatementDerivation) (ts : List Token)
     → sort o ≡ s.LeftParen → IsAt 13 a → sort c ≡ s.RightParen → length (st.spelled_statement (st.while_do t o a c y) ++ ts) < n
     → ReadsPart stmt y (st.behind_test at a) ts
     → r.while_loop expr stmt (spot at (st.spelled_statement (st.while_do t o a c y) ++ ts))
@@ -55,7 +55,7 @@ reads_while n expr stmt reads at t o a c y ts is_o is_a is_c short part =
     (then_ _ part (done _ _ ts (omega (arith, length-append (spelled a) (c ∷ st.spelled_statement y)))))))
 
 pub reads_if_only : (n : ℕ) (expr : Parser Expr) (stmt : Parser Stmt) → ReadsExpressions n expr
-    → (at : ℕ) (t o : Token) (a : Phrase) (c : Token) (y : st.Statement) (ts : List Token)
+    → (at : ℕ) (t o : Token) (a : ExpressionDerivation) (c : Token) (y : st.StatementDerivation) (ts : List Token)
     → sort o ≡ s.LeftParen → IsAt 13 a → sort c ≡ s.RightParen → first_sort ts ≢ s.Else → length (st.spelled_statement (st.if_only t o a c y) ++ ts) < n
     → ReadsPart stmt y (st.behind_test at a) ts
     → r.conditional expr stmt (spot at (st.spelled_statement (st.if_only t o a c y) ++ ts))
@@ -77,7 +77,7 @@ else_parts : (t o : Token) (v : List Token) (c : Token) (w : List Token) (e : To
 else_parts t o v c w e z ts = ap (λ u. t ∷ o ∷ u) (append_assoc v (c ∷ (w ++ e ∷ z)) ts ∙ ap (λ u. v ++ c ∷ u) (append_assoc w (e ∷ z) ts))
 
 pub reads_if_else : (n : ℕ) (expr : Parser Expr) (stmt : Parser Stmt) → ReadsExpressions n expr
-    → (at : ℕ) (t o : Token) (a : Phrase) (c : Token) (y : st.Statement) (e : Token) (z : st.Statement) (ts : List Token)
+    → (at : ℕ) (t o : Token) (a : ExpressionDerivation) (c : Token) (y : st.StatementDerivation) (e : Token) (z : st.StatementDerivation) (ts : List Token)
     → sort o ≡ s.LeftParen → IsAt 13 a → sort c ≡ s.RightParen → sort e ≡ s.Else → length (st.spelled_statement (st.if_else t o a c y e z) ++ ts) < n
     → ReadsPart stmt y (st.behind_test at a) (e ∷ (st.spelled_statement z ++ ts)) → ReadsPart stmt z (st.behind_part (st.behind_test at a) y) ts
     → r.conditional expr stmt (spot at (st.spelled_statement (st.if_else t o a c y e z) ++ ts))
@@ -105,7 +105,7 @@ do_parts : (t : Token) (v : List Token) (w o : Token) (x : List Token) (c e : To
 do_parts t v w o x c e ts = ap (λ u. t ∷ u) (append_assoc v (w ∷ o ∷ (x ++ c ∷ e ∷ [])) ts ∙ ap (λ u. v ++ w ∷ o ∷ u) (append_assoc x (c ∷ e ∷ []) ts))
 
 pub reads_do : (n : ℕ) (expr : Parser Expr) (stmt : Parser Stmt) → ReadsExpressions n expr
-    → (at : ℕ) (t : Token) (y : st.Statement) (w o : Token) (a : Phrase) (c e : Token) (ts : List Token)
+    → (at : ℕ) (t : Token) (y : st.StatementDerivation) (w o : Token) (a : ExpressionDerivation) (c e : Token) (ts : List Token)
     → sort w ≡ s.While → sort o ≡ s.LeftParen → IsAt 13 a → sort c ≡ s.RightParen → sort e ≡ s.Semicolon
     → length (st.spelled_statement (st.do_while t y w o a c e) ++ ts) < n
     → ReadsPart stmt y (suc at) (w ∷ o ∷ (spelled a ++ c ∷ e ∷ ts))

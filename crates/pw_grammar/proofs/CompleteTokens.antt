@@ -4,9 +4,9 @@ use Rattle.std.proofs.lemmas.List.{length-append}
 use Rattle.pw_grammar.specs.declared.sort.Sort.{Sort}
 use Rattle.pw_grammar.specs.declared.sort.Sort.TheVariants as s
 use Rattle.pw_grammar.specs.Terminals.{sort, first_sort}
-use Rattle.pw_grammar.specs.Expressions.{Phrase, spelled, IsAt, tree_of, name_in}
+use Rattle.pw_grammar.specs.Expressions.{ExpressionDerivation, spelled, IsAt, expression_tree, name_in}
 use Rattle.pw_grammar.specs.Statements.{first_line, statement_node}
-use Rattle.pw_grammar.specs.Steps.{Place, Outcome, Parser, and_then, finish, pure, refuse, next_sort, sees, take, take_from, skip, expect, name, either, finish_statement}
+use Rattle.pw_grammar.specs.Steps.{Position, ReadResult, Parser, and_then, finish, pure, refuse, next_sort, sees, take, take_from, skip, expect, name, either, finish_statement}
 use Rattle.pw_grammar.proofs.Branches.{sorts_same, sorts_other}
 use Rattle.pw_grammar.proofs.CompleteEnds.{EndsExpression}
 use Rattle.pw_tree.specs.declared.expr.Expr.{Expr, roll-Expr}
@@ -15,15 +15,15 @@ use Rattle.pw_tree.specs.declared.stmt.StmtKind.{StmtKind}
 use Rattle.pw_lex.specs.declared.token.Token.{Token}
 
 -- the place before these tokens, the first of which has the number `at`
-abbrev pub spot : ℕ → List Token → Place
+abbrev pub spot : ℕ → List Token → Position
 spot at ts = record { at = at; rest = ts }
 
 -- one reader after another
-pub then_ : {A B : Type 0} {x : Outcome A} {y : Outcome B} {p : A × Place} (f : A → Parser B) → x ≡ Ok p → f p.0 p.1 ≡ y → and_then x f ≡ y
+pub then_ : {A B : Type 0} {x : ReadResult A} {y : ReadResult B} {p : A × Position} (f : A → Parser B) → x ≡ Ok p → f p.0 p.1 ≡ y → and_then x f ≡ y
 then_ f first second = ap (λ o. and_then o f) first ∙ second
 
 -- the same outcome, by another count of the tokens
-pub counted : {A : Type 0} {x : Outcome A} {a : A} {n : ℕ} {ts : List Token} (m : ℕ) → x ≡ Ok (a, spot n ts) → n ≡ m → x ≡ Ok (a, spot m ts)
+pub counted : {A : Type 0} {x : ReadResult A} {a : A} {n : ℕ} {ts : List Token} (m : ℕ) → x ≡ Ok (a, spot n ts) → n ≡ m → x ≡ Ok (a, spot m ts)
 counted {x = x} {a = a} {ts = ts} m first same = subst (λ k. x ≡ Ok (a, spot k ts)) same first
 
 -- a value where its tokens end, by another count of them
@@ -31,7 +31,7 @@ pub done : {A : Type 0} {n : ℕ} (a : A) (m : ℕ) (ts : List Token) → n ≡ 
 done a m ts same = ap (λ k. pure a (spot k ts)) same
 
 -- the same outcome, by another form of the value
-pub valued : {A : Type 0} {x : Outcome A} {a : A} {j : Place} (b : A) → x ≡ Ok (a, j) → a ≡ b → x ≡ Ok (b, j)
+pub valued : {A : Type 0} {x : ReadResult A} {a : A} {j : Position} (b : A) → x ≡ Ok (a, j) → a ≡ b → x ≡ Ok (b, j)
 valued {x = x} {j = j} b first same = subst (λ k. x ≡ Ok (k, j)) same first
 
 pub step_skip : (at : ℕ) (t : Token) (ts : List Token) → skip (spot at (t ∷ ts)) ≡ Ok (t.line, spot (suc at) ts)
@@ -42,11 +42,11 @@ pub step_take : (at : ℕ) (t : Token) (ts : List Token) → take (spot at (t �
 unfolding take take_from
 step_take at t ts = refl
 
-pub sees_it : (x : Sort) (i : Place) → next_sort i ≡ x → sees x i ≡ true
+pub sees_it : (x : Sort) (i : Position) → next_sort i ≡ x → sees x i ≡ true
 unfolding sees
 sees_it x i e = sorts_same (next_sort i) x e
 
-pub sees_other : (x : Sort) (i : Place) → next_sort i ≢ x → sees x i ≡ false
+pub sees_other : (x : Sort) (i : Position) → next_sort i ≢ x → sees x i ≡ false
 unfolding sees
 sees_other x i e = sorts_other (next_sort i) x e
 
@@ -61,10 +61,10 @@ step_name at t ts e =
     ap (λ b. if b then and_then (take (spot at (t ∷ ts))) (λ t. pure (name_in t.kind)) else refuse (spot at (t ∷ ts))) (sees_it s.Name (spot at (t ∷ ts)) e)
     ∙ then_ _ (step_take at t ts) refl
 
-pub either_this : {A : Type 0} (x : Sort) (p q : Parser A) (i : Place) → next_sort i ≡ x → either x p q i ≡ p i
+pub either_this : {A : Type 0} (x : Sort) (p q : Parser A) (i : Position) → next_sort i ≡ x → either x p q i ≡ p i
 either_this x p q i e = ap (λ b. if b then p i else q i) (sees_it x i e)
 
-pub either_other : {A : Type 0} (x : Sort) (p q : Parser A) (i : Place) → next_sort i ≢ x → either x p q i ≡ q i
+pub either_other : {A : Type 0} (x : Sort) (p q : Parser A) (i : Position) → next_sort i ≢ x → either x p q i ≡ q i
 either_other x p q i e = ap (λ b. if b then p i else q i) (sees_other x i e)
 
 -- ---- lists of tokens
@@ -74,7 +74,7 @@ pub behind : (u v : List Token) (n : ℕ) → length (u ++ v) < n → length v <
 behind u v n short = omega (arith, length-append u v)
 
 -- a place before the same tokens, in other parts
-pub parted : {A : Type 0} {u v : List Token} {x : Outcome A} (p : Parser A) (at : ℕ) → u ≡ v → p (spot at v) ≡ x → p (spot at u) ≡ x
+pub parted : {A : Type 0} {u v : List Token} {x : ReadResult A} (p : Parser A) (at : ℕ) → u ≡ v → p (spot at v) ≡ x → p (spot at u) ≡ x
 parted p at same reads = ap (λ ts. p (spot at ts)) same ∙ reads
 
 -- a sort that a test tells from another
@@ -108,5 +108,5 @@ finishes first line kind other m n r e f =
 
 -- a reader of expressions, with fewer than n tokens left
 pub record ReadsExpressions (n : ℕ) (expr : Parser Expr) : Type 0 where
-  pub reads : (c : Phrase) (at : ℕ) (r : List Token) → IsAt 13 c → EndsExpression (first_sort r) → length (spelled c ++ r) < n
-      → expr (spot at (spelled c ++ r)) ≡ Ok (tree_of at c, spot (at + length (spelled c)) r)
+  pub reads : (c : ExpressionDerivation) (at : ℕ) (r : List Token) → IsAt 13 c → EndsExpression (first_sort r) → length (spelled c ++ r) < n
+      → expr (spot at (spelled c ++ r)) ≡ Ok (expression_tree at c, spot (at + length (spelled c)) r)

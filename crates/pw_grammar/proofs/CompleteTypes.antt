@@ -4,9 +4,9 @@ use Rattle.std.proofs.lemmas.List.{append_assoc, length-append}
 use Rattle.pw_grammar.specs.declared.sort.Sort.{Sort}
 use Rattle.pw_grammar.specs.declared.sort.Sort.TheVariants as s
 use Rattle.pw_grammar.specs.Terminals.{sort, first_sort, is_same}
-use Rattle.pw_grammar.specs.Expressions.{Phrase, spelled, IsAt, tree_of}
-use Rattle.pw_grammar.specs.Statements.{TypePhrase, word, unsigned, type_of, spelled_type, IsType, type_or, type_in, Local, plain, set, spelled_local, IsLocal, kind_of_local, statement_node}
-use Rattle.pw_grammar.specs.Steps.{Place, Parser, pure, next_sort}
+use Rattle.pw_grammar.specs.Expressions.{ExpressionDerivation, spelled, IsAt, expression_tree}
+use Rattle.pw_grammar.specs.Statements.{TypeDerivation, word, unsigned, type_of, spelled_type, IsType, type_or, type_in, LocalDerivation, plain, set, spelled_local, IsLocal, kind_of_local, statement_node}
+use Rattle.pw_grammar.specs.Steps.{Position, Parser, pure, next_sort}
 use Rattle.pw_grammar.specs.ReadingStatements as r
 use Rattle.pw_grammar.proofs.Branches.{sorts_same}
 use Rattle.pw_grammar.proofs.Lengths.{type_length}
@@ -34,7 +34,7 @@ by_word None y at t ts e = absurd (none e)
     none p = cc
 by_word (Some x) y at t ts e = then_ _ (step_skip at t ts) refl
 
-pub step_type : (c : TypePhrase) (at : ℕ) (ts : List Token) → IsType c
+pub step_type : (c : TypeDerivation) (at : ℕ) (ts : List Token) → IsType c
     → r.type_name (spot at (spelled_type c ++ ts)) ≡ Ok (type_in c, spot (at + length (spelled_type c)) ts)
 unfolding r.type_name r.unsigned_long
 step_type (word t) at ts (y, e) =
@@ -46,7 +46,7 @@ step_type (unsigned u l) at ts (e, f) =
     ∙ then_ _ (step_skip at u (l ∷ ts)) (then_ _ (step_expect s.Long (suc at) l ts f) (counted {x = Ok (ty.Ulong, spot (suc (suc at)) ts)} _ refl (omega arith)))
 
 -- a type begins as types do
-pub type_begins : (c : TypePhrase) (ts : List Token) → IsType c → r.begins_type (first_sort (spelled_type c ++ ts)) ≡ true
+pub type_begins : (c : TypeDerivation) (ts : List Token) → IsType c → r.begins_type (first_sort (spelled_type c ++ ts)) ≡ true
 unfolding r.begins_type
 type_begins (word t) ts (y, e) = begins_or (is_same (sort t) s.Unsigned) (type_of (sort t)) e
   where
@@ -55,7 +55,7 @@ type_begins (word t) ts (y, e) = begins_or (is_same (sort t) s.Unsigned) (type_o
     begins_or false o e = ap r.is_some e
 type_begins (unsigned u l) ts (e, f) = ap (λ b. b || r.is_some (type_of (sort u))) (sorts_same (sort u) s.Unsigned e)
 
-pub local_begins : (l : Local) (ts : List Token) → IsLocal l → r.begins_type (first_sort (spelled_local l ++ ts)) ≡ true
+pub local_begins : (l : LocalDerivation) (ts : List Token) → IsLocal l → r.begins_type (first_sort (spelled_local l ++ ts)) ≡ true
 local_begins (plain c x e) ts is = subst (λ v. r.begins_type (first_sort v) ≡ true) (sym (append_assoc (spelled_type c) (x ∷ e ∷ []) ts))
     (type_begins c (x ∷ e ∷ ts) is.0)
 local_begins (set c x q a e) ts is =
@@ -70,15 +70,15 @@ no_type_is x y e f = λ same. not_both (r.begins_type x) e (ap r.begins_type sam
 
 -- ---- values
 
-pub step_value : (n : ℕ) (expr : Parser Expr) → ReadsExpressions n expr → (at : ℕ) (q : Token) (a : Phrase) (ts : List Token)
+pub step_value : (n : ℕ) (expr : Parser Expr) → ReadsExpressions n expr → (at : ℕ) (q : Token) (a : ExpressionDerivation) (ts : List Token)
     → sort q ≡ s.Assign → IsAt 13 a → EndsExpression (first_sort ts) → length (spelled a ++ ts) < n
-    → r.maybe_value expr (spot at (q ∷ (spelled a ++ ts))) ≡ Ok (Some (tree_of (suc at) a), spot (suc at + length (spelled a)) ts)
+    → r.maybe_value expr (spot at (q ∷ (spelled a ++ ts))) ≡ Ok (Some (expression_tree (suc at) a), spot (suc at + length (spelled a)) ts)
 unfolding r.maybe_value r.value
 step_value n expr reads at q a ts is_q is_a ends short =
     either_this s.Assign (r.value expr) (pure None) (spot at (q ∷ (spelled a ++ ts))) is_q
     ∙ then_ _ (step_skip at q (spelled a ++ ts)) (then_ _ (reads.reads a (suc at) ts is_a ends short) refl)
 
-pub step_no_value : (expr : Parser Expr) (i : Place) → next_sort i ≢ s.Assign → r.maybe_value expr i ≡ Ok (None, i)
+pub step_no_value : (expr : Parser Expr) (i : Position) → next_sort i ≢ s.Assign → r.maybe_value expr i ≡ Ok (None, i)
 unfolding r.maybe_value
 step_no_value expr i other = either_other s.Assign (r.value expr) (pure None) i other
 
@@ -101,7 +101,7 @@ set_count at u x q v e = omega (arith, length-append u (x ∷ q ∷ (v ++ e ∷ 
 set_fits : (u : List Token) (x q : Token) (v : List Token) (n : ℕ) → length (u ++ x ∷ q ∷ v) < n → length v < n
 set_fits u x q v n short = omega (arith, length-append u (x ∷ q ∷ v))
 
-pub reads_local : (n : ℕ) (expr : Parser Expr) → ReadsExpressions n expr → (l : Local) (at : ℕ) (ts : List Token) → IsLocal l → length (spelled_local l ++ ts) < n
+pub reads_local : (n : ℕ) (expr : Parser Expr) → ReadsExpressions n expr → (l : LocalDerivation) (at : ℕ) (ts : List Token) → IsLocal l → length (spelled_local l ++ ts) < n
     → r.local expr (spot at (spelled_local l ++ ts)) ≡ Ok (statement_node at (spelled_local l) (kind_of_local at l), spot (at + length (spelled_local l)) ts)
 unfolding r.local
 reads_local n expr reads (plain c x e) at ts (is_c, is_x, is_e) short =

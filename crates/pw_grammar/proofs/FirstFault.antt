@@ -4,12 +4,12 @@ use Rattle.std.proofs.lemmas.List.{append-nil, append_assoc, take-append-drop, l
 use Rattle.std.proofs.lemmas.Bool.{leb-true, leb-false}
 use Rattle.pw_grammar.specs.declared.error.SyntaxError.{SyntaxError}
 use Rattle.pw_grammar.specs.declared.error.SyntaxError.TheVariants.{At, TooNested, TooLong, NoMemory}
-use Rattle.pw_grammar.specs.Declarations.{UnitPhrase, spelled_unit, IsUnit}
+use Rattle.pw_grammar.specs.Declarations.{UnitDerivation, spelled_unit, IsUnit}
 use Rattle.pw_grammar.specs.Faults.{Begins, IsStuck, IsFault, IsFirstFault, ComesBefore, GoesOnTooLong, token_of, StandsLate}
 use Rattle.pw_grammar.specs.Limits.{first_nested, first_late, anew, Walk}
 use Rattle.pw_grammar.specs.Reading.{earlier, first_limit, up_to, judged_by, value_of, judged, parsed}
 use Rattle.pw_grammar.specs.Laws.{HasTree, Tells}
-use Rattle.pw_grammar.specs.Steps.{Outcome}
+use Rattle.pw_grammar.specs.Steps.{ReadResult}
 use Rattle.pw_grammar.specs.ReadingDeclarations.{unit}
 use Rattle.pw_grammar.proofs.Lawful.{near_or_far}
 use Rattle.pw_grammar.proofs.Whole.{Knows, IsRead, IsRefused, TellsOf, from_start, reading_tells, before_or_at}
@@ -18,8 +18,8 @@ use Rattle.pw_tree.specs.declared.decl.Decl.{Decl}
 
 -- what is known of the limits
 pub record KnowsLimits : Type 0 where
-  pub late_found : (c : UnitPhrase) → IsUnit c → (at found : ℕ) → first_late (anew at) (spelled_unit c) ≡ Some found → (t : ℕ) × (found ≡ at + t) × StandsLate c t
-  pub late_first : (c : UnitPhrase) → IsUnit c → (at t : ℕ) → StandsLate c t → (found : ℕ) × (first_late (anew at) (spelled_unit c) ≡ Some found) × (found ≤ at + t)
+  pub late_found : (c : UnitDerivation) → IsUnit c → (at found : ℕ) → first_late (anew at) (spelled_unit c) ≡ Some found → (t : ℕ) × (found ≡ at + t) × StandsLate c t
+  pub late_first : (c : UnitDerivation) → IsUnit c → (at t : ℕ) → StandsLate c t → (found : ℕ) × (first_late (anew at) (spelled_unit c) ≡ Some found) × (found ≤ at + t)
   pub late_prefix : (w : Walk) (u v : List Token) (found : ℕ) → first_late w u ≡ Some found → first_late w (u ++ v) ≡ Some found
   pub late_shared : (w : Walk) (u v : List Token) (found : ℕ) → first_late w (u ++ v) ≡ Some found → found < w.at + length u → first_late w u ≡ Some found
   pub late_below : (w : Walk) (u : List Token) (found : ℕ) → first_late w u ≡ Some found → (w.at ≤ found) × (found < w.at + length u)
@@ -165,7 +165,7 @@ read_has_tree l ts ds r none = record { phrase = r.phrase; is = r.is; spells = r
     faultless (TooLong m) f = let n = late_fault l ts m f.0 f.1 in no_some ⊥ n.0 (sym none.late ∙ n.1)
     faultless NoMemory f = f
 
-tells_freely : (l : KnowsLimits) (ts : List Token) (o : Outcome (List Decl)) → TellsOf ts o → NoLimit (first_nested 0 0 ts) (first_late (anew 0) ts)
+tells_freely : (l : KnowsLimits) (ts : List Token) (o : ReadResult (List Decl)) → TellsOf ts o → NoLimit (first_nested 0 0 ts) (first_late (anew 0) ts)
     → Tells ts (value_of o)
 tells_freely l ts (Ok p) r none = read_has_tree l ts p.0 r none
 tells_freely l ts (Err e) r none = refused_first l ts e r none
@@ -257,7 +257,7 @@ judged_err l ts e x fault r false z = limit_first l ts e x (subst (λ us. Begins
         let long = length-take-le (suc x.at) ts (limit_below l ts e x) in
         let within = r.within in omega (arith, p, q, at_is, long, within)
 
-tells_under : (l : KnowsLimits) (ts : List Token) (e : SyntaxError) (x : LimitIs (first_nested 0 0 ts) (first_late (anew 0) ts) e) (o : Outcome (List Decl))
+tells_under : (l : KnowsLimits) (ts : List Token) (e : SyntaxError) (x : LimitIs (first_nested 0 0 ts) (first_late (anew 0) ts) e) (o : ReadResult (List Decl))
     → TellsOf (take (suc x.at) ts) o → Tells ts (judged_by e o)
 tells_under l ts e x (Ok p) r = limit_first l ts e x (record { phrase = r.phrase; is = r.is; rest = []; spells = r.spells ∙ sym (append-nil (take (suc x.at) ts)) })
 tells_under l ts e x (Err fault) r = judged_err l ts e x fault r (nat_le (token_of fault) (token_of e)) refl

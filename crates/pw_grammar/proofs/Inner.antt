@@ -4,7 +4,7 @@ use Rattle.std.proofs.lemmas.List.{append_assoc}
 use Rattle.pw_grammar.specs.declared.sort.Sort.{Sort}
 use Rattle.pw_grammar.specs.declared.sort.Sort.TheVariants as s
 use Rattle.pw_grammar.specs.Terminals.{sort, prefix_of, binary_of}
-use Rattle.pw_grammar.specs.Expressions.{Phrase, identifier, constant, bracketed, input, output, call, index, prefixed, binary, choice, Arguments, nothing, arguments, More, end, more, spelled, spelled_arguments, spelled_more, IsAt, AreArguments, AreMore, IsConstant}
+use Rattle.pw_grammar.specs.Expressions.{ExpressionDerivation, identifier, constant, bracketed, input, output, call, index, prefixed, binary, choice, Arguments, nothing, arguments, More, end, more, spelled, spelled_arguments, spelled_more, IsAt, AreArguments, AreMore, IsConstant}
 use Rattle.pw_grammar.specs.Statements as y
 use Rattle.pw_grammar.specs.Faults.{opens_by, closes_by}
 use Rattle.pw_grammar.proofs.Late.{IsPlain, IsInner, inner_nil, inner_token, inner_cons, inner_both, inner_brackets}
@@ -93,7 +93,7 @@ inner_semicolon t e = inner_one t s.Semicolon e (refl, refl)
 mutual
   unfolding spelled IsAt
 
-  pub inner_phrase : (c : Phrase) (n : ℕ) → IsAt n c → IsInner (spelled c)
+  pub inner_phrase : (c : ExpressionDerivation) (n : ℕ) → IsAt n c → IsInner (spelled c)
   inner_phrase (identifier t) n i = inner_one t s.Name i (refl, refl)
   inner_phrase (constant t) n i = inner_token t (plain_constant (sort t) i)
   inner_phrase (bracketed o a c) n i = inner_parens o c (spelled a) i.0 i.2 (inner_phrase a 13 i.1)
@@ -126,11 +126,11 @@ mutual
 
 -- ---- what statements are made of
 
-pub inner_type : (ty : y.TypePhrase) → y.IsType ty → IsInner (y.spelled_type ty)
+pub inner_type : (ty : y.TypeDerivation) → y.IsType ty → IsInner (y.spelled_type ty)
 inner_type (y.word t) i = inner_token t (plain_type (sort t) i.0 i.1)
 inner_type (y.unsigned u l) i = inner_then u s.Unsigned (l ∷ []) i.0 (refl, refl) (inner_one l s.Long i.1 (refl, refl))
 
-pub inner_local : (l : y.Local) → y.IsLocal l → IsInner (y.spelled_local l)
+pub inner_local : (l : y.LocalDerivation) → y.IsLocal l → IsInner (y.spelled_local l)
 inner_local (y.plain ty x e) i =
     inner_both (y.spelled_type ty) (x ∷ e ∷ []) (inner_type ty i.0) (inner_then x s.Name (e ∷ []) i.1 (refl, refl) (inner_semicolon e i.2))
 inner_local (y.set ty x q a e) i =
@@ -138,7 +138,7 @@ inner_local (y.set ty x q a e) i =
     (inner_then x s.Name (q ∷ (spelled a ++ e ∷ [])) i.1 (refl, refl) (inner_then q s.Assign (spelled a ++ e ∷ []) i.2 (refl, refl)
     (inner_both (spelled a) (e ∷ []) (inner_phrase a 13 i.3) (inner_semicolon e i.4))))
 
-pub inner_simple : (a : y.Simple) → y.IsSimple a → IsInner (y.spelled_simple a)
+pub inner_simple : (a : y.SimpleDerivation) → y.IsSimple a → IsInner (y.spelled_simple a)
 inner_simple (y.assign x q a) i =
     inner_then x s.Name (q ∷ spelled a) i.0 (refl, refl) (inner_then q s.Assign (spelled a) i.1 (refl, refl) (inner_phrase a 13 i.2))
 inner_simple (y.assign_element x o b c q a) i =
@@ -146,16 +146,16 @@ inner_simple (y.assign_element x o b c q a) i =
     (inner_square_then o c (spelled b) (q ∷ spelled a) i.1 i.3 (inner_phrase b 13 i.2) (inner_then q s.Assign (spelled a) i.4 (refl, refl) (inner_phrase a 13 i.5)))
 inner_simple (y.evaluate a) i = inner_phrase a 13 i
 
-pub inner_start : (a : y.Start) → y.IsStart a → IsInner (y.spelled_start a)
+pub inner_start : (a : y.ForStartDerivation) → y.IsStart a → IsInner (y.spelled_start a)
 inner_start (y.no_start e) i = inner_semicolon e i
 inner_start (y.local_start l) i = inner_local l i
 inner_start (y.simple_start a e) i = inner_both (y.spelled_simple a) (e ∷ []) (inner_simple a i.0) (inner_semicolon e i.1)
 
-pub inner_maybe : (a : Option Phrase) → y.IsMaybe a → IsInner (y.spelled_maybe a)
+pub inner_maybe : (a : Option ExpressionDerivation) → y.IsMaybe a → IsInner (y.spelled_maybe a)
 inner_maybe None i = inner_nil
 inner_maybe (Some a) i = inner_phrase a 13 i
 
-pub inner_step : (a : Option y.Simple) → y.IsStep a → IsInner (y.spelled_step a)
+pub inner_step : (a : Option y.SimpleDerivation) → y.IsStep a → IsInner (y.spelled_step a)
 inner_step None i = inner_nil
 inner_step (Some a) i = inner_simple a i
 
@@ -176,7 +176,7 @@ inner_jump t e (inr i) j = inner_then t s.Continue (e ∷ []) i (refl, refl) (in
 mutual
   unfolding y.spelled_statement y.IsStatement
 
-  pub inner_statement : (c : y.Statement) (declares : Bool) → y.IsStatement declares c → IsInner (y.spelled_statement c)
+  pub inner_statement : (c : y.StatementDerivation) (declares : Bool) → y.IsStatement declares c → IsInner (y.spelled_statement c)
   inner_statement (y.empty e) d i = inner_semicolon e i
   inner_statement (y.block o body c) d i = inner_braces o c (y.spelled_statements body) i.0 i.2 (inner_statements body i.1)
   inner_statement (y.declare l) d i = inner_local l i.1
@@ -204,7 +204,7 @@ mutual
       inner_then t s.Return (y.spelled_maybe a ++ e ∷ []) i.0 (refl, refl) (inner_both (y.spelled_maybe a) (e ∷ []) (inner_maybe a i.1) (inner_semicolon e i.2))
   inner_statement (y.jump t e) d i = inner_jump t e i.0 i.1
 
-  pub inner_statements : (ys : y.Statements) → y.AreStatements ys → IsInner (y.spelled_statements ys)
+  pub inner_statements : (ys : y.StatementDerivations) → y.AreStatements ys → IsInner (y.spelled_statements ys)
   inner_statements y.nil i = inner_nil
   inner_statements (y.cons c cs) i =
       inner_both (y.spelled_statement c) (y.spelled_statements cs) (inner_statement c true i.0) (inner_statements cs i.1)

@@ -1,7 +1,7 @@
 -- What is known of the reader of units and of the limits, gathered; and that no list has two trees.
 use Rattle.std.proofs.Common.{◌≡◌, sym, ◌∙◌, ap, subst, ℕ, suc, ◌<◌, List, [], length, Ok, Err, arith}
-use Rattle.pw_grammar.specs.Declarations.{UnitPhrase, spelled_unit, IsUnit, trees_of_declarations}
-use Rattle.pw_grammar.specs.Steps.{Outcome}
+use Rattle.pw_grammar.specs.Declarations.{UnitDerivation, spelled_unit, IsUnit, trees_of_declarations}
+use Rattle.pw_grammar.specs.Steps.{ReadResult}
 use Rattle.pw_grammar.specs.ReadingExpressions.{expression}
 use Rattle.pw_grammar.specs.ReadingDeclarations.{unit}
 use Rattle.pw_grammar.specs.Laws.{ReadingTells, OneTree}
@@ -48,11 +48,11 @@ pub reading_tells : ReadingTells
 reading_tells n tokens short = parsed_tells units limits n tokens short
 
 -- two derivations of one list are both read, and give what is read
-trees_in : Outcome (List Decl) → List Decl
+trees_in : ReadResult (List Decl) → List Decl
 trees_in (Ok p) = p.0
 trees_in (Err e) = []
 
-trees_read : (n : ℕ) (tokens : List Token) (c : UnitPhrase) → IsUnit c → spelled_unit c ≡ tokens → length tokens < n
+trees_read : (n : ℕ) (tokens : List Token) (c : UnitDerivation) → IsUnit c → spelled_unit c ≡ tokens → length tokens < n
     → trees_in (unit n (from_start tokens)) ≡ trees_of_declarations 0 c
 unfolding trees_in
 trees_read n tokens c is spells short =

@@ -218,11 +218,11 @@ outer_braces o c u e f inner = record {
 
 -- ---- parts of declarations
 
-pub outer_type : (ty : y.TypePhrase) → y.IsType ty → IsOuter (y.spelled_type ty)
+pub outer_type : (ty : y.TypeDerivation) → y.IsType ty → IsOuter (y.spelled_type ty)
 outer_type (y.word t) i = outer_token t (outer_type_sort (sort t) i.0 i.1)
 outer_type (y.unsigned u l) i = outer_then u s.Unsigned (l ∷ []) i.0 outer_unsigned (outer_one l s.Long i.1 outer_long)
 
-pub outer_result : (r : d.ResultPhrase) → d.IsResult r → IsOuter (d.spelled_result r)
+pub outer_result : (r : d.ResultDerivation) → d.IsResult r → IsOuter (d.spelled_result r)
 outer_result (d.nothing t) i = outer_one t s.Void i outer_void
 outer_result (d.value ty) i = outer_type ty i
 
@@ -238,11 +238,11 @@ pub defining_storage : (g : Option Token) → d.IsDefining g → d.IsStorage g
 defining_storage None i = i
 defining_storage (Some t) i = inr i
 
-valued_storage : (t : Token) (v : d.Variable) → (sort t ≡ s.Static) ⊎ ((sort t ≡ s.Extern) × d.HasNoValue v) → (sort t ≡ s.Extern) ⊎ (sort t ≡ s.Static)
+valued_storage : (t : Token) (v : d.VariableDerivation) → (sort t ≡ s.Static) ⊎ ((sort t ≡ s.Extern) × d.HasNoValue v) → (sort t ≡ s.Extern) ⊎ (sort t ≡ s.Static)
 valued_storage t v (inl e) = inr e
 valued_storage t v (inr e) = inl e.0
 
-pub variable_storage : (g : Option Token) (v : d.Variable) → d.MayHave g v → d.IsStorage g
+pub variable_storage : (g : Option Token) (v : d.VariableDerivation) → d.MayHave g v → d.IsStorage g
 variable_storage None v i = i
 variable_storage (Some t) v i = valued_storage t v i
 
@@ -250,7 +250,7 @@ inner_name : (x : Option Token) → d.IsNamed x → IsInner (d.spelled_name x)
 inner_name None i = inner_nil
 inner_name (Some t) i = inner_one t s.Name i (refl, refl)
 
-pub inner_parameter : (p : d.Parameter) → d.IsParameter p → IsInner (d.spelled_parameter p)
+pub inner_parameter : (p : d.ParameterDerivation) → d.IsParameter p → IsInner (d.spelled_parameter p)
 inner_parameter p i = inner_both (y.spelled_type p.ty) (d.spelled_name p.name) (inner_type p.ty i.0) (inner_name p.name i.1)
 
 inner_more_parameters : (ps : d.MoreParameters) → d.AreMoreParameters ps → IsInner (d.spelled_more_parameters ps)
@@ -260,12 +260,12 @@ inner_more_parameters (d.more t p ps) i =
     inner_then t s.Comma (d.spelled_parameter p ++ d.spelled_more_parameters ps) i.0 (refl, refl)
     (inner_both (d.spelled_parameter p) (d.spelled_more_parameters ps) (inner_parameter p i.1) (inner_more_parameters ps i.2))
 
-pub inner_parameters : (ps : d.Parameters) → d.AreParameters ps → IsInner (d.spelled_parameters ps)
+pub inner_parameters : (ps : d.ParametersDerivation) → d.AreParameters ps → IsInner (d.spelled_parameters ps)
 inner_parameters (d.none t) i = inner_one t s.Void i (refl, refl)
 inner_parameters (d.some p ps) i =
     inner_both (d.spelled_parameter p) (d.spelled_more_parameters ps) (inner_parameter p i.0) (inner_more_parameters ps i.1)
 
-pub inner_element : (x : d.Element) → d.IsElement x → IsInner (d.spelled_element x)
+pub inner_element : (x : d.ElementDerivation) → d.IsElement x → IsInner (d.spelled_element x)
 inner_element (d.word t) i = inner_one t s.Name i (refl, refl)
 inner_element (d.positive t) i = inner_token t (plain_constant (sort t) i)
 inner_element (d.negative m t) i = inner_then m s.Minus (t ∷ []) i.0 (refl, refl) (inner_token t (plain_constant (sort t) i.1))
@@ -282,7 +282,7 @@ outer_constant : (t : Token) → IsConstant (sort t) → IsOuter (t ∷ [])
 outer_constant t (inl e) = outer_one t s.Number e outer_number
 outer_constant t (inr e) = outer_one t s.Character e outer_character
 
-outer_element : (x : d.Element) → d.IsElement x → IsOuter (d.spelled_element x)
+outer_element : (x : d.ElementDerivation) → d.IsElement x → IsOuter (d.spelled_element x)
 outer_element (d.word t) i = outer_one t s.Name i outer_name
 outer_element (d.positive t) i = outer_constant t i
 outer_element (d.negative m t) i = outer_then m s.Minus (t ∷ []) i.0 outer_minus (outer_constant t i.1)
@@ -295,7 +295,7 @@ outer_elements : (b e : Token) (u v : List Token) → sort b ≡ s.LeftBrace →
 outer_elements b e u v b_is e_is i j =
     subst (λ w. IsOuter (b ∷ w)) (append_assoc u v (e ∷ [])) (outer_braces b e (u ++ v) b_is e_is (inner_both u v i j))
 
-pub outer_variable : (v : d.Variable) → d.IsVariable v → IsOuter (d.spelled_variable v)
+pub outer_variable : (v : d.VariableDerivation) → d.IsVariable v → IsOuter (d.spelled_variable v)
 outer_variable d.scalar i = outer_nil
 outer_variable (d.scalar_set q x) i = outer_then q s.Assign (d.spelled_element x) i.0 outer_assign (outer_element x i.1)
 outer_variable (d.array o n c) i = outer_extent o n c i

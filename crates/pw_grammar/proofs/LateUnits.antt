@@ -6,7 +6,7 @@ use Rattle.std.specs.Prelude.{max, take, drop}
 use Rattle.pw_grammar.specs.declared.sort.Sort.TheVariants as s
 use Rattle.pw_grammar.specs.Terminals.{sort}
 use Rattle.pw_grammar.specs.Statements.{spelled_type, spelled_statements}
-use Rattle.pw_grammar.specs.Declarations.{Declaration, prototype, function, variable, spelled_declaration, IsDeclaration, spelled_storage, spelled_result, spelled_parameters, spelled_variable, UnitPhrase, spelled_unit, IsUnit}
+use Rattle.pw_grammar.specs.Declarations.{DeclarationDerivation, prototype, function, variable, spelled_declaration, IsDeclaration, spelled_storage, spelled_result, spelled_parameters, spelled_variable, UnitDerivation, spelled_unit, IsUnit}
 use Rattle.pw_grammar.specs.declared.error.SyntaxError.TheVariants.{TooLong}
 use Rattle.pw_grammar.specs.Faults.{before_body, IsLate, StandsLate, Begins, IsFault}
 use Rattle.pw_grammar.specs.Limits.{Walk, anew, onward, step, is_late, is_last, first_late}
@@ -39,12 +39,12 @@ head_length g r x = length-append g (r ++ x ∷ []) ∙ (ap (λ n. length g + n)
 -- ---- what the walk does over a declaration
 
 -- no token of it stands late, and the walk passes it whole
-pub record Passes (c : Declaration) : Type 0 where
+pub record Passes (c : DeclarationDerivation) : Type 0 where
   pub early : (t : ℕ) → IsLate c t (before_body c) → ⊥
   pub passes : (at : ℕ) (v : List Token) → first_late (anew at) (spelled_declaration c ++ v) ≡ first_late (anew (at + length (spelled_declaration c))) v
 
 -- it is a function's definition of more than 8,192 tokens, and the walk finds the first of them that stands late
-pub record Catches (c : Declaration) : Type 0 where
+pub record Catches (c : DeclarationDerivation) : Type 0 where
   pub brace : ℕ
   pub body : before_body c ≡ Some brace
   pub inside : brace < length (spelled_declaration c)
@@ -136,7 +136,7 @@ finds_function h ps body v o c b e at p long =
 
 -- ---- the same of the derivation
 
-walk_function : (g r ps body : List Token) (x o c b e : Token) (w : Declaration) → spelled_declaration w ≡ g ++ (r ++ x ∷ rest_of_function ps body o c b e)
+walk_function : (g r ps body : List Token) (x o c b e : Token) (w : DeclarationDerivation) → spelled_declaration w ≡ g ++ (r ++ x ∷ rest_of_function ps body o c b e)
     → before_body w ≡ Some (length g + length r + length ps + 3)
     → HasBody (head g r x) ps body o c b e → (length (spelled_declaration w) ≤ 8192) ⊎ (8192 < length (spelled_declaration w)) → Passes w ⊎ Catches w
 walk_function g r ps body x o c b e w spells brace p (inl short) = inl (record {
@@ -178,7 +178,7 @@ walk_function g r ps body x o c b e w spells brace p (inr long) = inr (record {
     same_brace n m l top e = omega arith
 
 -- a declaration is passed, or is too long
-pub walk_declaration : (c : Declaration) → IsDeclaration c → Passes c ⊎ Catches c
+pub walk_declaration : (c : DeclarationDerivation) → IsDeclaration c → Passes c ⊎ Catches c
 walk_declaration (prototype g r x o ps c e) i = inl (record {
   early = λ t late. late;
   passes = λ at v.
@@ -214,15 +214,15 @@ pub same_number : (n m : ℕ) → Some n ≡ Some m → m ≡ n
 same_number n m e = cc
 
 -- a token of the unit stands late, and has this number
-abbrev pub IsLateAt : UnitPhrase → ℕ → ℕ → Type 0
+abbrev pub IsLateAt : UnitDerivation → ℕ → ℕ → Type 0
 IsLateAt c at found = (t : ℕ) × (found ≡ at + t) × StandsLate c t
 
-found_behind_it : (c : Declaration) (cs : UnitPhrase) (at found : ℕ) → IsLateAt cs (at + length (spelled_declaration c)) found → IsLateAt (c ∷ cs) at found
+found_behind_it : (c : DeclarationDerivation) (cs : UnitDerivation) (at found : ℕ) → IsLateAt cs (at + length (spelled_declaration c)) found → IsLateAt (c ∷ cs) at found
 unfolding StandsLate
 found_behind_it c cs at found f =
     (length (spelled_declaration c) + f.0, (let e : found ≡ (at + length (spelled_declaration c)) + f.0 = f.1 in omega (arith, e)), inr (f.0, refl, f.2))
 
-caught : (c : Declaration) (cs : UnitPhrase) (at found : ℕ) → (p : Catches c) → found ≡ at + max p.brace 8192 → IsLateAt (c ∷ cs) at found
+caught : (c : DeclarationDerivation) (cs : UnitDerivation) (at found : ℕ) → (p : Catches c) → found ≡ at + max p.brace 8192 → IsLateAt (c ∷ cs) at found
 unfolding StandsLate
 caught c cs at found p e =
     (max p.brace 8192, e, inl (subst (λ o. IsLate c (max p.brace 8192) o) (sym p.body) (late p.brace (length (spelled_declaration c)) p.inside p.long)))
@@ -230,7 +230,7 @@ caught c cs at found p e =
     late : (brace n : ℕ) → brace < n → 8192 < n → (brace ≤ max brace 8192) × (8192 ≤ max brace 8192) × (max brace 8192 < n)
     late brace n inside long = omega arith
 
-late_found_with : (c : Declaration) (cs : UnitPhrase) (at found : ℕ) → ((at found : ℕ) → first_late (anew at) (spelled_unit cs) ≡ Some found → IsLateAt cs at found)
+late_found_with : (c : DeclarationDerivation) (cs : UnitDerivation) (at found : ℕ) → ((at found : ℕ) → first_late (anew at) (spelled_unit cs) ≡ Some found → IsLateAt cs at found)
     → Passes c ⊎ Catches c → first_late (anew at) (spelled_declaration c ++ spelled_unit cs) ≡ Some found → IsLateAt (c ∷ cs) at found
 late_found_with c cs at found others (inl p) e =
     found_behind_it c cs at found (others (at + length (spelled_declaration c)) found (sym (p.passes at (spelled_unit cs)) ∙ e))
@@ -238,7 +238,7 @@ late_found_with c cs at found others (inr p) e =
     caught c cs at found p (same_number (at + max p.brace 8192) found (sym (p.finds at (spelled_unit cs)) ∙ e))
 
 -- what is found stands late
-pub late_found : (c : UnitPhrase) → IsUnit c → (at found : ℕ) → first_late (anew at) (spelled_unit c) ≡ Some found → (t : ℕ) × (found ≡ at + t) × StandsLate c t
+pub late_found : (c : UnitDerivation) → IsUnit c → (at found : ℕ) → first_late (anew at) (spelled_unit c) ≡ Some found → (t : ℕ) × (found ≡ at + t) × StandsLate c t
 unfolding first_late spelled_unit IsUnit
 late_found [] i at found e = absurd (nothing_is found e)
 late_found (c ∷ cs) i at found e = late_found_with c cs at found (late_found cs i.1) (walk_declaration c i.0) e
@@ -248,13 +248,13 @@ abbrev pub FindsBy : Walk → List Token → ℕ → Type 0
 FindsBy w u t = (found : ℕ) × (first_late w u ≡ Some found) × (found ≤ t)
 
 -- in a function that is too long, one is found up to each number from its brace and its token 8,192 on
-finds_by : (c : Declaration) (at t : ℕ) (v : List Token) → (p : Catches c) → p.brace ≤ t → 8192 ≤ t → FindsBy (anew at) (spelled_declaration c ++ v) (at + t)
+finds_by : (c : DeclarationDerivation) (at t : ℕ) (v : List Token) → (p : Catches c) → p.brace ≤ t → 8192 ≤ t → FindsBy (anew at) (spelled_declaration c ++ v) (at + t)
 finds_by c at t v p brace far = (at + max p.brace 8192, p.finds at v, least p.brace brace)
   where
     least : (n : ℕ) → n ≤ t → at + max n 8192 ≤ at + t
     least n e = omega arith
 
-late_first_with : (c : Declaration) (cs : UnitPhrase) (at t : ℕ) → ((at t : ℕ) → StandsLate cs t → FindsBy (anew at) (spelled_unit cs) (at + t))
+late_first_with : (c : DeclarationDerivation) (cs : UnitDerivation) (at t : ℕ) → ((at t : ℕ) → StandsLate cs t → FindsBy (anew at) (spelled_unit cs) (at + t))
     → Passes c ⊎ Catches c → IsLate c t (before_body c) ⊎ ((before : ℕ) × (t ≡ length (spelled_declaration c) + before) × StandsLate cs before)
     → FindsBy (anew at) (spelled_declaration c ++ spelled_unit cs) (at + t)
 late_first_with c cs at t others (inl p) (inl late) = absurd (p.early t late)
@@ -277,7 +277,7 @@ late_first_with c cs at t others (inr p) (inr later) =
     far n before e f = omega arith
 
 -- where a token stands late, one is found that is not behind it
-pub late_first : (c : UnitPhrase) → IsUnit c → (at t : ℕ) → StandsLate c t → (found : ℕ) × (first_late (anew at) (spelled_unit c) ≡ Some found) × (found ≤ at + t)
+pub late_first : (c : UnitDerivation) → IsUnit c → (at t : ℕ) → StandsLate c t → (found : ℕ) × (first_late (anew at) (spelled_unit c) ≡ Some found) × (found ≤ at + t)
 unfolding StandsLate spelled_unit IsUnit
 late_first [] i at t late = absurd late
 late_first (c ∷ cs) i at t late = late_first_with c cs at t (late_first cs i.1) (walk_declaration c i.0) late

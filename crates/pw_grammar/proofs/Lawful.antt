@@ -10,7 +10,7 @@ use Rattle.pw_grammar.specs.declared.error.SyntaxError.{SyntaxError}
 use Rattle.pw_grammar.specs.declared.error.SyntaxError.TheVariants.{At}
 use Rattle.pw_grammar.specs.Terminals.{sort, first_sort}
 use Rattle.pw_grammar.specs.Faults.{token_of}
-use Rattle.pw_grammar.specs.Steps.{Place, Outcome, Parser, and_then, ◌>>=◌, pure, next_sort}
+use Rattle.pw_grammar.specs.Steps.{Position, ReadResult, Parser, and_then, ◌>>=◌, pure, next_sort}
 use Rattle.pw_lex.specs.declared.token.Token.{Token}
 
 -- A language: the values that own tokens have, from the first one's number on and before a token of a sort.
@@ -25,12 +25,12 @@ sort_before (t ∷ ts) x = sort t
 -- ---- places
 
 -- these tokens lead from one place to another
-pub record Leads (i : Place) (u : List Token) (j : Place) : Type 0 where
+pub record Leads (i : Position) (u : List Token) (j : Position) : Type 0 where
   pub rest : i.rest ≡ u ++ j.rest
   pub at : j.at ≡ i.at + length u
 
 -- two places before the same tokens, as far as token k at least
-pub record Agree (k : ℕ) (i j : Place) : Type 0 where
+pub record Agree (k : ℕ) (i j : Position) : Type 0 where
   pub at : i.at ≡ j.at
   pub shared : List Token
   pub more : List Token
@@ -48,38 +48,38 @@ pub record GoesOn {A : Type 0} (L : Language A) (at : ℕ) (u : List Token) : Ty
   pub reads : (x : Sort) → x ≢ s.Else → L at value (u ++ rest) x
   pub starts : u ≡ [] → (x : Sort) → x ≢ s.Else → sort_before rest x ≢ s.Else
 
-pub record HasRead {A : Type 0} (L : Language A) (i : Place) (a : A) (j : Place) : Type 0 where
+pub record HasRead {A : Type 0} (L : Language A) (i : Position) (a : A) (j : Position) : Type 0 where
   pub tokens : List Token
   pub leads : Leads i tokens j
   pub reads : L i.at a tokens (next_sort j)
 
-pub record HasStopped {A : Type 0} (L : Language A) (i : Place) (fault : SyntaxError) : Type 0 where
+pub record HasStopped {A : Type 0} (L : Language A) (i : Position) (fault : SyntaxError) : Type 0 where
   pub tokens : List Token
-  pub place : Place
+  pub place : Position
   pub leads : Leads i tokens place
   pub is : fault ≡ At place.at
   pub goes_on : GoesOn L i.at tokens
 
 -- what an outcome says of the place where the reader began
-abbrev pub Says : {A : Type 0} → Language A → Place → Outcome A → Type 0
+abbrev pub Says : {A : Type 0} → Language A → Position → ReadResult A → Type 0
 Says L i (Ok p) = HasRead L i p.0 p.1
 Says L i (Err fault) = HasStopped L i fault
 
-pub record Reaches {A : Type 0} (k : ℕ) (a : A) (j : Place) (outcome : Outcome A) : Type 0 where
-  pub place : Place
+pub record Reaches {A : Type 0} (k : ℕ) (a : A) (j : Position) (outcome : ReadResult A) : Type 0 where
+  pub place : Position
   pub is : outcome ≡ Ok (a, place)
   pub agree : Agree k j place
 
 -- the second outcome is the first, unless that passes token k
-abbrev pub Same : {A : Type 0} → ℕ → Outcome A → Outcome A → Type 0
+abbrev pub Same : {A : Type 0} → ℕ → ReadResult A → ReadResult A → Type 0
 Same k (Ok p) other = p.1.at ≤ k → Reaches k p.0 p.1 other
 Same k (Err fault) other = (m : ℕ) → fault ≡ At m → m ≤ k → other ≡ Err fault
 
 -- ---- the laws of a reader p, and of the same reader q with more turns, where n turns are more than the tokens
 pub record Lawful {A : Type 0} (n : ℕ) (L : Language A) (p q : Parser A) : Type 0 where
-  pub settled : (i : Place) → length i.rest < n → p i ≡ q i
-  pub says : (i : Place) → Says L i (p i)
-  pub steady : (k : ℕ) (i j : Place) → Agree k i j → Same k (p i) (p j)
+  pub settled : (i : Position) → length i.rest < n → p i ≡ q i
+  pub says : (i : Position) → Says L i (p i)
+  pub steady : (k : ℕ) (i j : Position) → Agree k i j → Same k (p i) (p j)
   pub can : (at : ℕ) → GoesOn L at []
 
 -- ---- one language inside another
@@ -99,7 +99,7 @@ goes_on_within {A} {L} {M} {at} {u} w g = record {
   starts = g.starts;
 }
 
-pub says_within : {A : Type 0} {L M : Language A} → Within L M → (i : Place) (o : Outcome A) → Says L i o → Says M i o
+pub says_within : {A : Type 0} {L M : Language A} → Within L M → (i : Position) (o : ReadResult A) → Says L i o → Says M i o
 says_within w i (Ok p) r = record { tokens = r.tokens; leads = r.leads; reads = w i.at p.0 r.tokens (next_sort p.1) r.reads }
 says_within w i (Err e) r = record { tokens = r.tokens; place = r.place; leads = r.leads; is = r.is; goes_on = goes_on_within w r.goes_on }
 
@@ -129,7 +129,7 @@ pub record Nothing {A : Type 0} (value : A) (a : A) (u : List Token) : Type 0 wh
 abbrev pub Pure : {A : Type 0} → A → Language A
 Pure value = λ at a u x. Nothing value a u
 
-pub leads_nowhere : (i : Place) → Leads i [] i
+pub leads_nowhere : (i : Position) → Leads i [] i
 leads_nowhere i = record { rest = refl; at = omega arith }
 
 pub lawful_pure : {A : Type 0} (n : ℕ) (a : A) → Lawful n (Pure a) (pure a) (pure a)
@@ -181,12 +181,12 @@ stops_first L M at u g h = record {
 }
 
 -- what the first part was read before, where the second stops
-first_reads : {A : Type 0} (L : Language A) (lax : Lax L) (at : ℕ) (a : A) (u v : List Token) (j : Place) (w rest : List Token) (x : Sort)
+first_reads : {A : Type 0} (L : Language A) (lax : Lax L) (at : ℕ) (a : A) (u v : List Token) (j : Position) (w rest : List Token) (x : Sort)
     → j.rest ≡ v ++ w → L at a u (next_sort j) → (v ≡ [] → sort_before rest x ≢ s.Else) → L at a u (sort_before (v ++ rest) x)
 first_reads L lax at a u [] j w rest x e r fresh = lax at a u (next_sort j) (sort_before rest x) r (fresh refl)
 first_reads L lax at a u (t ∷ v) j w rest x e r fresh = subst (λ ts. L at a u (first_sort ts)) e r
 
-stops_second : {A B : Type 0} (L : Language A) (M : A → Language B) (lax : Lax L) (i j : Place) (a : A) (u v : List Token) (k : Place)
+stops_second : {A B : Type 0} (L : Language A) (M : A → Language B) (lax : Lax L) (i j : Position) (a : A) (u v : List Token) (k : Position)
     → Leads i u j → L i.at a u (next_sort j) → Leads j v k → GoesOn (M a) j.at v → GoesOn (Seq L M) i.at (u ++ v)
 stops_second L M lax i j a u v k first r second g = record {
   rest = g.rest;
@@ -205,19 +205,19 @@ stops_second L M lax i j a u v k first r second g = record {
 count_on : (at : ℕ) (u v : List Token) → at + length u + length v ≡ at + length (u ++ v)
 count_on at u v = add_assoc at (length u) (length v) ∙ ap (λ n. at + n) (sym (length-append u v))
 
-leads_on : (i j k : Place) (u v : List Token) → Leads i u j → Leads j v k → Leads i (u ++ v) k
+leads_on : (i j k : Position) (u v : List Token) → Leads i u j → Leads j v k → Leads i (u ++ v) k
 leads_on i j k u v first second = record {
   rest = first.rest ∙ (ap (λ ts. u ++ ts) second.rest ∙ sym (append_assoc u v k.rest));
   at = second.at ∙ (ap (λ n. n + length v) first.at ∙ count_on i.at u v);
 }
 
-read_before : {A : Type 0} (L : Language A) (at : ℕ) (a : A) (u : List Token) (j : Place) (v : List Token) (k : Place)
+read_before : {A : Type 0} (L : Language A) (at : ℕ) (a : A) (u : List Token) (j : Position) (v : List Token) (k : Position)
     → j.rest ≡ v ++ k.rest → L at a u (next_sort j) → L at a u (sort_before v (next_sort k))
 read_before L at a u j [] k e r = subst (λ ts. L at a u (first_sort ts)) e r
 read_before L at a u j (t ∷ v) k e r = subst (λ ts. L at a u (first_sort ts)) e r
 
-says_second : {A B : Type 0} (L : Language A) (M : A → Language B) (lax : Lax L) (i j : Place) (a : A) → HasRead L i a j
-    → (o : Outcome B) → Says (M a) j o → Says (Seq L M) i o
+says_second : {A B : Type 0} (L : Language A) (M : A → Language B) (lax : Lax L) (i j : Position) (a : A) → HasRead L i a j
+    → (o : ReadResult B) → Says (M a) j o → Says (Seq L M) i o
 says_second L M lax i j a r (Ok p) q = record {
   tokens = r.tokens ++ q.tokens;
   leads = leads_on i j p.1 r.tokens q.tokens r.leads q.leads;
@@ -239,8 +239,8 @@ says_second L M lax i j a r (Err e) q = record {
 }
 
 pub says_both : {A B : Type 0} (L : Language A) (M : A → Language B) (lax : Lax L) (f : A → Parser B)
-    → ((a : A) (j : Place) → Says (M a) j (f a j)) → ((a : A) (at : ℕ) → GoesOn (M a) at [])
-    → (i : Place) (o : Outcome A) → Says L i o → Says (Seq L M) i (and_then o f)
+    → ((a : A) (j : Position) → Says (M a) j (f a j)) → ((a : A) (at : ℕ) → GoesOn (M a) at [])
+    → (i : Position) (o : ReadResult A) → Says L i o → Says (Seq L M) i (and_then o f)
 says_both L M lax f says can i (Ok p) r = says_second L M lax i p.1 p.0 r (f p.0 p.1) (says p.0 p.1)
 says_both L M lax f says can i (Err e) r = record {
   tokens = r.tokens;
@@ -253,13 +253,13 @@ says_both L M lax f says can i (Err e) r = record {
 -- ---- the second outcome is the first
 
 -- an outcome is not before the place where the reader began
-forward_ok : {A : Type 0} (L : Language A) (i : Place) (a : A) (j : Place) → HasRead L i a j → i.at ≤ j.at
+forward_ok : {A : Type 0} (L : Language A) (i : Position) (a : A) (j : Position) → HasRead L i a j → i.at ≤ j.at
 forward_ok L i a j r = subst (λ n. i.at ≤ n) (sym r.leads.at) (omega arith)
 
-forward_err : {A : Type 0} (L : Language A) (i : Place) (e : SyntaxError) (m : ℕ) → HasStopped L i e → e ≡ At m → i.at ≤ m
+forward_err : {A : Type 0} (L : Language A) (i : Position) (e : SyntaxError) (m : ℕ) → HasStopped L i e → e ≡ At m → i.at ≤ m
 forward_err L i e m r is = let same : m ≡ r.place.at = ap token_of (sym is ∙ r.is) in omega (arith, same, r.leads.at)
 
-pub same_passed : {A : Type 0} (L : Language A) (i : Place) (k : ℕ) (o other : Outcome A) → Says L i o → k < i.at → Same k o other
+pub same_passed : {A : Type 0} (L : Language A) (i : Position) (k : ℕ) (o other : ReadResult A) → Says L i o → k < i.at → Same k o other
 same_passed L i k (Ok p) other r far = λ near. absurd (let on : i.at ≤ p.1.at = forward_ok L i p.0 p.1 r in omega arith)
 same_passed L i k (Err e) other r far = λ m is near. absurd (let on : i.at ≤ m = forward_err L i e m r is in omega arith)
 
@@ -272,15 +272,15 @@ near_or_far (suc n) (suc k) = one_more (near_or_far n k)
     one_more (inl e) = inl (omega arith)
     one_more (inr e) = inr (omega arith)
 
-same_second : {A B : Type 0} (L : Language A) (M : A → Language B) (f : A → Parser B) (k : ℕ) (a : A) (j : Place) (other : Outcome A)
-    → Says (M a) j (f a j) → ((a : A) (j l : Place) → Agree k j l → Same k (f a j) (f a l))
+same_second : {A B : Type 0} (L : Language A) (M : A → Language B) (f : A → Parser B) (k : ℕ) (a : A) (j : Position) (other : ReadResult A)
+    → Says (M a) j (f a j) → ((a : A) (j l : Position) → Agree k j l → Same k (f a j) (f a l))
     → (j.at ≤ k → Reaches k a j other) → (j.at ≤ k) ⊎ (k < j.at) → Same k (f a j) (and_then other f)
 same_second L M f k a j other says steady same (inl near) =
     let r = same near in subst (λ o. Same k (f a j) (and_then o f)) (sym r.is) (steady a j r.place r.agree)
 same_second L M f k a j other says steady same (inr far) = same_passed (M a) j k (f a j) (and_then other f) says far
 
-pub same_both : {A B : Type 0} (L : Language A) (M : A → Language B) (f : A → Parser B) (k : ℕ) (o other : Outcome A)
-    → ((a : A) (j : Place) → Says (M a) j (f a j)) → ((a : A) (j l : Place) → Agree k j l → Same k (f a j) (f a l))
+pub same_both : {A B : Type 0} (L : Language A) (M : A → Language B) (f : A → Parser B) (k : ℕ) (o other : ReadResult A)
+    → ((a : A) (j : Position) → Says (M a) j (f a j)) → ((a : A) (j l : Position) → Agree k j l → Same k (f a j) (f a l))
     → Same k o other → Same k (and_then o f) (and_then other f)
 same_both L M f k (Err e) other says steady same = λ m is near. ap (λ o. and_then o f) (same m is near)
 same_both L M f k (Ok p) other says steady same = same_second L M f k p.0 p.1 other (says p.0 p.1) steady same (near_or_far p.1.at k)
@@ -288,18 +288,18 @@ same_both L M f k (Ok p) other says steady same = same_second L M f k p.0 p.1 ot
 -- ---- settled
 
 -- what is left of the tokens, where an outcome is a value
-abbrev pub Leaves : {A : Type 0} → ℕ → Outcome A → Type 0
+abbrev pub Leaves : {A : Type 0} → ℕ → ReadResult A → Type 0
 Leaves n (Ok p) = length p.1.rest < n
 Leaves n (Err e) = ⊤
 
-pub settled_both : {A B : Type 0} (f g : A → Parser B) (n : ℕ) (o : Outcome A)
-    → ((a : A) (j : Place) → length j.rest < n → f a j ≡ g a j) → Leaves n o → and_then o f ≡ and_then o g
+pub settled_both : {A B : Type 0} (f g : A → Parser B) (n : ℕ) (o : ReadResult A)
+    → ((a : A) (j : Position) → length j.rest < n → f a j ≡ g a j) → Leaves n o → and_then o f ≡ and_then o g
 settled_both f g n (Ok p) same left = same p.0 p.1 left
 settled_both f g n (Err e) same left = refl
 
 -- p leaves fewer than n tokens of fewer than m
 abbrev pub Shrinks : {A : Type 0} → ℕ → ℕ → Parser A → Type 0
-Shrinks m n p = (i : Place) → length i.rest < m → Leaves n (p i)
+Shrinks m n p = (i : Position) → length i.rest < m → Leaves n (p i)
 
 -- ---- the law for one reader after another
 
@@ -315,7 +315,7 @@ bind_from m n L M p q f g lax first second shrinks = record {
 shorter : (n a b m : ℕ) → n ≡ a + b → n < m → b < m
 shorter n a b m e short = omega arith
 
-pub leaves_fewer : {A : Type 0} (L : Language A) (i : Place) (m : ℕ) (o : Outcome A) → Says L i o → length i.rest < m → Leaves m o
+pub leaves_fewer : {A : Type 0} (L : Language A) (i : Position) (m : ℕ) (o : ReadResult A) → Says L i o → length i.rest < m → Leaves m o
 leaves_fewer L i m (Ok p) r short = shorter (length i.rest) (length r.tokens) (length p.1.rest) m (ap length r.leads.rest ∙ length-append r.tokens p.1.rest) short
 leaves_fewer L i m (Err e) r short = tt
 

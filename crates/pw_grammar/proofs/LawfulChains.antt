@@ -7,8 +7,8 @@ use Rattle.pw_grammar.specs.declared.sort.Sort.TheVariants as s
 use Rattle.pw_grammar.specs.declared.error.SyntaxError.TheVariants.{At}
 use Rattle.pw_grammar.specs.Terminals.{binary_of, level_of, sort, sort_of, is_same}
 use Rattle.pw_grammar.specs.Expressions as g
-use Rattle.pw_grammar.specs.Expressions.{spelled, IsAt, tree_of, binary_or}
-use Rattle.pw_grammar.specs.Steps.{on_option, Place, Parser, and_then, ◌>>=◌, pure, refuse, next_sort, sees, skip, finish}
+use Rattle.pw_grammar.specs.Expressions.{spelled, IsAt, expression_tree, binary_or}
+use Rattle.pw_grammar.specs.Steps.{on_option, Position, Parser, and_then, ◌>>=◌, pure, refuse, next_sort, sees, skip, finish}
 use Rattle.pw_grammar.specs.ReadingExpressions as r
 use Rattle.pw_grammar.proofs.Lawful.{Language, GoesOn, Lawful, Within, within, Seq, bind, leads_nowhere}
 use Rattle.pw_grammar.proofs.Branches.{keeps, lawful_test, lawful_option, keeps_within, same_sorts}
@@ -65,7 +65,7 @@ binary_is : (level tighter first : ℕ) (left : Expr) (op : Bin) → level ≡ s
     → Within (Then (λ x. r.at_level level (binary_of x) ≡ Some op) (λ line. WithExpression tighter (λ right.
     (λ at b u x. Onward level level first (roll-Expr (record { first = first; last = at - 1; line = line; kind = e.Binary op left right })) at b u))))
     (AnOnward level level first left)
-unfolding spelled IsAt tree_of
+unfolding spelled IsAt expression_tree
 binary_is level tighter first left op is_next at a u x y = record {
   onward = λ c is tree at_is.
       let b = y.second in
@@ -73,9 +73,9 @@ binary_is level tighter first left op is_next at a u x y = record {
       let z = b.second.onward (g.binary c y.token b.phrase)
       (tighter, omega arith, subst (λ n. IsAt n c) is_next is, (op, o.0, o.1 ∙ is_next), b.is)
       (same_node first _ _ y.token.line _ _ (count_binary first at (spelled c) (spelled b.phrase) y.token at_is)
-      (ap (λ v. e.Binary op v (tree_of (suc at) b.phrase)) tree
-      ∙ (ap (λ n. e.Binary op (tree_of first c) (tree_of (suc n) b.phrase)) at_is
-      ∙ ap (λ v. e.Binary v (tree_of first c) (tree_of (suc (first + length (spelled c))) b.phrase)) (sym (ap binary_or o.0)))))
+      (ap (λ v. e.Binary op v (expression_tree (suc at) b.phrase)) tree
+      ∙ (ap (λ n. e.Binary op (expression_tree first c) (expression_tree (suc n) b.phrase)) at_is
+      ∙ ap (λ v. e.Binary v (expression_tree first c) (expression_tree (suc (first + length (spelled c))) b.phrase)) (sym (ap binary_or o.0)))))
       (count_binary first at (spelled c) (spelled b.phrase) y.token at_is) in
       record {
         phrase = z.phrase;
@@ -95,14 +95,14 @@ chain_at level operand m first left None = pure left
 chain_at level operand m first left (Some op) = skip >>= (λ line. operand >>= (λ right.
     finish first line (e.Binary op left right) >>= r.chain level operand m first))
 
-chain_by : (level : ℕ) (operand : Parser Expr) (m first : ℕ) (left : Expr) (b : Option Bin) (i : Place)
+chain_by : (level : ℕ) (operand : Parser Expr) (m first : ℕ) (left : Expr) (b : Option Bin) (i : Position)
     → and_then (r.binary_by b i) (λ x. on_option x (pure left) (λ op. operand >>= (λ right.
     finish first op.1 (e.Binary op.0 left right) >>= r.chain level operand m first))) ≡ chain_at level operand m first left b i
 unfolding chain_at
 chain_by level operand m first left None i = refl
 chain_by level operand m first left (Some op) i = then_option (skip i) op (pure left) _
 
-chain_is : (level : ℕ) (operand : Parser Expr) (m first : ℕ) (left : Expr) (i : Place)
+chain_is : (level : ℕ) (operand : Parser Expr) (m first : ℕ) (left : Expr) (i : Position)
     → r.chain level operand (suc m) first left i ≡ chain_at level operand m first left (r.at_level level (binary_of (next_sort i))) i
 unfolding r.chain r.binary_operator
 chain_is level operand m first left i = chain_by level operand m first left (r.at_level level (binary_of (next_sort i))) i
@@ -149,7 +149,7 @@ count_choice first at u v w q c e = omega (arith, e, length-append u (q ∷ (v +
 -- `? a : b` behind a phrase
 branches_are : (first : ℕ) (test : Expr) → Within (Then (λ x. is_same x s.Question ≡ true) (λ line. WithExpression 13 (λ a.
     Then (λ x. x ≡ s.Colon) (λ o. WithExpression 13 (λ b. ANode first line (e.Cond test a b)))))) (AnOnward 12 13 first test)
-unfolding spelled IsAt tree_of
+unfolding spelled IsAt expression_tree
 branches_are first test at value u x y =
     let a = y.second in
     let o = a.second in
@@ -162,8 +162,8 @@ branches_are first test at value u x y =
             (o.splits ∙ ap (λ v. o.token ∷ v) (b.splits ∙ (ap (λ v. spelled b.phrase ++ v) b.second.empty ∙ append-nil (spelled b.phrase))))));
         tree = b.second.is ∙ same_node first _ _ y.token.line _ _
             (count_choice first at (spelled c) (spelled a.phrase) (spelled b.phrase) y.token o.token at_is)
-            (ap (λ v. e.Cond v (tree_of (suc at) a.phrase) (tree_of (suc (suc at + length (spelled a.phrase))) b.phrase)) tree
-            ∙ ap (λ n. e.Cond (tree_of first c) (tree_of (suc n) a.phrase) (tree_of (suc (suc n + length (spelled a.phrase))) b.phrase)) at_is);
+            (ap (λ v. e.Cond v (expression_tree (suc at) a.phrase) (expression_tree (suc (suc at + length (spelled a.phrase))) b.phrase)) tree
+            ∙ ap (λ n. e.Cond (expression_tree first c) (expression_tree (suc n) a.phrase) (expression_tree (suc (suc n + length (spelled a.phrase))) b.phrase)) at_is);
       };
     }
 

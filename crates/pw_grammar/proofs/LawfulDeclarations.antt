@@ -106,12 +106,12 @@ defining None is e = tt
 defining (Some t) (inl is) e = absurd (both_ways (r.is_extern (g.linkage_by (sort t))) e (ap (λ x. r.is_extern (g.linkage_by x)) is))
 defining (Some t) (inr is) e = is
 
-may_have : (t : Option Token) (v : g.Variable) → g.IsStorage t → (r.is_extern (g.linkage_of t) ≡ true → g.HasNoValue v) → g.MayHave t v
+may_have : (t : Option Token) (v : g.VariableDerivation) → g.IsStorage t → (r.is_extern (g.linkage_of t) ≡ true → g.HasNoValue v) → g.MayHave t v
 may_have None v is none = tt
 may_have (Some t) v (inl is) none = inr (is, none (ap (λ x. r.is_extern (g.linkage_by x)) is))
 may_have (Some t) v (inr is) none = inl is
 
-declaration_by : (at : ℕ) (a : Decl) (u : List Token) (t : Option Token) (z : g.ResultPhrase) (x : Token) (part : Part)
+declaration_by : (at : ℕ) (a : Decl) (u : List Token) (t : Option Token) (z : g.ResultDerivation) (x : Token) (part : Part)
     → g.IsStorage t → g.IsResult z → sort x ≡ s.Name → IsPart (g.linkage_of t) (g.result_in z) part
     → u ≡ g.spelled_storage t ++ (g.spelled_result z ++ x ∷ spelled_part part)
     → a ≡ with_last at (g.name_at at t (g.spelled_result z)) x.line (g.linkage_of t) (name_in x.kind)

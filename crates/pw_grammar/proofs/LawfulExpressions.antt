@@ -4,8 +4,8 @@ use Rattle.std.proofs.lemmas.List.{append-nil, length-append}
 use Rattle.pw_grammar.specs.declared.sort.Sort.{Sort}
 use Rattle.pw_grammar.specs.declared.sort.Sort.TheVariants as s
 use Rattle.pw_grammar.specs.Terminals.{sort, sort_of, is_same}
-use Rattle.pw_grammar.specs.Expressions.{identifier, constant, bracketed, input, output, spelled, IsAt, IsConstant, tree_of, name_in, value_in, is_unsigned}
-use Rattle.pw_grammar.specs.Steps.{Place, Parser, refuse, next_sort, take}
+use Rattle.pw_grammar.specs.Expressions.{identifier, constant, bracketed, input, output, spelled, IsAt, IsConstant, expression_tree, name_in, value_in, is_unsigned}
+use Rattle.pw_grammar.specs.Steps.{Position, Parser, refuse, next_sort, take}
 use Rattle.pw_grammar.specs.ReadingExpressions as r
 use Rattle.pw_grammar.proofs.Lawful.{Language, GoesOn, Says, Same, Lawful, Within, Seq, Pure, lawful_pure}
 use Rattle.pw_grammar.proofs.Branches.{Keeps, keeps, keeps_refuse, lawful_test, keeps_within, keeps_bind_from, same_sorts}
@@ -33,7 +33,7 @@ count_output at n m e = omega arith
 
 -- `( e )`, once the bracket was seen
 bracketed_is : (n : ℕ) → Within (Then (λ x. is_same x s.LeftParen ≡ true) (λ o. WithExpression 13 (λ a. Then (λ x. x ≡ s.RightParen) (λ c. Pure a)))) (AnExpression n)
-unfolding spelled IsAt tree_of
+unfolding spelled IsAt expression_tree
 bracketed_is n at a u x o =
     let b = o.second in
     let c = b.second in
@@ -54,7 +54,7 @@ lawful_bracketed n m p q l = keeps_within (λ x. is_same x s.LeftParen ≡ true)
 -- `__out ( e )`
 output_is : (n : ℕ) → Within (Here (λ first. Then (λ x. is_same x s.Output ≡ true) (λ line. Then (λ x. x ≡ s.LeftParen) (λ o. WithExpression 13 (λ a.
     Then (λ x. x ≡ s.RightParen) (λ c. ANode first line (e.Output a))))))) (AnExpression n)
-unfolding spelled IsAt tree_of
+unfolding spelled IsAt expression_tree
 output_is n at a u x k =
     let o = k.second in
     let b = o.second in
@@ -63,7 +63,7 @@ output_is n at a u x k =
       phrase = output k.token o.token b.phrase c.token;
       is = (same_sorts (sort k.token) s.Output k.sort_is, o.sort_is, b.is, c.sort_is);
       spells = k.splits ∙ ap (λ v. k.token ∷ v) (o.splits ∙ ap (λ v. o.token ∷ v) (b.splits ∙ ap (λ v. spelled b.phrase ++ v) (c.splits ∙ ap (λ v. c.token ∷ v) c.second.empty)));
-      tree = c.second.is ∙ ap (λ n. roll-Expr (record { first = at; last = n - 1; line = k.token.line; kind = e.Output (tree_of (suc (suc at)) b.phrase) }))
+      tree = c.second.is ∙ ap (λ n. roll-Expr (record { first = at; last = n - 1; line = k.token.line; kind = e.Output (expression_tree (suc (suc at)) b.phrase) }))
           (count_output at (length (spelled b.phrase)) _ (length-append (spelled b.phrase) (c.token ∷ [])));
     }
 
@@ -78,7 +78,7 @@ lawful_output n m p q l = keeps_within (λ x. is_same x s.Output ≡ true) (suc 
 -- a name
 identifier_is : (m : ℕ) (c : Sort → Type 0) → ((x : Sort) → c x → x ≡ s.Name)
     → Within (Here (λ first. Seq (AToken c) (λ t. ANode first t.line (e.Word (name_in t.kind))))) (AnExpression m)
-unfolding spelled IsAt tree_of
+unfolding spelled IsAt expression_tree
 identifier_is m c named at a u x y = record {
   phrase = identifier y.value;
   is = named (sort y.value) y.first.sort_is;
@@ -97,7 +97,7 @@ lawful_identifier n m c named ends = keeps_within c (suc n) _ _ _ _ (identifier_
 -- a number or a character
 constant_is : (m : ℕ) (c : Sort → Type 0) → ((x : Sort) → c x → IsConstant x)
     → Within (Here (λ first. Seq (AToken c) (λ t. ANode first t.line (e.Num (value_in t.kind) (is_unsigned t.kind))))) (AnExpression m)
-unfolding spelled IsAt tree_of
+unfolding spelled IsAt expression_tree
 constant_is m c named at a u x y = record {
   phrase = constant y.value;
   is = named (sort y.value) y.first.sort_is;
@@ -116,7 +116,7 @@ lawful_constant n m c named ends = keeps_within c (suc n) _ _ _ _ (constant_is m
 -- `__in ( )`
 input_is : (n : ℕ) → Within (Here (λ first. Then (λ x. is_same x s.Input ≡ true) (λ line. Then (λ x. x ≡ s.LeftParen) (λ o.
     Then (λ x. x ≡ s.RightParen) (λ c. ANode first line e.Input))))) (AnExpression n)
-unfolding spelled IsAt tree_of
+unfolding spelled IsAt expression_tree
 input_is n at a u x k =
     let o = k.second in
     let c = o.second in
@@ -151,7 +151,7 @@ primary_is_tests p s.Output = refl
 primary_is_tests p _ = refl
 
 -- the laws of readers that give the same outcomes
-pub lawful_equal : {A : Type 0} (n : ℕ) (L : Language A) (p q p' q' : Parser A) → ((i : Place) → p i ≡ p' i) → ((i : Place) → q i ≡ q' i)
+pub lawful_equal : {A : Type 0} (n : ℕ) (L : Language A) (p q p' q' : Parser A) → ((i : Position) → p i ≡ p' i) → ((i : Position) → q i ≡ q' i)
     → Lawful n L p' q' → Lawful n L p q
 lawful_equal n L p q p' q' left right l = record {
   settled = λ i short. left i ∙ (l.settled i short ∙ sym (right i));

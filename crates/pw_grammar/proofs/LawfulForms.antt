@@ -4,8 +4,8 @@ use Rattle.std.proofs.lemmas.List.{append-nil}
 use Rattle.pw_grammar.specs.declared.sort.Sort.{Sort}
 use Rattle.pw_grammar.specs.declared.sort.Sort.TheVariants as s
 use Rattle.pw_grammar.specs.Terminals.{sort, is_same}
-use Rattle.pw_grammar.specs.Expressions.{Phrase, spelled, IsAt, tree_of}
-use Rattle.pw_grammar.specs.Statements.{spelled_simple, IsSimple, kind_of_simple, spelled_start, IsStart, tree_of_start, spelled_maybe, IsMaybe, tree_of_maybe, spelled_step, IsStep, tree_of_step, Statement, empty, block, simple, if_only, if_else, while_do, do_while, for_do, leave, jump, spelled_statement, spelled_statements, open_ended, IsStatement, AreStatements, kind_of, trees_of_statements, tree_of_statement, jump_of, behind_test}
+use Rattle.pw_grammar.specs.Expressions.{ExpressionDerivation, spelled, IsAt, expression_tree}
+use Rattle.pw_grammar.specs.Statements.{spelled_simple, IsSimple, kind_of_simple, spelled_start, IsStart, tree_of_start, spelled_maybe, IsMaybe, tree_of_maybe, spelled_step, IsStep, tree_of_step, StatementDerivation, empty, block, simple, if_only, if_else, while_do, do_while, for_do, leave, jump, spelled_statement, spelled_statements, open_ended, IsStatement, AreStatements, kind_of, trees_of_statements, tree_of_statement, jump_of, behind_test}
 use Rattle.pw_grammar.specs.Steps.{Parser, sees}
 use Rattle.pw_grammar.specs.ReadingStatements as r
 use Rattle.pw_grammar.proofs.Lawful.{Language, sort_before, GoesOn, Lawful, Within, Lax, within, Seq, bind, Pure, lawful_pure}
@@ -25,7 +25,7 @@ use Rattle.pw_lex.specs.declared.token.Token.{Token}
 -- ---- the language of the forms of statements
 
 pub record IsForm (at : ℕ) (kind : StmtKind) (u : List Token) (x : Sort) : Type 0 where
-  pub phrase : Statement
+  pub phrase : StatementDerivation
   pub is : IsStatement false phrase
   pub spells : u ≡ spelled_statement phrase
   pub kind_is : kind ≡ kind_of at phrase
@@ -115,7 +115,7 @@ else_goes_on : (at : ℕ) → GoesOn AnElse at []
 else_goes_on at = record { rest = []; value = None; reads = λ x o. (refl, o); starts = λ e x o. o }
 
 -- what a last statement is before
-pub before_end : (v : List Token) (x : Sort) (c : Statement) → v ≡ [] → (open_ended c ≡ true → sort_before v x ≢ s.Else) → open_ended c ≡ true → x ≢ s.Else
+pub before_end : (v : List Token) (x : Sort) (c : StatementDerivation) → v ≡ [] → (open_ended c ≡ true → sort_before v x ≢ s.Else) → open_ended c ≡ true → x ≢ s.Else
 before_end v x c e closed is = subst (λ v. sort_before v x ≢ s.Else) e (closed is)
 
 pub last_spells : (u v w : List Token) → u ≡ v ++ w → w ≡ [] → u ≡ v
@@ -150,16 +150,16 @@ not_open : (b : Bool) (x : Sort) → (b ≡ true → x ≢ s.Else) → x ≡ s.E
 not_open true x closed e = absurd (closed refl e)
 not_open false x closed e = refl
 
-record Head (t o : Token) (a : Phrase) (c : Token) (y : Statement) (z : Sort) : Type 0 where
+record Head (t o : Token) (a : ExpressionDerivation) (c : Token) (y : StatementDerivation) (z : Sort) : Type 0 where
   word_is : sort t ≡ z
   left_is : sort o ≡ s.LeftParen
   test_is : IsAt 13 a
   right_is : sort c ≡ s.RightParen
   body_is : IsStatement false y
 
-conditional_by : (at : ℕ) (kind : StmtKind) (u : List Token) (x : Sort) (t o : Token) (a : Phrase) (c : Token) (y : Statement) (n : Option Stmt) (v : List Token)
+conditional_by : (at : ℕ) (kind : StmtKind) (u : List Token) (x : Sort) (t o : Token) (a : ExpressionDerivation) (c : Token) (y : StatementDerivation) (n : Option Stmt) (v : List Token)
     → Head t o a c y s.If → u ≡ t ∷ o ∷ (spelled a ++ c ∷ (spelled_statement y ++ v)) → (open_ended y ≡ true → sort_before v x ≢ s.Else)
-    → IsElse (behind_test at a + length (spelled_statement y)) n v x → kind ≡ k.If (tree_of (suc (suc at)) a) (tree_of_statement (behind_test at a) y) n
+    → IsElse (behind_test at a + length (spelled_statement y)) n v x → kind ≡ k.If (expression_tree (suc (suc at)) a) (tree_of_statement (behind_test at a) y) n
     → IsForm at kind u x
 unfolding spelled_statement IsStatement open_ended kind_of
 conditional_by at kind u x t o a c y None v h e closed z f = record {
@@ -182,7 +182,7 @@ conditional_by at kind u x t o a c y (Some n) v h e closed z f = record {
     z.second.is,
   );
   spells = e ∙ ap (λ v. t ∷ o ∷ (spelled a ++ c ∷ (spelled_statement y ++ v))) (z.splits ∙ ap (λ v. z.token ∷ v) z.second.spells);
-  kind_is = f ∙ ap (λ n. k.If (tree_of (suc (suc at)) a) (tree_of_statement (behind_test at a) y) (Some n)) z.second.tree;
+  kind_is = f ∙ ap (λ n. k.If (expression_tree (suc (suc at)) a) (tree_of_statement (behind_test at a) y) (Some n)) z.second.tree;
   closed = z.second.closed;
 }
 

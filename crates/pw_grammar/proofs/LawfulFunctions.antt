@@ -5,7 +5,7 @@ use Rattle.std.proofs.lemmas.Bool.{and_parts, not-true}
 use Rattle.std.specs.List.{list_all}
 use Rattle.pw_grammar.specs.declared.sort.Sort.TheVariants as s
 use Rattle.pw_grammar.specs.Terminals.{sort, is_same}
-use Rattle.pw_grammar.specs.Statements.{Statements, spelled_statements, AreStatements, trees_of_statements}
+use Rattle.pw_grammar.specs.Statements.{StatementDerivations, spelled_statements, AreStatements, trees_of_statements}
 use Rattle.pw_grammar.specs.Declarations as g
 use Rattle.pw_grammar.specs.Steps.{Parser, next_sort, sees}
 use Rattle.pw_grammar.specs.ReadingStatements.{is_some}
@@ -30,7 +30,7 @@ use Rattle.pw_lex.specs.declared.token.Token.{Token}
 
 data End : Type 0 where
   closed : Token → End
-  bodied : Token → Statements → Token → End
+  bodied : Token → StatementDerivations → Token → End
 
 abbrev IsEnd : Linkage → List Param → End → Type 0
 IsEnd linkage ps (closed e) = sort e ≡ s.Semicolon
@@ -121,17 +121,17 @@ more_have_names g.MoreParameters.end at e = tt
 more_have_names (g.MoreParameters.more t p ps) at e =
     let b = and_parts _ _ e in (name_given p.name b.0, more_have_names ps (suc at + length (g.spelled_parameter p)) b.1)
 
-have_names : (at : ℕ) (ps : g.Parameters) → list_all r.is_named (g.parameters_of at ps) ≡ true → g.HaveNames ps
+have_names : (at : ℕ) (ps : g.ParametersDerivation) → list_all r.is_named (g.parameters_of at ps) ≡ true → g.HaveNames ps
 have_names at (g.none t) e = tt
 have_names at (g.some p ps) e =
     let b = and_parts _ _ e in (name_given p.name b.0, more_have_names ps (at + length (g.spelled_parameter p)) b.1)
 
 -- a definition: it is not `extern`, and each parameter has a name
-record Defines (linkage : Linkage) (ps : g.Parameters) : Type 0 where
+record Defines (linkage : Linkage) (ps : g.ParametersDerivation) : Type 0 where
   not_extern : r.is_extern linkage ≡ false
   names : g.HaveNames ps
 
-defines : (linkage : Linkage) (at : ℕ) (ps : g.Parameters) → r.may_define linkage (g.parameters_of at ps) ≡ true → Defines linkage ps
+defines : (linkage : Linkage) (at : ℕ) (ps : g.ParametersDerivation) → r.may_define linkage (g.parameters_of at ps) ≡ true → Defines linkage ps
 unfolding r.may_define
 defines linkage at ps e =
     let b = and_parts (not (r.is_extern linkage)) (list_all r.is_named (g.parameters_of at ps)) e in
@@ -140,8 +140,8 @@ defines linkage at ps e =
 -- ---- functions, behind the name
 
 pub data FunctionPart : Type 0 where
-  prototyped : Token → g.Parameters → Token → Token → FunctionPart
-  defined : Token → g.Parameters → Token → Token → Statements → Token → FunctionPart
+  prototyped : Token → g.ParametersDerivation → Token → Token → FunctionPart
+  defined : Token → g.ParametersDerivation → Token → Token → StatementDerivations → Token → FunctionPart
 
 abbrev pub IsFunction : Linkage → FunctionPart → Type 0
 IsFunction linkage (prototyped o ps c e) = (sort o ≡ s.LeftParen) × g.AreParameters ps × (sort c ≡ s.RightParen) × (sort e ≡ s.Semicolon)
@@ -163,7 +163,7 @@ function_at ty at (defined o ps c b body e) = (
 abbrev pub AFunction : Linkage → Ty → Language (ℕ × DeclKind)
 AFunction linkage ty = APhrase (IsFunction linkage) spelled_function (function_at ty)
 
-function_by : (linkage : Linkage) (ty : Ty) (at : ℕ) (a : ℕ × DeclKind) (u : List Token) (o : Token) (ps : g.Parameters) (c : Token) (z : End)
+function_by : (linkage : Linkage) (ty : Ty) (at : ℕ) (a : ℕ × DeclKind) (u : List Token) (o : Token) (ps : g.ParametersDerivation) (c : Token) (z : End)
     → sort o ≡ s.LeftParen → g.AreParameters ps → sort c ≡ s.RightParen → IsEnd linkage (g.parameters_of (suc at) ps) z
     → u ≡ o ∷ (g.spelled_parameters ps ++ c ∷ spelled_end z)
     → a ≡ (suc at + length (g.spelled_parameters ps), end_at ty (g.parameters_of (suc at) ps) (suc (suc at + length (g.spelled_parameters ps))) z)

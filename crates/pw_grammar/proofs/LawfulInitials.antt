@@ -54,7 +54,7 @@ lawful_constant n = lawful_one_of n (λ x. is_same x s.Number || is_same x s.Cha
 
 -- ---- elements
 
-abbrev kind_at : ℕ → g.Element → InitKind
+abbrev kind_at : ℕ → g.ElementDerivation → InitKind
 kind_at at x = g.kind_of_element x
 
 abbrev AKind : Language InitKind
@@ -62,7 +62,7 @@ AKind = APhrase g.IsElement g.spelled_element kind_at
 
 word_is : Within (WithName (λ x. Pure (i.Word x))) AKind
 word_is at a u x y = record
-    { phrase = g.Element.word y.token; is = y.sort_is; spells = y.splits ∙ ap (λ v. y.token ∷ v) y.second.empty; value_is = y.second.is }
+    { phrase = g.ElementDerivation.word y.token; is = y.sort_is; spells = y.splits ∙ ap (λ v. y.token ∷ v) y.second.empty; value_is = y.second.is }
 
 abbrev WithConstant : (ℕ → Language InitKind) → Language InitKind
 WithConstant M = WithPhrase (λ (t : Token). IsConstant (sort t)) (λ t. t ∷ []) (λ at t. value_of t) M
@@ -124,8 +124,8 @@ lawful_finish_element n first line kind = record {
 abbrev pub AnElement : Language InitItem
 AnElement = APhrase g.IsElement g.spelled_element g.element_of
 
-full_element : (c : g.Element) → [] ≡ g.spelled_element c → ⊥
-full_element (g.Element.word t) e = cc
+full_element : (c : g.ElementDerivation) → [] ≡ g.spelled_element c → ⊥
+full_element (g.ElementDerivation.word t) e = cc
 full_element (g.positive t) e = cc
 full_element (g.negative m t) e = cc
 
@@ -169,7 +169,7 @@ no_more found at a u x y = record { phrase = g.MoreElements.end; is = tt; spells
 
 -- behind a comma: a further element, or nothing
 abbrev Next : Type 0
-Next = Option (g.Element × g.MoreElements)
+Next = Option (g.ElementDerivation × g.MoreElements)
 
 abbrev IsNext : Next → Type 0
 IsNext None = ⊤

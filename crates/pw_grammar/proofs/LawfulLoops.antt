@@ -4,7 +4,7 @@ use Rattle.std.proofs.lemmas.List.{append-nil, append_assoc}
 use Rattle.pw_grammar.specs.declared.sort.Sort.{Sort}
 use Rattle.pw_grammar.specs.declared.sort.Sort.TheVariants as s
 use Rattle.pw_grammar.specs.Terminals.{is_same}
-use Rattle.pw_grammar.specs.Statements.{Local, plain, set, spelled_local, Statement, empty, block, declare, simple, if_only, if_else, while_do, do_while, for_do, leave, jump, nil, cons, spelled_statement, spelled_statements, open_ended, IsStatement, AreStatements, kind_of, trees_of_statements, tree_of_statement}
+use Rattle.pw_grammar.specs.Statements.{LocalDerivation, plain, set, spelled_local, StatementDerivation, empty, block, declare, simple, if_only, if_else, while_do, do_while, for_do, leave, jump, nil, cons, spelled_statement, spelled_statements, open_ended, IsStatement, AreStatements, kind_of, trees_of_statements, tree_of_statement}
 use Rattle.pw_grammar.specs.Steps.{Parser, ◌>>=◌, sees}
 use Rattle.pw_grammar.specs.ReadingStatements as r
 use Rattle.pw_grammar.proofs.Lawful.{Language, sort_before, GoesOn, Lawful, Within, Lax, within, Seq, bind, bind_from, Pure, lawful_pure}
@@ -21,7 +21,7 @@ use Rattle.pw_lex.specs.declared.token.Token.{Token}
 
 -- a statement that ends in an `if` without `else` stands before no `else`
 pub record IsStatementAt (declares : Bool) (at : ℕ) (a : Stmt) (u : List Token) (x : Sort) : Type 0 where
-  pub phrase : Statement
+  pub phrase : StatementDerivation
   pub is : IsStatement declares phrase
   pub spells : u ≡ spelled_statement phrase
   pub tree : a ≡ tree_of_statement at phrase
@@ -36,7 +36,7 @@ a_statement_is_lax declares at a u x y r o = record
 
 -- a statement, and what comes behind it
 pub record WithStatement {B : Type 0} (declares : Bool) (M : Stmt → Language B) (at : ℕ) (b : B) (u : List Token) (x : Sort) : Type 0 where
-  pub phrase : Statement
+  pub phrase : StatementDerivation
   pub behind : List Token
   pub is : IsStatement declares phrase
   pub splits : u ≡ spelled_statement phrase ++ behind
@@ -71,11 +71,11 @@ statement_goes_on declares at = record {
 
 -- ---- a statement has a token
 
-pub full_local : (c : Local) → [] ≡ spelled_local c → ⊥
+pub full_local : (c : LocalDerivation) → [] ≡ spelled_local c → ⊥
 full_local (plain ty x e) f = full_type ty (no_front _ _ f)
 full_local (set ty x q a e) f = full_type ty (no_front _ _ f)
 
-pub full_statement : (c : Statement) → [] ≡ spelled_statement c → ⊥
+pub full_statement : (c : StatementDerivation) → [] ≡ spelled_statement c → ⊥
 unfolding spelled_statement
 full_statement (empty e) f = cc
 full_statement (block o body c) f = cc
@@ -94,7 +94,7 @@ statement_is_full declares = λ at a x y. full_statement y.phrase y.spells
 
 -- ---- what stands in a block
 
-may_declare : (c : Statement) → IsStatement false c → IsStatement true c
+may_declare : (c : StatementDerivation) → IsStatement false c → IsStatement true c
 unfolding IsStatement
 may_declare (empty e) i = i
 may_declare (block o body c) i = i

@@ -5,8 +5,8 @@ use Rattle.pw_grammar.specs.declared.sort.Sort.{Sort}
 use Rattle.pw_grammar.specs.declared.sort.Sort.TheVariants as s
 use Rattle.pw_grammar.specs.Terminals.{sort, sort_of, is_same}
 use Rattle.pw_grammar.specs.Expressions as g
-use Rattle.pw_grammar.specs.Expressions.{Phrase, Arguments, More, spelled, spelled_arguments, spelled_more, IsAt, AreArguments, AreMore, tree_of, trees_of, trees_of_more}
-use Rattle.pw_grammar.specs.Steps.{Place, Outcome, Parser, and_then, ◌>>=◌, pure, sees, here, skip}
+use Rattle.pw_grammar.specs.Expressions.{ExpressionDerivation, Arguments, More, spelled, spelled_arguments, spelled_more, IsAt, AreArguments, AreMore, expression_tree, argument_trees, more_argument_trees}
+use Rattle.pw_grammar.specs.Steps.{Position, ReadResult, Parser, and_then, ◌>>=◌, pure, sees, here, skip}
 use Rattle.pw_grammar.specs.ReadingExpressions as r
 use Rattle.pw_grammar.proofs.Lawful.{Language, GoesOn, Says, Lawful, Within, Lax, within, Seq, bind, Leaves, leaves_fewer, Pure, lawful_pure}
 use Rattle.pw_grammar.proofs.Branches.{Keeps, keeps, keeps_pure, lawful_test, keeps_within, keeps_bind_from, same_sorts}
@@ -38,8 +38,8 @@ lawful_none n L p p' q l = record {
   can = l.can;
 }
 
-leaves_both : {A B : Type 0} (n : ℕ) (M : A → Language B) (f : A → Parser B) → ((a : A) (j : Place) → Says (M a) j (f a j))
-    → (o : Outcome A) → Leaves n o → Leaves n (and_then o f)
+leaves_both : {A B : Type 0} (n : ℕ) (M : A → Language B) (f : A → Parser B) → ((a : A) (j : Position) → Says (M a) j (f a j))
+    → (o : ReadResult A) → Leaves n o → Leaves n (and_then o f)
 leaves_both n M f says (Ok p) left = leaves_fewer (M p.0) p.1 n (f p.0 p.1) (says p.0 p.1) left
 leaves_both n M f says (Err e) left = tt
 
@@ -54,7 +54,7 @@ keeps_then_on c n M K N f g h h' ends lax w l m = keeps_bind_from c (suc n) n K 
 
 -- ---- what stands at a level stands at each looser one
 
-pub looser : (m n : ℕ) (c : Phrase) → m ≤ n → IsAt m c → IsAt n c
+pub looser : (m n : ℕ) (c : ExpressionDerivation) → m ≤ n → IsAt m c → IsAt n c
 unfolding IsAt
 looser m n (g.identifier t) less is = is
 looser m n (g.constant t) less is = is
@@ -74,7 +74,7 @@ expression_looser m n less at a u x y = record { phrase = y.phrase; is = looser 
 
 -- behind any phrase of level m that begins at `first` and has the tree `left`, they make a phrase of level n
 pub record Onward (m n first : ℕ) (left : Expr) (at : ℕ) (a : Expr) (u : List Token) : Type 0 where
-  pub onward : (c : Phrase) → IsAt m c → left ≡ tree_of first c → at ≡ first + length (spelled c) → IsExpression n first a (spelled c ++ u)
+  pub onward : (c : ExpressionDerivation) → IsAt m c → left ≡ expression_tree first c → at ≡ first + length (spelled c) → IsExpression n first a (spelled c ++ u)
 
 abbrev pub AnOnward : ℕ → ℕ → ℕ → Expr → Language Expr
 AnOnward m n first left = λ at a u x. Onward m n first left at a u
@@ -133,7 +133,7 @@ pub record HasMore (found : List Expr) (at : ℕ) (value : List Expr) (u : List 
   pub list : More
   pub are : AreMore list
   pub spells : u ≡ spelled_more list
-  pub trees : value ≡ found ++ trees_of_more at list
+  pub trees : value ≡ found ++ more_argument_trees at list
 
 -- further arguments behind those that were found
 abbrev pub SomeMore : List Expr → Language (List Expr)
@@ -143,20 +143,20 @@ pub record HasArguments (at : ℕ) (value : List Expr) (u : List Token) : Type 0
   pub list : Arguments
   pub are : AreArguments list
   pub spells : u ≡ spelled_arguments list
-  pub trees : value ≡ trees_of at list
+  pub trees : value ≡ argument_trees at list
 
 abbrev pub SomeArguments : Language (List Expr)
 SomeArguments = λ at a u x. HasArguments at a u
 
 no_more : (found : List Expr) (at : ℕ) → HasMore found at found []
-unfolding spelled_more AreMore trees_of_more
+unfolding spelled_more AreMore more_argument_trees
 no_more found at = record { list = g.end; are = tt; spells = refl; trees = sym (append-nil found) }
 
 more_goes_on : (found : List Expr) (at : ℕ) → GoesOn (SomeMore found) at []
 more_goes_on found at = record { rest = []; value = found; reads = λ x o. no_more found at; starts = λ e x o. o }
 
 one_more : (found : List Expr) → Within (Then (λ x. is_same x s.Comma ≡ true) (λ o. WithExpression 13 (λ a. SomeMore (found ++ a ∷ [])))) (SomeMore found)
-unfolding spelled_more AreMore trees_of_more
+unfolding spelled_more AreMore more_argument_trees
 one_more found at a u x y =
     let b = y.second in
     let z = b.second in
@@ -164,7 +164,7 @@ one_more found at a u x y =
       list = g.more y.token b.phrase z.list;
       are = (same_sorts (sort y.token) s.Comma y.sort_is, b.is, z.are);
       spells = y.splits ∙ ap (λ v. y.token ∷ v) (b.splits ∙ ap (λ v. spelled b.phrase ++ v) z.spells);
-      trees = z.trees ∙ append_assoc found (tree_of (suc at) b.phrase ∷ []) _;
+      trees = z.trees ∙ append_assoc found (expression_tree (suc at) b.phrase ∷ []) _;
     }
 
 lawful_more : (n m : ℕ) (p q : Parser Expr) (found : List Expr) → m ≤ suc n → Lawful n (AnExpression 13) p q
@@ -181,7 +181,7 @@ lawful_more n (suc m) p q found less l = lawful_test (λ x. is_same x s.Comma) (
     (keeps_pure (λ x. is_same x s.Comma ≡ false) (suc m) (SomeMore found) found (λ at x o. no_more found at)) (more_goes_on found)
 
 some_are : Within (WithExpression 13 (λ a. SomeMore (a ∷ []))) SomeArguments
-unfolding spelled_arguments AreArguments trees_of
+unfolding spelled_arguments AreArguments argument_trees
 some_are at a u x y =
     let z = y.second in
     record {
@@ -192,7 +192,7 @@ some_are at a u x y =
     }
 
 no_arguments : (at : ℕ) → HasArguments at [] []
-unfolding spelled_arguments AreArguments trees_of
+unfolding spelled_arguments AreArguments argument_trees
 no_arguments at = record { list = g.nothing; are = tt; spells = refl; trees = refl }
 
 arguments_go_on : (at : ℕ) → GoesOn SomeArguments at []
@@ -222,7 +222,7 @@ count_suffix first at u v w o c e f = omega (arith, e, ap length f, length-appen
 -- `( arguments )` behind a phrase
 call_is : (first : ℕ) (left : Expr) → Within (Then (λ x. is_same x s.LeftParen ≡ true) (λ line. Seq SomeArguments (λ xs.
     Then (λ x. x ≡ s.RightParen) (λ c. ANode first line (e.Call left xs))))) (AnOnward 1 1 first left)
-unfolding spelled IsAt tree_of
+unfolding spelled IsAt expression_tree
 call_is first left at a u x y =
     let xs = y.second in
     let c = xs.second in
@@ -234,15 +234,15 @@ call_is first left at a u x y =
             ∙ ap (λ v. spelled_arguments xs.first.list ++ v) (c.splits ∙ ap (λ v. c.token ∷ v) c.second.empty))));
         tree = c.second.is ∙ same_node first _ _ y.token.line _ _
             (count_suffix first at (spelled f) (spelled_arguments xs.first.list) xs.front y.token c.token at_is xs.first.spells)
-            (ap (λ b. e.Call b xs.value) tree ∙ ap (λ v. e.Call (tree_of first f) v)
-            (xs.first.trees ∙ ap (λ n. trees_of (suc n) xs.first.list) at_is));
+            (ap (λ b. e.Call b xs.value) tree ∙ ap (λ v. e.Call (expression_tree first f) v)
+            (xs.first.trees ∙ ap (λ n. argument_trees (suc n) xs.first.list) at_is));
       };
     }
 
 -- `[ i ]` behind a phrase
 index_is : (first : ℕ) (left : Expr) → Within (Then (λ x. is_same x s.LeftBracket ≡ true) (λ line. WithExpression 13 (λ i.
     Then (λ x. x ≡ s.RightBracket) (λ c. ANode first line (e.Index left i))))) (AnOnward 1 1 first left)
-unfolding spelled IsAt tree_of
+unfolding spelled IsAt expression_tree
 index_is first left at a u x y =
     let b = y.second in
     let c = b.second in
@@ -254,7 +254,7 @@ index_is first left at a u x y =
             ∙ ap (λ v. spelled b.phrase ++ v) (c.splits ∙ ap (λ v. c.token ∷ v) c.second.empty)));
         tree = c.second.is ∙ same_node first _ _ y.token.line _ _
             (count_suffix first at (spelled f) (spelled b.phrase) (spelled b.phrase) y.token c.token at_is refl)
-            (ap (λ l. e.Index l (tree_of (suc at) b.phrase)) tree ∙ ap (λ n. e.Index (tree_of first f) (tree_of (suc n) b.phrase)) at_is);
+            (ap (λ l. e.Index l (expression_tree (suc at) b.phrase)) tree ∙ ap (λ n. e.Index (expression_tree first f) (expression_tree (suc n) b.phrase)) at_is);
       };
     }
 

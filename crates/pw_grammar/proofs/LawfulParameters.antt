@@ -70,7 +70,7 @@ lawful_storage n = lawful_test (λ x. is_same x s.Extern) n AStorage _ _ _ _
 
 -- ---- the result
 
-abbrev pub result_at : ℕ → g.ResultPhrase → Ty
+abbrev pub result_at : ℕ → g.ResultDerivation → Ty
 result_at at c = g.result_in c
 
 abbrev pub AResult : Language Ty

@@ -5,8 +5,8 @@ use Rattle.std.specs.Bool.{⊤}
 use Rattle.pw_grammar.specs.declared.sort.Sort.TheVariants as s
 use Rattle.pw_grammar.specs.Terminals.{prefix_of, sort}
 use Rattle.pw_grammar.specs.Expressions as g
-use Rattle.pw_grammar.specs.Expressions.{Phrase, spelled, IsAt, tree_of, IsPrefix, prefix_or, prefix_in}
-use Rattle.pw_grammar.specs.Steps.{on_option, Place, Outcome, Parser, and_then, ◌>>=◌, pure, next_sort, skip}
+use Rattle.pw_grammar.specs.Expressions.{ExpressionDerivation, spelled, IsAt, expression_tree, IsPrefix, prefix_or, prefix_in}
+use Rattle.pw_grammar.specs.Steps.{on_option, Position, ReadResult, Parser, and_then, ◌>>=◌, pure, next_sort, skip}
 use Rattle.pw_grammar.specs.ReadingExpressions as r
 use Rattle.pw_grammar.proofs.Lawful.{Language, GoesOn, Lawful, Within, within, Seq, bind, Pure, lawful_pure, leads_nowhere}
 use Rattle.pw_grammar.proofs.Branches.{keeps_pure, lawful_option, keeps_within}
@@ -21,7 +21,7 @@ use Rattle.pw_lex.specs.declared.token.Token.{Token}
 -- ---- an operator that may come next
 
 -- one reader instead of two, where the first answers an operator and its line
-pub then_option : {A U : Type 0} (o : Outcome ℕ) (op : U) (stop : Parser A) (f : U × ℕ → Parser A)
+pub then_option : {A U : Type 0} (o : ReadResult ℕ) (op : U) (stop : Parser A) (f : U × ℕ → Parser A)
     → and_then (and_then o (λ line. pure (Some (op, line)))) (λ x. on_option x stop f) ≡ and_then o (λ line. f (op, line))
 then_option (Ok p) op stop f = refl
 then_option (Err fault) op stop f = refl
@@ -68,13 +68,13 @@ operators_at : ℕ → List (Un × ℕ) → Option Un → Parser (List (Un × �
 operators_at m found None = pure found
 operators_at m found (Some op) = skip >>= (λ line. r.operators m (found ++ (op, line) ∷ []))
 
-operators_by : (m : ℕ) (found : List (Un × ℕ)) (b : Option Un) (i : Place)
+operators_by : (m : ℕ) (found : List (Un × ℕ)) (b : Option Un) (i : Position)
     → and_then (r.prefix_by b i) (λ x. on_option x (pure found) (λ op. r.operators m (found ++ op ∷ []))) ≡ operators_at m found b i
 unfolding operators_at
 operators_by m found None i = refl
 operators_by m found (Some op) i = then_option (skip i) op (pure found) (λ op. r.operators m (found ++ op ∷ []))
 
-operators_are : (m : ℕ) (found : List (Un × ℕ)) (i : Place) → r.operators (suc m) found i ≡ operators_at m found (prefix_of (next_sort i)) i
+operators_are : (m : ℕ) (found : List (Un × ℕ)) (i : Position) → r.operators (suc m) found i ≡ operators_at m found (prefix_of (next_sort i)) i
 unfolding r.operators r.prefix_operator
 operators_are m found i = operators_by m found (prefix_of (next_sort i)) i
 
@@ -114,16 +114,16 @@ lawful_wrap n first ops operand = record {
 }
 
 -- the phrase behind these operators
-prefixes : List Token → Phrase → Phrase
+prefixes : List Token → ExpressionDerivation → ExpressionDerivation
 prefixes [] c = c
 prefixes (t ∷ ts) c = g.prefixed t (prefixes ts c)
 
-prefixes_are : (ts : List Token) (c : Phrase) → ArePrefixes ts → IsAt 2 c → IsAt 2 (prefixes ts c)
+prefixes_are : (ts : List Token) (c : ExpressionDerivation) → ArePrefixes ts → IsAt 2 c → IsAt 2 (prefixes ts c)
 unfolding ArePrefixes prefixes IsAt
 prefixes_are [] c are is = is
 prefixes_are (t ∷ ts) c are is = (omega arith, are.0, prefixes_are ts c are.1 is)
 
-prefixes_spell : (ts : List Token) (c : Phrase) → spelled (prefixes ts c) ≡ ts ++ spelled c
+prefixes_spell : (ts : List Token) (c : ExpressionDerivation) → spelled (prefixes ts c) ≡ ts ++ spelled c
 unfolding prefixes spelled
 prefixes_spell [] c = refl
 prefixes_spell (t ∷ ts) c = ap (λ v. t ∷ v) (prefixes_spell ts c)
@@ -131,15 +131,15 @@ prefixes_spell (t ∷ ts) c = ap (λ v. t ∷ v) (prefixes_spell ts c)
 count_prefixes : (at last : ℕ) (t : Token) (ts u v : List Token) → v ≡ ts ++ u → last ≡ at + length ((t ∷ ts) ++ u) - 1 → last ≡ at + length (t ∷ v) - 1
 count_prefixes at last t ts u v e f = omega (arith, ap length e, f)
 
-prefixes_tree : (ts : List Token) (c : Phrase) (at last : ℕ) → last ≡ at + length (ts ++ spelled c) - 1
-    → r.wrapped at last (operators_in ts) (tree_of (at + length ts) c) ≡ tree_of at (prefixes ts c)
-unfolding prefixes operators_in r.wrapped spelled tree_of
-prefixes_tree [] c at last last_is = ap (λ n. tree_of n c) (omega arith)
+prefixes_tree : (ts : List Token) (c : ExpressionDerivation) (at last : ℕ) → last ≡ at + length (ts ++ spelled c) - 1
+    → r.wrapped at last (operators_in ts) (expression_tree (at + length ts) c) ≡ expression_tree at (prefixes ts c)
+unfolding prefixes operators_in r.wrapped spelled expression_tree
+prefixes_tree [] c at last last_is = ap (λ n. expression_tree n c) (omega arith)
 prefixes_tree (t ∷ ts) c at last last_is =
-    ap (λ l. roll-Expr (record { first = at; last = l; line = t.line; kind = e.Unary (prefix_in t) (r.wrapped (suc at) last (operators_in ts) (tree_of (at + suc (length ts)) c)) }))
+    ap (λ l. roll-Expr (record { first = at; last = l; line = t.line; kind = e.Unary (prefix_in t) (r.wrapped (suc at) last (operators_in ts) (expression_tree (at + suc (length ts)) c)) }))
     (count_prefixes at last t ts (spelled c) (spelled (prefixes ts c)) (prefixes_spell ts c) last_is)
     ∙ ap (λ a. roll-Expr (record { first = at; last = at + length (t ∷ spelled (prefixes ts c)) - 1; line = t.line; kind = e.Unary (prefix_in t) a }))
-    (ap (λ n. r.wrapped (suc at) last (operators_in ts) (tree_of n c)) (omega arith) ∙ prefixes_tree ts c (suc at) last (omega (arith, last_is)))
+    (ap (λ n. r.wrapped (suc at) last (operators_in ts) (expression_tree n c)) (omega arith) ∙ prefixes_tree ts c (suc at) last (omega (arith, last_is)))
 
 count_operand : (at : ℕ) (u v : List Token) → at + length u + length v - 1 ≡ at + length (u ++ v) - 1
 count_operand at u v = omega (arith, length-append u v)
@@ -153,7 +153,7 @@ prefix_is at a u x y =
       is = prefixes_are y.front b.phrase y.first.are (looser 1 2 b.phrase (omega arith) b.is);
       spells = y.splits ∙ (ap (λ v. y.front ++ v) (b.splits ∙ (ap (λ v. spelled b.phrase ++ v) b.second.empty ∙ append-nil (spelled b.phrase)))
           ∙ sym (prefixes_spell y.front b.phrase));
-      tree = b.second.is ∙ (ap (λ ops. r.wrapped at (at + length y.front + length (spelled b.phrase) - 1) ops (tree_of (at + length y.front) b.phrase)) y.first.is
+      tree = b.second.is ∙ (ap (λ ops. r.wrapped at (at + length y.front + length (spelled b.phrase) - 1) ops (expression_tree (at + length y.front) b.phrase)) y.first.is
           ∙ prefixes_tree y.front b.phrase at _ (count_operand at y.front (spelled b.phrase)));
     }
 

@@ -5,8 +5,8 @@ use Rattle.std.specs.Bool.{⊤}
 use Rattle.pw_grammar.specs.declared.sort.Sort.{Sort}
 use Rattle.pw_grammar.specs.declared.sort.Sort.TheVariants as s
 use Rattle.pw_grammar.specs.Terminals.{sort, is_same}
-use Rattle.pw_grammar.specs.Expressions.{Phrase, identifier, constant, bracketed, input, output, call, index, prefixed, binary, choice, spelled, IsAt, tree_of, name_in}
-use Rattle.pw_grammar.specs.Statements.{TypePhrase, word, unsigned, type_of, spelled_type, IsType, type_in, Local, plain, set, spelled_local, IsLocal, kind_of_local, Simple, assign, assign_element, evaluate, spelled_simple, IsSimple, kind_of_simple, first_line, statement_node}
+use Rattle.pw_grammar.specs.Expressions.{ExpressionDerivation, identifier, constant, bracketed, input, output, call, index, prefixed, binary, choice, spelled, IsAt, expression_tree, name_in}
+use Rattle.pw_grammar.specs.Statements.{TypeDerivation, word, unsigned, type_of, spelled_type, IsType, type_in, LocalDerivation, plain, set, spelled_local, IsLocal, kind_of_local, SimpleDerivation, assign, assign_element, evaluate, spelled_simple, IsSimple, kind_of_simple, first_line, statement_node}
 use Rattle.pw_grammar.specs.Steps.{Parser, pure, sees, either, finish_statement}
 use Rattle.pw_grammar.specs.ReadingStatements as r
 use Rattle.pw_grammar.proofs.Lawful.{Language, sort_before, GoesOn, Lawful, Within, within, Pure, Nothing, lawful_pure, leads_nowhere}
@@ -23,7 +23,7 @@ use Rattle.pw_tree.specs.declared.stmt.StmtKind.TheVariants as k
 use Rattle.pw_lex.specs.declared.token.Token.{Token}
 
 -- an expression with a token
-abbrev pub one : Phrase
+abbrev pub one : ExpressionDerivation
 one = constant a_number.token
 
 -- ---- assignments, and expressions at the front of a statement
@@ -61,11 +61,11 @@ lawful_after n first a p q l = lawful_test (λ x. is_same x s.Assign) n (AfterEx
 -- behind the target's tokens v, which are `= b`
 record Sets (to : List ℕ × Option Expr) (at : ℕ) (kind : StmtKind) (v : List Token) : Type 0 where
   token : Token
-  right : Phrase
+  right : ExpressionDerivation
   sort_is : sort token ≡ s.Assign
   is : IsAt 13 right
   splits : v ≡ token ∷ spelled right
-  kind_is : kind ≡ k.Set to.0 to.1 (tree_of (suc at) right)
+  kind_is : kind ≡ k.Set to.0 to.1 (expression_tree (suc at) right)
 
 sets : (first : ℕ) (a : Expr) (at : ℕ) (kind : StmtKind) (v : List Token) (x : Sort) (y : SetTo first a at kind v x) → Sets y.0 at kind v
 sets first a at kind v x y =
@@ -80,15 +80,15 @@ sets first a at kind v x y =
       kind_is = b.second.is;
     }
 
-word_set : (at : ℕ) (kind : StmtKind) (u v : List Token) (c : Phrase) (to : List ℕ × Option Expr) → IsWord c to → IsAt 13 c
+word_set : (at : ℕ) (kind : StmtKind) (u v : List Token) (c : ExpressionDerivation) (to : List ℕ × Option Expr) → IsWord c to → IsAt 13 c
     → u ≡ spelled c ++ v → Sets to (at + length (spelled c)) kind v → Phrased IsSimple spelled_simple kind_of_simple at kind u
 unfolding spelled IsAt
 word_set at kind u v c to i is e y = record {
   phrase = assign i.token y.token y.right;
   is = (subst (λ c. IsAt 13 c) i.is is, y.sort_is, y.is);
   spells = subst (λ c. u ≡ spelled c ++ v) i.is e ∙ ap (λ v. i.token ∷ v) y.splits;
-  value_is = y.kind_is ∙ (ap (λ to. k.Set to.0 to.1 (tree_of (suc (at + length (spelled c))) y.right)) i.to_is
-      ∙ ap (λ m. k.Set (name_in i.token.kind) None (tree_of m y.right)) (ap (λ c. suc (at + length (spelled c))) i.is ∙ after_word at));
+  value_is = y.kind_is ∙ (ap (λ to. k.Set to.0 to.1 (expression_tree (suc (at + length (spelled c))) y.right)) i.to_is
+      ∙ ap (λ m. k.Set (name_in i.token.kind) None (expression_tree m y.right)) (ap (λ c. suc (at + length (spelled c))) i.is ∙ after_word at));
 }
   where
     after_word : (at : ℕ) → suc (at + 1) ≡ suc (suc at)
@@ -97,7 +97,7 @@ word_set at kind u v c to i is e y = record {
 after_element : (at n m : ℕ) → m ≡ n + 1 → suc (at + suc (suc m)) ≡ suc (suc (suc (suc at) + n))
 after_element at n m e = omega arith
 
-element_set : (at : ℕ) (kind : StmtKind) (u v : List Token) (c : Phrase) (to : List ℕ × Option Expr) → IsElement at c to → IsAt 13 c
+element_set : (at : ℕ) (kind : StmtKind) (u v : List Token) (c : ExpressionDerivation) (to : List ℕ × Option Expr) → IsElement at c to → IsAt 13 c
     → u ≡ spelled c ++ v → Sets to (at + length (spelled c)) kind v → Phrased IsSimple spelled_simple kind_of_simple at kind u
 unfolding spelled IsAt
 element_set at kind u v c to i is e y =
@@ -107,20 +107,20 @@ element_set at kind u v c to i is e y =
       is = (there.1, there.2, there.3, there.4, y.sort_is, y.is);
       spells = subst (λ c. u ≡ spelled c ++ v) i.is e
           ∙ ap (λ w. i.token ∷ i.left ∷ w) (append_assoc (spelled i.number) (i.right ∷ []) v ∙ ap (λ v. spelled i.number ++ i.right ∷ v) y.splits);
-      value_is = y.kind_is ∙ (ap (λ to. k.Set to.0 to.1 (tree_of (suc (at + length (spelled c))) y.right)) i.to_is
-          ∙ ap (λ m. k.Set (name_in i.token.kind) (Some (tree_of (suc (suc at)) i.number)) (tree_of m y.right)) (ap (λ c. suc (at + length (spelled c))) i.is
+      value_is = y.kind_is ∙ (ap (λ to. k.Set to.0 to.1 (expression_tree (suc (at + length (spelled c))) y.right)) i.to_is
+          ∙ ap (λ m. k.Set (name_in i.token.kind) (Some (expression_tree (suc (suc at)) i.number)) (expression_tree m y.right)) (ap (λ c. suc (at + length (spelled c))) i.is
           ∙ after_element at (length (spelled i.number)) _ (length-append (spelled i.number) (i.right ∷ []))));
     }
 
-simple_by : (at : ℕ) (kind : StmtKind) (u v : List Token) (x : Sort) (c : Phrase) → IsAt 13 c → u ≡ spelled c ++ v
-    → AfterExpression at (tree_of at c) (at + length (spelled c)) kind v x → Phrased IsSimple spelled_simple kind_of_simple at kind u
+simple_by : (at : ℕ) (kind : StmtKind) (u v : List Token) (x : Sort) (c : ExpressionDerivation) → IsAt 13 c → u ≡ spelled c ++ v
+    → AfterExpression at (expression_tree at c) (at + length (spelled c)) kind v x → Phrased IsSimple spelled_simple kind_of_simple at kind u
 simple_by at kind u v x c is e (inl y) = record
     { phrase = evaluate c; is = is; spells = e ∙ (ap (λ v. spelled c ++ v) y.empty ∙ append-nil (spelled c)); value_is = y.is }
 simple_by at kind u v x c is e (inr y) = by_target (target_phrase at c y.0 y.1)
   where
     by_target : IsTarget at c y.0 → Phrased IsSimple spelled_simple kind_of_simple at kind u
-    by_target (inl i) = word_set at kind u v c y.0 i is e (sets at (tree_of at c) (at + length (spelled c)) kind v x y)
-    by_target (inr i) = element_set at kind u v c y.0 i is e (sets at (tree_of at c) (at + length (spelled c)) kind v x y)
+    by_target (inl i) = word_set at kind u v c y.0 i is e (sets at (expression_tree at c) (at + length (spelled c)) kind v x y)
+    by_target (inr i) = element_set at kind u v c y.0 i is e (sets at (expression_tree at c) (at + length (spelled c)) kind v x y)
 
 simple_is : Within (Here (λ first. WithExpression 13 (λ a. AfterExpression first a))) ASimple
 simple_is at kind u x y = simple_by at kind u y.behind x y.phrase y.is y.splits y.second
@@ -169,7 +169,7 @@ no_front [] v e = refl
 no_front (t ∷ u) v e = absurd cc
 
 -- an expression has a token
-pub full_expression : (c : Phrase) → [] ≡ spelled c → ⊥
+pub full_expression : (c : ExpressionDerivation) → [] ≡ spelled c → ⊥
 unfolding spelled
 full_expression (identifier t) e = cc
 full_expression (constant t) e = cc
@@ -182,7 +182,7 @@ full_expression (prefixed t a) e = cc
 full_expression (binary a t b) e = no_tokens _ _ _ e
 full_expression (choice c q a n b) e = no_tokens _ _ _ e
 
-pub full_simple : (c : Simple) → [] ≡ spelled_simple c → ⊥
+pub full_simple : (c : SimpleDerivation) → [] ≡ spelled_simple c → ⊥
 full_simple (assign x q a) e = cc
 full_simple (assign_element x o i c q a) e = cc
 full_simple (evaluate a) e = full_expression a e
@@ -239,7 +239,7 @@ lawful_simple_statement n p q l = within simple_statement_is (lawful_from n _ _ 
 
 -- `= e`, or nothing
 abbrev Value : Type 0
-Value = Option (Token × Phrase)
+Value = Option (Token × ExpressionDerivation)
 
 abbrev IsValue : Value → Type 0
 IsValue None = ⊤
@@ -251,7 +251,7 @@ spelled_value (Some p) = p.0 ∷ spelled p.1
 
 abbrev tree_of_value : ℕ → Value → Option Expr
 tree_of_value at None = None
-tree_of_value at (Some p) = Some (tree_of (suc at) p.1)
+tree_of_value at (Some p) = Some (expression_tree (suc at) p.1)
 
 abbrev AValue : Language (Option Expr)
 AValue = APhrase IsValue spelled_value tree_of_value
@@ -278,13 +278,13 @@ lawful_value n p q l = lawful_test (λ x. is_same x s.Assign) n AValue _ _ _ _
     (keeps_pure (λ x. is_same x s.Assign ≡ false) n AValue None (λ at x h. record { phrase = None; is = tt; spells = refl; value_is = refl }))
     value_goes_on
 
-abbrev pub tree_of_local : ℕ → Local → Stmt
+abbrev pub tree_of_local : ℕ → LocalDerivation → Stmt
 tree_of_local at l = statement_node at (spelled_local l) (kind_of_local at l)
 
 abbrev pub ALocal : Language Stmt
 ALocal = APhrase IsLocal spelled_local tree_of_local
 
-local_by : (at : ℕ) (a : Stmt) (u : List Token) (ty : TypePhrase) (x e : Token) (v : Value) → IsType ty → sort x ≡ s.Name → IsValue v → sort e ≡ s.Semicolon
+local_by : (at : ℕ) (a : Stmt) (u : List Token) (ty : TypeDerivation) (x e : Token) (v : Value) → IsType ty → sort x ≡ s.Name → IsValue v → sort e ≡ s.Semicolon
     → u ≡ spelled_type ty ++ x ∷ (spelled_value v ++ e ∷ [])
     → a ≡ roll-Stmt (record {
       first = at;
@@ -327,7 +327,7 @@ local_is at a u x y =
     (e.splits ∙ ap (λ w. e.token ∷ w) e.second.empty))))
     e.second.is
 
-pub full_type : (c : TypePhrase) → [] ≡ spelled_type c → ⊥
+pub full_type : (c : TypeDerivation) → [] ≡ spelled_type c → ⊥
 full_type (word t) e = cc
 full_type (unsigned u l) e = cc
 

@@ -4,8 +4,8 @@ use Rattle.std.proofs.lemmas.List.{append-nil, append_assoc, length-append}
 use Rattle.pw_grammar.specs.declared.sort.Sort.{Sort}
 use Rattle.pw_grammar.specs.declared.sort.Sort.TheVariants as s
 use Rattle.pw_grammar.specs.Terminals.{sort, is_same}
-use Rattle.pw_grammar.specs.Expressions.{Phrase, spelled, IsAt, tree_of}
-use Rattle.pw_grammar.specs.Statements.{spelled_local, IsLocal, Simple, spelled_simple, IsSimple, kind_of_simple, no_start, local_start, simple_start, spelled_start, IsStart, tree_of_start, spelled_maybe, IsMaybe, tree_of_maybe, spelled_step, IsStep, tree_of_step, statement_node}
+use Rattle.pw_grammar.specs.Expressions.{ExpressionDerivation, spelled, IsAt, expression_tree}
+use Rattle.pw_grammar.specs.Statements.{spelled_local, IsLocal, SimpleDerivation, spelled_simple, IsSimple, kind_of_simple, no_start, local_start, simple_start, spelled_start, IsStart, tree_of_start, spelled_maybe, IsMaybe, tree_of_maybe, spelled_step, IsStep, tree_of_step, statement_node}
 use Rattle.pw_grammar.specs.Steps.{Parser, ◌>>=◌, next_sort, sees}
 use Rattle.pw_grammar.specs.ReadingStatements as r
 use Rattle.pw_grammar.proofs.Lawful.{Language, GoesOn, Lawful, Within, within, Pure, lawful_pure}
@@ -18,7 +18,7 @@ use Rattle.pw_tree.specs.declared.expr.Expr.{Expr}
 use Rattle.pw_tree.specs.declared.stmt.Stmt.{Stmt}
 use Rattle.pw_lex.specs.declared.token.Token.{Token}
 
-abbrev pub tree_of_simple : ℕ → Simple → Stmt
+abbrev pub tree_of_simple : ℕ → SimpleDerivation → Stmt
 tree_of_simple at c = statement_node at (spelled_simple c) (kind_of_simple at c)
 
 -- ---- an expression or nothing, before a token
@@ -133,7 +133,7 @@ lawful_start n p q l = lawful_test (λ x. is_same x s.Semicolon) n AStart _ _ _ 
 
 -- a bracket, an expression, a bracket
 abbrev Test : Type 0
-Test = Token × Phrase × Token
+Test = Token × ExpressionDerivation × Token
 
 abbrev IsTest : Test → Type 0
 IsTest t = (sort t.0 ≡ s.LeftParen) × IsAt 13 t.1 × (sort t.2 ≡ s.RightParen)
@@ -142,7 +142,7 @@ abbrev spelled_test : Test → List Token
 spelled_test t = t.0 ∷ (spelled t.1 ++ t.2 ∷ [])
 
 abbrev tree_of_test : ℕ → Test → Expr
-tree_of_test at t = tree_of (suc at) t.1
+tree_of_test at t = expression_tree (suc at) t.1
 
 abbrev ATest : Language Expr
 ATest = APhrase IsTest spelled_test tree_of_test
@@ -166,14 +166,14 @@ lawful_test_part n p q l = within test_is (lawful_then n s.LeftParen _ _ _ left_
 -- `( e )`, and what comes behind it
 pub record Tested {B : Type 0} (M : Expr → Language B) (at : ℕ) (b : B) (u : List Token) (x : Sort) : Type 0 where
   pub left : Token
-  pub phrase : Phrase
+  pub phrase : ExpressionDerivation
   pub right : Token
   pub behind : List Token
   pub left_is : sort left ≡ s.LeftParen
   pub is : IsAt 13 phrase
   pub right_is : sort right ≡ s.RightParen
   pub splits : u ≡ left ∷ (spelled phrase ++ right ∷ behind)
-  pub second : M (tree_of (suc at) phrase) (suc (suc at + length (spelled phrase))) b behind x
+  pub second : M (expression_tree (suc at) phrase) (suc (suc at + length (spelled phrase))) b behind x
 
 test_then : {B : Type 0} (M : Expr → Language B) → Within (WithPhrase IsTest spelled_test tree_of_test M) (Tested M)
 test_then M at b u x y = record {
@@ -185,7 +185,7 @@ test_then M at b u x y = record {
   is = y.is.1;
   right_is = y.is.2;
   splits = y.splits ∙ ap (λ v. y.phrase.0 ∷ v) (append_assoc (spelled y.phrase.1) (y.phrase.2 ∷ []) y.behind);
-  second = subst (λ n. M (tree_of (suc at) y.phrase.1) n b y.behind x)
+  second = subst (λ n. M (expression_tree (suc at) y.phrase.1) n b y.behind x)
       (count at (length (spelled y.phrase.1)) _ (length-append (spelled y.phrase.1) (y.phrase.2 ∷ []))) y.second;
 }
   where

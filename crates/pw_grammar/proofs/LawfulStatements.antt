@@ -3,8 +3,8 @@ use Rattle.std.proofs.Common.{◌≡◌, ◌≢◌, refl, sym, ◌∙◌, ap, su
 use Rattle.pw_grammar.specs.declared.sort.Sort.{Sort}
 use Rattle.pw_grammar.specs.declared.sort.Sort.TheVariants as s
 use Rattle.pw_grammar.specs.Terminals.{is_same}
-use Rattle.pw_grammar.specs.Statements.{Statement, empty, spelled_statement, open_ended, IsStatement, kind_of}
-use Rattle.pw_grammar.specs.Steps.{Place, Outcome, Parser, next_sort}
+use Rattle.pw_grammar.specs.Statements.{StatementDerivation, empty, spelled_statement, open_ended, IsStatement, kind_of}
+use Rattle.pw_grammar.specs.Steps.{Position, ReadResult, Parser, next_sort}
 use Rattle.pw_grammar.specs.ReadingExpressions.{expression}
 use Rattle.pw_grammar.specs.ReadingStatements as r
 use Rattle.pw_grammar.proofs.Lawful.{Language, sort_before, GoesOn, Lawful, Within, within, Seq, bind}
@@ -24,7 +24,7 @@ use Rattle.pw_lex.specs.declared.token.Token.{Token}
 -- ---- the form that the first token asks for
 
 -- the same as a test of one sort after another
-abbrev form_if : Parser Expr → Parser Stmt → ℕ → Sort → Place → Outcome StmtKind
+abbrev form_if : Parser Expr → Parser Stmt → ℕ → Sort → Position → ReadResult StmtKind
 form_if p v n x i =
     if is_same x s.Semicolon then r.empty i
     else (if is_same x s.LeftBrace then r.block p v n i
@@ -37,7 +37,7 @@ form_if p v n x i =
     else (if is_same x s.Continue then r.jump k.Continue i
     else r.evaluated p i))))))))
 
-form_by_tests : (p : Parser Expr) (v : Parser Stmt) (n : ℕ) (x : Sort) (i : Place) → r.form_by p v n x i ≡ form_if p v n x i
+form_by_tests : (p : Parser Expr) (v : Parser Stmt) (n : ℕ) (x : Sort) (i : Position) → r.form_by p v n x i ≡ form_if p v n x i
 unfolding is_same
 form_by_tests p v n s.Semicolon i = refl
 form_by_tests p v n s.LeftBrace i = refl
@@ -81,7 +81,7 @@ lawful_form n p q v w l h = lawful_equal (suc n) AForm _ _ _ _
 
 -- a form, and what comes behind it
 record WithForm {B : Type 0} (M : StmtKind → Language B) (at : ℕ) (b : B) (u : List Token) (x : Sort) : Type 0 where
-  phrase : Statement
+  phrase : StatementDerivation
   behind : List Token
   is : IsStatement false phrase
   splits : u ≡ spelled_statement phrase ++ behind

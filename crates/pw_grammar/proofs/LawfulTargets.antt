@@ -2,7 +2,7 @@
 use Rattle.std.proofs.Common.{◌≡◌, refl, sym, ◌∙◌, ap, ℕ, suc, ◌+◌, ◌<◌, ◌≤◌, List, length, ◌⊎◌, inl, inr, Bool, if◌then◌else◌, Option, Some, None, arith}
 use Rattle.std.proofs.lemmas.Bool.{ne_eqb, eq-eqb}
 use Rattle.std.specs.Bool.{⊤}
-use Rattle.pw_grammar.specs.Expressions.{Phrase, identifier, constant, bracketed, input, output, call, index, prefixed, binary, choice, spelled, tree_of, name_in}
+use Rattle.pw_grammar.specs.Expressions.{ExpressionDerivation, identifier, constant, bracketed, input, output, call, index, prefixed, binary, choice, spelled, expression_tree, name_in}
 use Rattle.pw_grammar.specs.ReadingStatements.{target, target_of, word_of, word_at, with_index}
 use Rattle.pw_tree.specs.declared.expr.Expr.{Expr, out-Expr}
 use Rattle.pw_tree.specs.declared.expr.ExprKind.{ExprKind, out-ExprKind, out-roll-ExprKind}
@@ -47,11 +47,11 @@ form_of_output a = ap out-ExprKind (sym (e.rolls-Output a)) ∙ out-roll-ExprKin
 
 -- ---- a phrase's tree begins at its first token or, in brackets, behind it
 
-begins_after : (at : ℕ) (c : Phrase) → at ≤ first_of (tree_of at c)
-unfolding tree_of
+begins_after : (at : ℕ) (c : ExpressionDerivation) → at ≤ first_of (expression_tree at c)
+unfolding expression_tree
 begins_after at (identifier t) = omega arith
 begins_after at (constant t) = omega arith
-begins_after at (bracketed o a c) = let b : suc at ≤ first_of (tree_of (suc at) a) = begins_after (suc at) a in omega arith
+begins_after at (bracketed o a c) = let b : suc at ≤ first_of (expression_tree (suc at) a) = begins_after (suc at) a in omega arith
 begins_after at (input k o c) = omega arith
 begins_after at (output k o a c) = omega arith
 begins_after at (call f o xs c) = omega arith
@@ -101,65 +101,65 @@ later_target first a later = later_target_of first a (form a) later (no_word_at 
 
 -- ---- what a phrase is whose tree is a name at the front
 
-record IsIdentifier (c : Phrase) (x : List ℕ) : Type 0 where
+record IsIdentifier (c : ExpressionDerivation) (x : List ℕ) : Type 0 where
   token : Token
   is : c ≡ identifier token
   name_is : x ≡ name_in token.kind
 
-word_is : (at : ℕ) (t : Token) → word_of at (tree_of at (identifier t)) ≡ Some (name_in t.kind)
-unfolding tree_of
+word_is : (at : ℕ) (t : Token) → word_of at (expression_tree at (identifier t)) ≡ Some (name_in t.kind)
+unfolding expression_tree
 word_is at t = ap (λ k. word_at at at k) (form_of_word (name_in t.kind)) ∙ ap (λ b. if b then Some (name_in t.kind) else None) (eq-eqb at at refl)
 
 no_some : {A : Type 0} (x : Option A) (a : A) → x ≡ None → x ≡ Some a → ⊥
 no_some x a e f = cc
 
-word_phrase : (at : ℕ) (c : Phrase) (x : List ℕ) → word_of at (tree_of at c) ≡ Some x → IsIdentifier c x
-unfolding tree_of
+word_phrase : (at : ℕ) (c : ExpressionDerivation) (x : List ℕ) → word_of at (expression_tree at c) ≡ Some x → IsIdentifier c x
+unfolding expression_tree
 word_phrase at (identifier t) x e = record { token = t; is = refl; name_is = let w = word_is at t in cc }
-word_phrase at (constant t) x e = absurd (no_some _ x (no_word at (tree_of at (constant t)) _ (form_of_num _ _) tt) e)
-word_phrase at (bracketed o a c) x e = absurd (no_some _ x (no_word_at at (first_of (tree_of (suc at) a)) _ (begins_after (suc at) a)) e)
-word_phrase at (input k o c) x e = absurd (no_some _ x (no_word at (tree_of at (input k o c)) _ form_of_input tt) e)
-word_phrase at (output k o a c) x e = absurd (no_some _ x (no_word at (tree_of at (output k o a c)) _ (form_of_output _) tt) e)
-word_phrase at (call f o xs c) x e = absurd (no_some _ x (no_word at (tree_of at (call f o xs c)) _ (form_of_call _ _) tt) e)
+word_phrase at (constant t) x e = absurd (no_some _ x (no_word at (expression_tree at (constant t)) _ (form_of_num _ _) tt) e)
+word_phrase at (bracketed o a c) x e = absurd (no_some _ x (no_word_at at (first_of (expression_tree (suc at) a)) _ (begins_after (suc at) a)) e)
+word_phrase at (input k o c) x e = absurd (no_some _ x (no_word at (expression_tree at (input k o c)) _ form_of_input tt) e)
+word_phrase at (output k o a c) x e = absurd (no_some _ x (no_word at (expression_tree at (output k o a c)) _ (form_of_output _) tt) e)
+word_phrase at (call f o xs c) x e = absurd (no_some _ x (no_word at (expression_tree at (call f o xs c)) _ (form_of_call _ _) tt) e)
 word_phrase at (index a o i c) x e = absurd (no_some _ x (ap (λ k. word_at at at k) (form_of_index _ _)) e)
-word_phrase at (prefixed t a) x e = absurd (no_some _ x (no_word at (tree_of at (prefixed t a)) _ (form_of_unary _ _) tt) e)
-word_phrase at (binary a t b) x e = absurd (no_some _ x (no_word at (tree_of at (binary a t b)) _ (form_of_binary _ _ _) tt) e)
-word_phrase at (choice c q a n b) x e = absurd (no_some _ x (no_word at (tree_of at (choice c q a n b)) _ (form_of_cond _ _ _) tt) e)
+word_phrase at (prefixed t a) x e = absurd (no_some _ x (no_word at (expression_tree at (prefixed t a)) _ (form_of_unary _ _) tt) e)
+word_phrase at (binary a t b) x e = absurd (no_some _ x (no_word at (expression_tree at (binary a t b)) _ (form_of_binary _ _ _) tt) e)
+word_phrase at (choice c q a n b) x e = absurd (no_some _ x (no_word at (expression_tree at (choice c q a n b)) _ (form_of_cond _ _ _) tt) e)
 
 -- ---- what a phrase is that may stand in front of `=`
 
-pub record IsWord (c : Phrase) (to : List ℕ × Option Expr) : Type 0 where
+pub record IsWord (c : ExpressionDerivation) (to : List ℕ × Option Expr) : Type 0 where
   pub token : Token
   pub is : c ≡ identifier token
   pub to_is : to ≡ (name_in token.kind, None)
 
-pub record IsElement (at : ℕ) (c : Phrase) (to : List ℕ × Option Expr) : Type 0 where
+pub record IsElement (at : ℕ) (c : ExpressionDerivation) (to : List ℕ × Option Expr) : Type 0 where
   pub token : Token
   pub left : Token
-  pub number : Phrase
+  pub number : ExpressionDerivation
   pub right : Token
   pub is : c ≡ index (identifier token) left number right
-  pub to_is : to ≡ (name_in token.kind, Some (tree_of (suc (suc at)) number))
+  pub to_is : to ≡ (name_in token.kind, Some (expression_tree (suc (suc at)) number))
 
-abbrev pub IsTarget : ℕ → Phrase → List ℕ × Option Expr → Type 0
+abbrev pub IsTarget : ℕ → ExpressionDerivation → List ℕ × Option Expr → Type 0
 IsTarget at c to = IsWord c to ⊎ IsElement at c to
 
-word_target : (at : ℕ) (t : Token) → target at (tree_of at (identifier t)) ≡ Some (name_in t.kind, None)
-unfolding target tree_of
-word_target at t = ap (λ k. target_of at (tree_of at (identifier t)) k) (form_of_word (name_in t.kind)) ∙ ap (with_index None) (word_is at t)
+word_target : (at : ℕ) (t : Token) → target at (expression_tree at (identifier t)) ≡ Some (name_in t.kind, None)
+unfolding target expression_tree
+word_target at t = ap (λ k. target_of at (expression_tree at (identifier t)) k) (form_of_word (name_in t.kind)) ∙ ap (with_index None) (word_is at t)
 
-index_target : (at : ℕ) (a i : Phrase) (o c : Token) → target at (tree_of at (index a o i c))
-    ≡ with_index (Some (tree_of (suc (at + length (spelled a))) i)) (word_of at (tree_of at a))
-unfolding target tree_of
-index_target at a i o c = ap (λ k. target_of at (tree_of at (index a o i c)) k) (form_of_index _ _)
-    ∙ ap (λ b. if b then with_index (Some (tree_of (suc (at + length (spelled a))) i)) (word_of at (tree_of at a)) else None) (eq-eqb at at refl)
+index_target : (at : ℕ) (a i : ExpressionDerivation) (o c : Token) → target at (expression_tree at (index a o i c))
+    ≡ with_index (Some (expression_tree (suc (at + length (spelled a))) i)) (word_of at (expression_tree at a))
+unfolding target expression_tree
+index_target at a i o c = ap (λ k. target_of at (expression_tree at (index a o i c)) k) (form_of_index _ _)
+    ∙ ap (λ b. if b then with_index (Some (expression_tree (suc (at + length (spelled a))) i)) (word_of at (expression_tree at a)) else None) (eq-eqb at at refl)
 
 element_number : (at : ℕ) (t : Token) → suc (at + length (spelled (identifier t))) ≡ suc (suc at)
 unfolding spelled
 element_number at t = omega arith
 
-element_phrase : (at : ℕ) (a i : Phrase) (o c : Token) (to : List ℕ × Option Expr) (w : Option (List ℕ)) → word_of at (tree_of at a) ≡ w
-    → with_index (Some (tree_of (suc (at + length (spelled a))) i)) w ≡ Some to → IsTarget at (index a o i c) to
+element_phrase : (at : ℕ) (a i : ExpressionDerivation) (o c : Token) (to : List ℕ × Option Expr) (w : Option (List ℕ)) → word_of at (expression_tree at a) ≡ w
+    → with_index (Some (expression_tree (suc (at + length (spelled a))) i)) w ≡ Some to → IsTarget at (index a o i c) to
 element_phrase at a i o c to None w e = absurd cc
 element_phrase at a i o c to (Some x) w e =
     let n = word_phrase at a x w in
@@ -170,23 +170,23 @@ element_phrase at a i o c to (Some x) w e =
       right = c;
       is = ap (λ a. index a o i c) n.is;
       to_is = sym (some_is _ to e)
-          ∙ (ap (λ x. (x, Some (tree_of (suc (at + length (spelled a))) i))) n.name_is
-          ∙ ap (λ m. (name_in n.token.kind, Some (tree_of m i))) (ap (λ a. suc (at + length (spelled a))) n.is ∙ element_number at n.token));
+          ∙ (ap (λ x. (x, Some (expression_tree (suc (at + length (spelled a))) i))) n.name_is
+          ∙ ap (λ m. (name_in n.token.kind, Some (expression_tree m i))) (ap (λ a. suc (at + length (spelled a))) n.is ∙ element_number at n.token));
     })
   where
     some_is : {A : Type 0} (a b : A) → Some a ≡ Some b → a ≡ b
     some_is a b e = cc
 
-pub target_phrase : (at : ℕ) (c : Phrase) (to : List ℕ × Option Expr) → target at (tree_of at c) ≡ Some to → IsTarget at c to
-unfolding tree_of
+pub target_phrase : (at : ℕ) (c : ExpressionDerivation) (to : List ℕ × Option Expr) → target at (expression_tree at c) ≡ Some to → IsTarget at c to
+unfolding expression_tree
 target_phrase at (identifier t) to e = inl (record { token = t; is = refl; to_is = let w = word_target at t in cc })
-target_phrase at (constant t) to e = absurd (no_some _ to (no_target at (tree_of at (constant t)) _ (form_of_num _ _) tt) e)
-target_phrase at (bracketed o a c) to e = absurd (no_some _ to (later_target at (tree_of (suc at) a) (begins_after (suc at) a)) e)
-target_phrase at (input k o c) to e = absurd (no_some _ to (no_target at (tree_of at (input k o c)) _ form_of_input tt) e)
-target_phrase at (output k o a c) to e = absurd (no_some _ to (no_target at (tree_of at (output k o a c)) _ (form_of_output _) tt) e)
-target_phrase at (call f o xs c) to e = absurd (no_some _ to (no_target at (tree_of at (call f o xs c)) _ (form_of_call _ _) tt) e)
+target_phrase at (constant t) to e = absurd (no_some _ to (no_target at (expression_tree at (constant t)) _ (form_of_num _ _) tt) e)
+target_phrase at (bracketed o a c) to e = absurd (no_some _ to (later_target at (expression_tree (suc at) a) (begins_after (suc at) a)) e)
+target_phrase at (input k o c) to e = absurd (no_some _ to (no_target at (expression_tree at (input k o c)) _ form_of_input tt) e)
+target_phrase at (output k o a c) to e = absurd (no_some _ to (no_target at (expression_tree at (output k o a c)) _ (form_of_output _) tt) e)
+target_phrase at (call f o xs c) to e = absurd (no_some _ to (no_target at (expression_tree at (call f o xs c)) _ (form_of_call _ _) tt) e)
 target_phrase at (index a o i c) to e =
-    element_phrase at a i o c to (word_of at (tree_of at a)) refl (sym (index_target at a i o c) ∙ e)
-target_phrase at (prefixed t a) to e = absurd (no_some _ to (no_target at (tree_of at (prefixed t a)) _ (form_of_unary _ _) tt) e)
-target_phrase at (binary a t b) to e = absurd (no_some _ to (no_target at (tree_of at (binary a t b)) _ (form_of_binary _ _ _) tt) e)
-target_phrase at (choice c q a n b) to e = absurd (no_some _ to (no_target at (tree_of at (choice c q a n b)) _ (form_of_cond _ _ _) tt) e)
+    element_phrase at a i o c to (word_of at (expression_tree at a)) refl (sym (index_target at a i o c) ∙ e)
+target_phrase at (prefixed t a) to e = absurd (no_some _ to (no_target at (expression_tree at (prefixed t a)) _ (form_of_unary _ _) tt) e)
+target_phrase at (binary a t b) to e = absurd (no_some _ to (no_target at (expression_tree at (binary a t b)) _ (form_of_binary _ _ _) tt) e)
+target_phrase at (choice c q a n b) to e = absurd (no_some _ to (no_target at (expression_tree at (choice c q a n b)) _ (form_of_cond _ _ _) tt) e)

@@ -7,7 +7,7 @@ use Rattle.pw_grammar.specs.declared.sort.Sort.{Sort}
 use Rattle.pw_grammar.specs.declared.sort.Sort.TheVariants as s
 use Rattle.pw_grammar.specs.Terminals.{keywords, punctuators, symbols, sort, sort_of, first_sort, is_same}
 use Rattle.pw_grammar.specs.Declarations as g
-use Rattle.pw_grammar.specs.Steps.{Place, Outcome, Parser, and_then, pure, refuse, sees, either}
+use Rattle.pw_grammar.specs.Steps.{Position, ReadResult, Parser, and_then, pure, refuse, sees, either}
 use Rattle.pw_grammar.specs.ReadingExpressions.{expression}
 use Rattle.pw_grammar.specs.ReadingStatements.{statement}
 use Rattle.pw_grammar.specs.ReadingDeclarations as r
@@ -36,7 +36,7 @@ no_back (t ∷ u) v e = absurd cc
 no_name : (u v w : List Token) (t : Token) → [] ≡ u ++ (v ++ t ∷ w) → ⊥
 no_name u v w t e = no_tokens v w t (no_back u (v ++ t ∷ w) e)
 
-full_declaration : (c : g.Declaration) → [] ≡ g.spelled_declaration c → ⊥
+full_declaration : (c : g.DeclarationDerivation) → [] ≡ g.spelled_declaration c → ⊥
 full_declaration (g.prototype t z x o ps c e) f = no_name _ _ _ _ f
 full_declaration (g.function t z x o ps c b body e) f = no_name _ _ _ _ f
 full_declaration (g.variable t ty x v e) f = no_name _ _ _ _ f
@@ -141,28 +141,28 @@ at_end : (ts : List Token) → first_sort ts ≡ s.End → ts ≡ []
 at_end [] e = refl
 at_end (t ∷ ts) e = absurd (no_token_is_end t e)
 
-abbrev IsAt : {A : Type 0} → Outcome A → A → Place → Type 0
+abbrev IsAt : {A : Type 0} → ReadResult A → A → Position → Type 0
 IsAt o a j = o ≡ Ok (a, j)
 
-abbrev place_or : {A : Type 0} → Outcome A → Place → Place
+abbrev place_or : {A : Type 0} → ReadResult A → Position → Position
 place_or (Ok p) i = p.1
 place_or (Err e) i = i
 
-same_place : {A : Type 0} (a b : A) (i j : Place) → IsAt (Ok (a, i)) b j → i ≡ j
+same_place : {A : Type 0} (a b : A) (i j : Position) → IsAt (Ok (a, i)) b j → i ≡ j
 same_place a b i j e = ap (λ o. place_or o i) e
 
-ended_by : (cs ds : List Decl) (i j : Place) (b : Bool) → sees s.End i ≡ b → (if b then pure cs i else refuse i) ≡ Ok (ds, j) → j.rest ≡ []
+ended_by : (cs ds : List Decl) (i j : Position) (b : Bool) → sees s.End i ≡ b → (if b then pure cs i else refuse i) ≡ Ok (ds, j) → j.rest ≡ []
 unfolding sees
 ended_by cs ds i j true at_it e =
     ap (λ j. j.rest) (sym (same_place cs ds i j e)) ∙ at_end i.rest (same_sorts (first_sort i.rest) s.End at_it)
 ended_by cs ds i j false at_it e = absurd cc
 
-ended_both : (o : Outcome (List Decl)) (ds : List Decl) (j : Place)
+ended_both : (o : ReadResult (List Decl)) (ds : List Decl) (j : Position)
     → and_then o (λ cs. either s.End (pure cs) refuse) ≡ Ok (ds, j) → j.rest ≡ []
 ended_both (Ok p) ds j e = ended_by p.0 ds p.1 j (sees s.End p.1) refl e
 ended_both (Err f) ds j e = absurd cc
 
 -- what was read as a unit is all of the tokens
-pub unit_ends : (n : ℕ) (i j : Place) (ds : List Decl) → r.unit n i ≡ Ok (ds, j) → j.rest ≡ []
+pub unit_ends : (n : ℕ) (i j : Position) (ds : List Decl) → r.unit n i ≡ Ok (ds, j) → j.rest ≡ []
 unfolding r.unit r.all_declarations
 unit_ends n i j ds e = ended_both (r.declarations (r.declaration (expression n) (statement n) n) n [] i) ds j e

@@ -84,8 +84,8 @@ lawful_size n = lawful_test (λ x. is_same x s.LeftBracket) n ASize _ _ _ _
 
 data Initial : Type 0 where
   absent : Initial
-  single : Token → g.Element → Initial
-  listed : Token → Token → g.Element → g.MoreElements → Token → Initial
+  single : Token → g.ElementDerivation → Initial
+  listed : Token → Token → g.ElementDerivation → g.MoreElements → Token → Initial
 
 abbrev IsInitial : Linkage → Option ℕ → Initial → Type 0
 IsInitial linkage count absent = ⊤
@@ -180,7 +180,7 @@ abbrev pub Declared : Type 0
 Declared = ℕ × DeclKind
 
 abbrev pub Ended : Type 0
-Ended = g.Variable × Token
+Ended = g.VariableDerivation × Token
 
 abbrev pub IsEnded : Linkage → Ended → Type 0
 IsEnded linkage v = g.IsVariable v.0 × (r.is_extern linkage ≡ true → g.HasNoValue v.0) × (sort v.1 ≡ s.Semicolon)

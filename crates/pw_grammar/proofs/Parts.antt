@@ -3,8 +3,8 @@ use Rattle.std.proofs.Common.{◌≡◌, refl, sym, ◌∙◌, ap, subst, ℕ, s
 use Rattle.pw_grammar.specs.declared.sort.Sort.{Sort}
 use Rattle.pw_grammar.specs.declared.sort.Sort.TheVariants as s
 use Rattle.pw_grammar.specs.Terminals.{sort, sort_of}
-use Rattle.pw_grammar.specs.Expressions.{Phrase, constant, spelled, IsAt, tree_of}
-use Rattle.pw_grammar.specs.Steps.{Place, Outcome, Parser, ◌>>=◌, here, skip, expect, finish}
+use Rattle.pw_grammar.specs.Expressions.{ExpressionDerivation, constant, spelled, IsAt, expression_tree}
+use Rattle.pw_grammar.specs.Steps.{Position, ReadResult, Parser, ◌>>=◌, here, skip, expect, finish}
 use Rattle.pw_grammar.proofs.Lawful.{Language, GoesOn, Says, Same, Lawful, Within, Lax, within, Seq, bind, leads_nowhere}
 use Rattle.pw_grammar.proofs.Branches.{Keeps, keeps_within, keeps_bind_from}
 use Rattle.pw_grammar.proofs.Tokens.{ALine, One, Sample, a_token, a_line_is_lax, keeps_skip, lawful_expect, skip_shrinks}
@@ -16,10 +16,10 @@ use Rattle.pw_lex.specs.declared.token.TokenKind.TheVariants as t
 -- ---- the language of a level
 
 pub record IsExpression (n at : ℕ) (a : Expr) (u : List Token) : Type 0 where
-  pub phrase : Phrase
+  pub phrase : ExpressionDerivation
   pub is : IsAt n phrase
   pub spells : u ≡ spelled phrase
-  pub tree : a ≡ tree_of at phrase
+  pub tree : a ≡ expression_tree at phrase
 
 abbrev pub AnExpression : ℕ → Language Expr
 AnExpression n = λ at a u x. IsExpression n at a u
@@ -29,10 +29,10 @@ an_expression_is_lax n = λ at a u x y r o. r
 
 -- any expression goes on to a number
 pub expression_goes_on : (n at : ℕ) → GoesOn (AnExpression n) at []
-unfolding spelled IsAt tree_of sort_of
+unfolding spelled IsAt expression_tree sort_of
 expression_goes_on n at = record {
   rest = a_token (t.Number 1 false) ∷ [];
-  value = tree_of at (constant (a_token (t.Number 1 false)));
+  value = expression_tree at (constant (a_token (t.Number 1 false)));
   reads = λ x o. record { phrase = constant (a_token (t.Number 1 false)); is = inl refl; spells = refl; tree = refl };
   starts = λ e x o. λ p. cc;
 }
@@ -87,7 +87,7 @@ pub lawful_from : {B : Type 0} (n : ℕ) (M : ℕ → Language B) (f g : ℕ →
 lawful_from n M f g l = within (here_then M) (bind n AtHere M here here f g (λ at a u x y r o. r) (lawful_here n) l)
 
 -- the same where the next token is of a kind
-says_here : {B : Type 0} (M : ℕ → Language B) (i : Place) (o : Outcome B) → Says (M i.at) i o → Says (Here M) i o
+says_here : {B : Type 0} (M : ℕ → Language B) (i : Position) (o : ReadResult B) → Says (M i.at) i o → Says (Here M) i o
 says_here M i (Ok p) r = record { tokens = r.tokens; leads = r.leads; reads = r.reads }
 says_here M i (Err e) r = record {
   tokens = r.tokens;
@@ -137,11 +137,11 @@ keeps_then c n M f g ends l = keeps_within c (suc n) _ _ _ _ (line_then c M)
 
 -- an expression of a level, and what comes behind it
 pub record WithExpression {B : Type 0} (n : ℕ) (M : Expr → Language B) (at : ℕ) (b : B) (u : List Token) (x : Sort) : Type 0 where
-  pub phrase : Phrase
+  pub phrase : ExpressionDerivation
   pub behind : List Token
   pub is : IsAt n phrase
   pub splits : u ≡ spelled phrase ++ behind
-  pub second : M (tree_of at phrase) (at + length (spelled phrase)) b behind x
+  pub second : M (expression_tree at phrase) (at + length (spelled phrase)) b behind x
 
 expression_then : {B : Type 0} (n : ℕ) (M : Expr → Language B) → Within (Seq (AnExpression n) M) (WithExpression n M)
 expression_then n M at b u x y = record {

@@ -7,7 +7,7 @@ use Rattle.pw_grammar.specs.declared.sort.Sort.TheVariants as s
 use Rattle.pw_grammar.specs.Terminals.{sort}
 use Rattle.pw_grammar.specs.Expressions.{name_in}
 use Rattle.pw_grammar.specs.Statements.{first_line}
-use Rattle.pw_grammar.specs.Steps.{Place, Outcome, Parser, ◌>>=◌, pure, refuse, next_sort, line_here, take, skip, name}
+use Rattle.pw_grammar.specs.Steps.{Position, ReadResult, Parser, ◌>>=◌, pure, refuse, next_sort, line_here, take, skip, name}
 use Rattle.pw_grammar.proofs.Lawful.{Language, Agree, GoesOn, Says, Same, Lawful, Within, Lax, within, Seq, bind, Leaves, Shrinks, Pure, lawful_pure, same_passed, near_or_far}
 use Rattle.pw_grammar.proofs.Branches.{Keeps, keeps, keeps_equal, keeps_refuse, lawful_test, keeps_within, keeps_bind_from}
 use Rattle.pw_grammar.proofs.Tokens.{AName, a_name_is_lax, lawful_name, AToken, a_token_is_lax, keeps_take, take_leaves}
@@ -93,7 +93,7 @@ keeps_fewer c n L p q l = record {
 }
 
 pub lawful_equal : {A : Type 0} (n : ℕ) (L : Language A) (p q r t : Parser A)
-    → ((i : Place) → p i ≡ r i) → ((i : Place) → q i ≡ t i) → Lawful n L r t → Lawful n L p q
+    → ((i : Position) → p i ≡ r i) → ((i : Position) → q i ≡ t i) → Lawful n L r t → Lawful n L p q
 lawful_equal n L p q r t left right l =
     let k = keeps_equal (λ x. ⊤) n L p q r t (λ i h. left i) (λ i h. right i) (keeps (λ x. ⊤) n L r t l) in
     record {
@@ -127,7 +127,7 @@ goes_on_lined M at (t ∷ u) ts more e can g = record {
   starts = g.starts;
 }
 
-says_lined : {B : Type 0} (M : ℕ → Language B) (i : Place) (o : Outcome B) → Full (M (first_line i.rest)) → GoesOn (Lined M) i.at []
+says_lined : {B : Type 0} (M : ℕ → Language B) (i : Position) (o : ReadResult B) → Full (M (first_line i.rest)) → GoesOn (Lined M) i.at []
     → Says (M (first_line i.rest)) i o → Says (Lined M) i o
 says_lined M i (Ok p) full can r = record {
   tokens = r.tokens;
@@ -142,7 +142,7 @@ says_lined M i (Err e) full can r = record {
   goes_on = goes_on_lined M i.at r.tokens i.rest r.place.rest r.leads.rest can r.goes_on;
 }
 
-lines_agree : (k : ℕ) (i j : Place) → Agree k i j → i.at ≤ k → first_line j.rest ≡ first_line i.rest
+lines_agree : (k : ℕ) (i j : Position) → Agree k i j → i.at ≤ k → first_line j.rest ≡ first_line i.rest
 lines_agree k i j same near = first_agrees same.shared i.rest j.rest same.more same.other same.left same.right
     (let e : k < i.at + length same.shared = same.far in omega arith)
   where
@@ -159,10 +159,10 @@ lawful_line n M f g l full can = record {
   can = can;
 }
   where
-    tells : (i : Place) → Says (Lined M) i (f (first_line i.rest) i)
+    tells : (i : Position) → Says (Lined M) i (f (first_line i.rest) i)
     tells i = says_lined M i (f (first_line i.rest) i) (full (first_line i.rest)) (can i.at) ((l (first_line i.rest)).says i)
 
-    stays : (k : ℕ) (i j : Place) → Agree k i j → (i.at ≤ k) ⊎ (k < i.at) → Same k (f (first_line i.rest) i) (f (first_line j.rest) j)
+    stays : (k : ℕ) (i j : Position) → Agree k i j → (i.at ≤ k) ⊎ (k < i.at) → Same k (f (first_line i.rest) i) (f (first_line j.rest) j)
     stays k i j same (inl near) =
         subst (λ line. Same k (f (first_line i.rest) i) (f line j)) (sym (lines_agree k i j same near)) ((l (first_line i.rest)).steady k i j same)
     stays k i j same (inr far) = same_passed (Lined M) i k _ _ (tells i) far
@@ -174,10 +174,10 @@ fewer_left n [] a b full e short = absurd (full refl)
 fewer_left n (t ∷ u) a b full e short = omega arith
 
 -- a reader of phrases that have tokens leaves fewer of them
-pub full_shrinks : {A : Type 0} (n : ℕ) (L : Language A) (p : Parser A) → Full L → ((i : Place) → Says L i (p i)) → Shrinks n (n - 1) p
+pub full_shrinks : {A : Type 0} (n : ℕ) (L : Language A) (p : Parser A) → Full L → ((i : Position) → Says L i (p i)) → Shrinks n (n - 1) p
 full_shrinks {A} n L p full says = λ i short. leaves i (p i) (says i) short
   where
-    leaves : (i : Place) (o : Outcome A) → Says L i o → length i.rest < n → Leaves (n - 1) o
+    leaves : (i : Position) (o : ReadResult A) → Says L i o → length i.rest < n → Leaves (n - 1) o
     leaves i (Ok p) r short = fewer_left n r.tokens (length i.rest) (length p.1.rest)
         (λ e. full i.at p.0 (next_sort p.1) (subst (λ u. L i.at p.0 u (next_sort p.1)) e r.reads))
         (ap length r.leads.rest ∙ length-append r.tokens p.1.rest) short
@@ -213,7 +213,7 @@ one_of_is c C f implies at a u x r = record {
   value_is = r.second.is;
 }
 
-shrunk : (n : ℕ) (i : Place) → length i.rest < n → Leaves n (take i)
+shrunk : (n : ℕ) (i : Position) → length i.rest < n → Leaves n (take i)
 unfolding take
 shrunk n i short = take_leaves n i.at i.rest short
 
@@ -226,5 +226,5 @@ lawful_one_of n t C f implies ends can = lawful_test t n (OneOf C f) _ _ _ _
     (keeps_take (λ x. t x ≡ true) ends n) (λ t. lawful_pure n (f t)) (λ i short. leaves i short)))
     (keeps_refuse (λ x. t x ≡ false) n (OneOf C f) can) can
   where
-    leaves : (i : Place) → length i.rest < n → Leaves n (take i)
+    leaves : (i : Position) → length i.rest < n → Leaves n (take i)
     leaves i short = shrunk n i short

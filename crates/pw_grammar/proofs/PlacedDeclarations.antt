@@ -2,7 +2,7 @@
 use Rattle.std.proofs.Common.{◌≡◌, ℕ, suc, ◌+◌, ◌≤◌, [], ◌∷◌, ◌++◌, length, map, arith}
 use Rattle.std.proofs.lemmas.List.{length-append}
 use Rattle.pw_grammar.specs.Statements.{spelled_type}
-use Rattle.pw_grammar.specs.Declarations.{spelled_result, Declaration, prototype, function, variable, spelled_declaration, name_at, behind_parameters, tree_of_declaration, UnitPhrase, spelled_unit, trees_of_declarations}
+use Rattle.pw_grammar.specs.Declarations.{spelled_result, DeclarationDerivation, prototype, function, variable, spelled_declaration, name_at, behind_parameters, tree_of_declaration, UnitDerivation, spelled_unit, trees_of_declarations}
 use Rattle.pw_grammar.proofs.Lengths.{prototype_length, function_length, variable_length}
 use Rattle.pw_grammar.proofs.PlacedParts.{parameters_stand, variable_stands, extent_within}
 use Rattle.pw_grammar.proofs.PlacedStatements.{statements_stand}
@@ -10,12 +10,12 @@ use Rattle.pw_tree.specs.Declarations.{declaration_of}
 use Rattle.pw_tree.specs.Placed.{IsDeclarationPlaced, AreDeclarationsPlaced}
 
 -- a declaration ends with its last token
-declaration_ends : (at : ℕ) (c : Declaration) → suc (tree_of_declaration at c).last ≡ at + length (spelled_declaration c)
+declaration_ends : (at : ℕ) (c : DeclarationDerivation) → suc (tree_of_declaration at c).last ≡ at + length (spelled_declaration c)
 declaration_ends at (prototype g r x o ps c e) = omega (arith, prototype_length g r x o ps c e)
 declaration_ends at (function g r x o ps c b body e) = omega (arith, function_length g r x o ps c b body e)
 declaration_ends at (variable g ty x v e) = omega (arith, variable_length g ty x v e)
 
-declaration_stands : (at low high : ℕ) (c : Declaration) → low ≤ at → at + length (spelled_declaration c) ≤ high
+declaration_stands : (at low high : ℕ) (c : DeclarationDerivation) → low ≤ at → at + length (spelled_declaration c) ≤ high
     → IsDeclarationPlaced low high (declaration_of (tree_of_declaration at c))
 declaration_stands at low high (prototype g r x o ps c e) l h = record {
   from = l;
@@ -45,7 +45,7 @@ declaration_stands at low high (variable g ty x v e) l h = record {
   form = variable_stands (suc (name_at at g (spelled_type ty))) _ _ v (omega arith) (omega arith);
 }
 
-pub declarations_stand : (at low high : ℕ) (cs : UnitPhrase) → low ≤ at → at + length (spelled_unit cs) ≤ high
+pub declarations_stand : (at low high : ℕ) (cs : UnitDerivation) → low ≤ at → at + length (spelled_unit cs) ≤ high
     → AreDeclarationsPlaced low high (map declaration_of (trees_of_declarations at cs))
 unfolding spelled_unit trees_of_declarations AreDeclarationsPlaced
 declarations_stand at low high [] l h = tt

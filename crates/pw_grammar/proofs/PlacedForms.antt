@@ -3,7 +3,7 @@ use Rattle.std.proofs.Common.{◌≡◌, refl, sym, subst, ℕ, suc, ◌+◌, �
 use Rattle.pw_grammar.proofs.PlainNodes.{statement_place}
 use Rattle.pw_grammar.proofs.PlacedExpressions.{Stands}
 use Rattle.pw_lex.specs.declared.token.Token.{Token}
-use Rattle.pw_tree.specs.Phrases as expression
+use Rattle.pw_tree.specs.Expressions as expression
 use Rattle.pw_tree.specs.Statements as tree
 use Rattle.pw_tree.specs.Placed.{IsWithin, IsOptionPlaced, behind, behind_option, local_name_at, index_end, behind_statement, behind_maybe, set_end, IsStatementPlaced, AreStatementsPlaced, IsMaybePlaced}
 use Rattle.pw_tree.specs.Placed as placed
@@ -12,7 +12,7 @@ use Rattle.pw_tree.specs.declared.ty.Ty.{Ty}
 -- ---- what stands among tokens, wherever these are
 
 pub record StatementStands (in_head : Bool) (at count : ℕ) (y : tree.Statement) : Type 0 where
-  pub last : suc (placed.statement_place y).last ≡ at + count
+  pub last : suc (placed.statement_span y).last ≡ at + count
   pub full : 1 ≤ count
   pub placed : (low high : ℕ) → low ≤ at → at + count ≤ suc high → IsStatementPlaced in_head low high y
 
@@ -20,18 +20,18 @@ pub record StatementsStand (at count : ℕ) (ys : tree.Statements) : Type 0 wher
   pub placed : (low high : ℕ) → low ≤ at → at + count ≤ suc high → AreStatementsPlaced low high ys
 
 -- what may be left out, and what stands behind it
-pub record OptionStands (at count : ℕ) (a : Option expression.Phrase) : Type 0 where
+pub record OptionStands (at count : ℕ) (a : Option expression.Expression) : Type 0 where
   pub placed : (low high : ℕ) → low ≤ at → at + count ≤ suc high → IsOptionPlaced low high a
   pub behind : (low : ℕ) → low ≤ at → behind_option low a ≤ at + count
 
-pub record MaybeStands (in_head : Bool) (at count : ℕ) (y : tree.Maybe) : Type 0 where
+pub record MaybeStands (in_head : Bool) (at count : ℕ) (y : tree.OptionalStatement) : Type 0 where
   pub placed : (low high : ℕ) → low ≤ at → at + count ≤ suc high → IsMaybePlaced in_head low high y
   pub behind : (low : ℕ) → low ≤ at → behind_maybe low y ≤ at + count
 
 pub no_option : (at : ℕ) → OptionStands at 0 None
 no_option at = record { placed = λ low high l h. tt; behind = λ low l. omega arith }
 
-pub an_option : (at m count : ℕ) (a : expression.Phrase) → m ≤ count → Stands at m a → OptionStands at count (Some a)
+pub an_option : (at m count : ℕ) (a : expression.Expression) → m ≤ count → Stands at m a → OptionStands at count (Some a)
 an_option at m count a e s = record {
   placed = λ low high l h. s.placed low high l (omega arith);
   behind = λ low l. omega (arith, s.to);
@@ -66,7 +66,7 @@ within : (at : ℕ) (ts : List Token) (low high : ℕ) → 1 ≤ length ts → l
 within at ts low high full l h = record { from = l; some = omega arith; to = omega arith }
 
 -- a node stands among its tokens if its parts do
-pub stands_by : (in_head : Bool) (at : ℕ) (ts : List Token) (y : tree.Statement) → placed.statement_place y ≡ statement_place at ts → 1 ≤ length ts
+pub stands_by : (in_head : Bool) (at : ℕ) (ts : List Token) (y : tree.Statement) → placed.statement_span y ≡ statement_place at ts → 1 ≤ length ts
     → ((low high : ℕ) → IsWithin low high (statement_place at ts) → IsStatementPlaced in_head low high y) → StatementStands in_head at (length ts) y
 stands_by in_head at ts y is full parts = record {
   last = subst (λ p. suc p.last ≡ at + length ts) (sym is) (let e : suc (at + length ts - 1) ≡ at + length ts = omega arith in e);
@@ -74,13 +74,13 @@ stands_by in_head at ts y is full parts = record {
   placed = λ low high l h. parts low high (within at ts low high full l h);
 }
 
-pub stands_evaluate : (in_head : Bool) (at m : ℕ) (ts : List Token) (a : expression.Phrase) → m ≤ length ts → 1 ≤ length ts → Stands at m a
+pub stands_evaluate : (in_head : Bool) (at m : ℕ) (ts : List Token) (a : expression.Expression) → m ≤ length ts → 1 ≤ length ts → Stands at m a
     → StatementStands in_head at (length ts) (tree.evaluate (statement_place at ts) a)
 unfolding IsStatementPlaced
 stands_evaluate in_head at m ts a e full s = stands_by in_head at ts _ refl full
     (λ low high w. (w, s.placed at (at + length ts - 1) (omega arith) (omega arith)))
 
-pub stands_set : (in_head : Bool) (at m : ℕ) (ts : List Token) (x : List ℕ) (a : expression.Phrase)
+pub stands_set : (in_head : Bool) (at m : ℕ) (ts : List Token) (x : List ℕ) (a : expression.Expression)
     → suc (set_end in_head (statement_place at ts)) ≡ suc (suc at) + m → 1 ≤ length ts → Stands (suc (suc at)) m a
     → StatementStands in_head at (length ts) (tree.set (statement_place at ts) x None a)
 unfolding IsStatementPlaced
@@ -88,13 +88,13 @@ stands_set in_head at m ts x a e full s = stands_by in_head at ts _ refl full
     (λ low high w. (w, s.placed (at + 1) (set_end in_head (statement_place at ts)) (omega arith) (omega (arith, e))))
 
 -- the `]` of `x [ i ]` is the token behind what is written between the brackets
-index_end_is : (at m : ℕ) (ts : List Token) (i : expression.Phrase) → Stands (suc (suc at)) m i
+index_end_is : (at m : ℕ) (ts : List Token) (i : expression.Expression) → Stands (suc (suc at)) m i
     → index_end (statement_place at ts) i ≡ suc (suc at) + m
 index_end_is at m ts i s =
-    let e : (placed.place_of i).first - suc (suc at) ≡ (placed.place_of i).first - (at + 2) = omega arith in
+    let e : (placed.span_of i).first - suc (suc at) ≡ (placed.span_of i).first - (at + 2) = omega arith in
     omega (arith, s.to, e)
 
-pub stands_set_element : (in_head : Bool) (at m n : ℕ) (ts : List Token) (x : List ℕ) (i a : expression.Phrase)
+pub stands_set_element : (in_head : Bool) (at m n : ℕ) (ts : List Token) (x : List ℕ) (i a : expression.Expression)
     → suc (set_end in_head (statement_place at ts)) ≡ suc (suc (suc (suc at) + m)) + n → 1 ≤ length ts → Stands (suc (suc at)) m i
     → Stands (suc (suc (suc (suc at) + m))) n a
     → StatementStands in_head at (length ts) (tree.set (statement_place at ts) x (Some i) a)
@@ -108,7 +108,7 @@ stands_set_element in_head at m n ts x i a e full s r = stands_by in_head at ts 
       ),
     ))
 
-pub stands_local : (in_head : Bool) (at m n : ℕ) (ts : List Token) (ty : Ty) (x : List ℕ) (a : Option expression.Phrase)
+pub stands_local : (in_head : Bool) (at m n : ℕ) (ts : List Token) (ty : Ty) (x : List ℕ) (a : Option expression.Expression)
     → local_name_at (statement_place at ts) ty ≡ at + m → suc (suc (m + n)) ≤ length ts → OptionStands (suc (suc (at + m))) n a
     → StatementStands in_head at (length ts) (tree.local (statement_place at ts) ty x a)
 unfolding IsStatementPlaced
@@ -121,13 +121,13 @@ unfolding IsStatementPlaced
 stands_block in_head at m ts ys e s = stands_by in_head at ts _ refl (omega arith)
     (λ low high w. (w, s.placed at (at + length ts - 1) (omega arith) (omega arith)))
 
-pub stands_returns : (in_head : Bool) (at m : ℕ) (ts : List Token) (a : Option expression.Phrase) → suc (m + 1) ≤ length ts → OptionStands (suc at) m a
+pub stands_returns : (in_head : Bool) (at m : ℕ) (ts : List Token) (a : Option expression.Expression) → suc (m + 1) ≤ length ts → OptionStands (suc at) m a
     → StatementStands in_head at (length ts) (tree.returns (statement_place at ts) a)
 unfolding IsStatementPlaced
 stands_returns in_head at m ts a e s = stands_by in_head at ts _ refl (omega arith)
     (λ low high w. (w, s.placed at (at + length ts - 1) (omega arith) (omega arith)))
 
-pub stands_if : (in_head : Bool) (at m n k : ℕ) (ts : List Token) (c : expression.Phrase) (a : tree.Statement) (b : tree.Maybe)
+pub stands_if : (in_head : Bool) (at m n k : ℕ) (ts : List Token) (c : expression.Expression) (a : tree.Statement) (b : tree.OptionalStatement)
     → suc (suc (m + suc (n + k))) ≤ length ts → Stands (suc (suc at)) m c → StatementStands false (suc (suc (suc at) + m)) n a
     → MaybeStands false (suc (suc (suc at) + m) + n) k b
     → StatementStands in_head at (length ts) (tree.if_else (statement_place at ts) c a b)
@@ -140,7 +140,7 @@ stands_if in_head at m n k ts c a b e s r q = stands_by in_head at ts _ refl (om
       q.placed (behind_statement a) (at + length ts - 1) (omega (arith, r.last)) (omega arith),
     ))
 
-pub stands_while : (in_head : Bool) (at m n : ℕ) (ts : List Token) (c : expression.Phrase) (y : tree.Statement)
+pub stands_while : (in_head : Bool) (at m n : ℕ) (ts : List Token) (c : expression.Expression) (y : tree.Statement)
     → suc (suc (m + suc n)) ≤ length ts → Stands (suc (suc at)) m c → StatementStands false (suc (suc (suc at) + m)) n y
     → StatementStands in_head at (length ts) (tree.while_loop (statement_place at ts) c y)
 unfolding IsStatementPlaced
@@ -151,7 +151,7 @@ stands_while in_head at m n ts c y e s r = stands_by in_head at ts _ refl (omega
       r.placed (behind c) (at + length ts - 1) (omega (arith, s.to)) (omega arith),
     ))
 
-pub stands_do : (in_head : Bool) (at m n : ℕ) (ts : List Token) (y : tree.Statement) (c : expression.Phrase)
+pub stands_do : (in_head : Bool) (at m n : ℕ) (ts : List Token) (y : tree.Statement) (c : expression.Expression)
     → suc (m + suc (suc n)) ≤ length ts → StatementStands false (suc at) m y → Stands (suc (suc (suc at + m))) n c
     → StatementStands in_head at (length ts) (tree.do_loop (statement_place at ts) y c)
 unfolding IsStatementPlaced
@@ -162,7 +162,7 @@ stands_do in_head at m n ts y c e s r = stands_by in_head at ts _ refl (omega ar
       r.placed (behind_statement y) (at + length ts - 1) (omega (arith, s.last)) (omega arith),
     ))
 
-pub stands_for : (in_head : Bool) (at m n k l : ℕ) (ts : List Token) (first : tree.Maybe) (c : Option expression.Phrase) (last : tree.Maybe) (y : tree.Statement)
+pub stands_for : (in_head : Bool) (at m n k l : ℕ) (ts : List Token) (first : tree.OptionalStatement) (c : Option expression.Expression) (last : tree.OptionalStatement) (y : tree.Statement)
     → suc (suc (m + (n + suc (k + suc l)))) ≤ length ts → MaybeStands true (suc (suc at)) m first → OptionStands (suc (suc at) + m) n c
     → MaybeStands true (suc (suc (suc at) + m + n)) k last → StatementStands false (suc (suc (suc (suc at) + m + n) + k)) l y
     → StatementStands in_head at (length ts) (tree.for_loop (statement_place at ts) first c last y)

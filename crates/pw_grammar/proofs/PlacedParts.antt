@@ -1,7 +1,7 @@
 -- The trees of parameters and of initialisers stand in their tokens.
 use Rattle.std.proofs.Common.{◌≡◌, ℕ, suc, ◌+◌, ◌<◌, ◌≤◌, [], ◌∷◌, ◌++◌, length, arith}
 use Rattle.std.proofs.lemmas.List.{length-append}
-use Rattle.pw_grammar.specs.Declarations.{spelled_parameter, MoreParameters, Parameters, none, some, spelled_more_parameters, spelled_parameters, more_parameters_of, parameters_of, spelled_element, MoreElements, comma, spelled_more_elements, more_elements_of, Variable, scalar, scalar_set, array, array_set, spelled_variable, extent, elements_of}
+use Rattle.pw_grammar.specs.Declarations.{spelled_parameter, MoreParameters, ParametersDerivation, none, some, spelled_more_parameters, spelled_parameters, more_parameters_of, parameters_of, spelled_element, MoreElements, comma, spelled_more_elements, more_elements_of, VariableDerivation, scalar, scalar_set, array, array_set, spelled_variable, extent, elements_of}
 use Rattle.pw_grammar.specs.Declarations as phrase
 use Rattle.pw_grammar.proofs.Lengths.{parameter_length, element_length}
 use Rattle.pw_tree.specs.Placed.{AreParametersPlaced, AreElementsPlaced, IsInitialiserPlaced}
@@ -22,7 +22,7 @@ more_parameters_stand at low high (phrase.more t p ps) l h =
       more_parameters_stand (suc at + length (spelled_parameter p)) _ high ps (omega arith) (omega arith),
     )
 
-pub parameters_stand : (at low high : ℕ) (ps : Parameters) → low ≤ at → at + length (spelled_parameters ps) ≤ suc high
+pub parameters_stand : (at low high : ℕ) (ps : ParametersDerivation) → low ≤ at → at + length (spelled_parameters ps) ≤ suc high
     → AreParametersPlaced low high (parameters_of at ps)
 unfolding AreParametersPlaced
 parameters_stand at low high (none t) l h = tt
@@ -54,7 +54,7 @@ more_elements_stand at low high (phrase.more t x xs) l h =
     )
 
 -- the variable's part begins at `at`, behind the name
-pub variable_stands : (at low high : ℕ) (v : Variable) → low ≤ at + extent v → at + length (spelled_variable v) ≤ high
+pub variable_stands : (at low high : ℕ) (v : VariableDerivation) → low ≤ at + extent v → at + length (spelled_variable v) ≤ high
     → IsInitialiserPlaced low high (elements_of at v)
 unfolding AreElementsPlaced
 variable_stands at low high scalar l h = tt
@@ -66,7 +66,7 @@ variable_stands at low high (array_set o n c q b x xs e) l h =
     omega (arith, length-append (spelled_element x) (spelled_more_elements xs ++ e ∷ []), length-append (spelled_more_elements xs) (e ∷ [])) in
     (omega arith, omega arith, omega arith, more_elements_stand (at + 5 + length (spelled_element x)) _ high xs (omega arith) (omega arith))
 
-pub extent_within : (v : Variable) → extent v ≤ length (spelled_variable v)
+pub extent_within : (v : VariableDerivation) → extent v ≤ length (spelled_variable v)
 extent_within scalar = omega arith
 extent_within (scalar_set q x) = omega arith
 extent_within (array o n c) = omega arith

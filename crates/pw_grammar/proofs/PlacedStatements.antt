@@ -5,30 +5,30 @@ use Rattle.std.proofs.lemmas.List.{length-append}
 use Rattle.pw_grammar.specs.declared.sort.Sort.{Sort}
 use Rattle.pw_grammar.specs.declared.sort.Sort.TheVariants as s
 use Rattle.pw_grammar.specs.Terminals.{sort}
-use Rattle.pw_grammar.specs.Expressions.{Phrase, spelled}
-use Rattle.pw_grammar.specs.Statements.{TypePhrase, word, unsigned, spelled_type, type_of, type_or, type_in, Local, plain, spelled_local, kind_of_local, Simple, assign, assign_element, spelled_simple, kind_of_simple, Start, no_start, local_start, simple_start, spelled_start, spelled_maybe, tree_of_maybe, spelled_step, Statement, block, declare, simple, if_only, while_do, do_while, for_do, leave, jump, Statements, spelled_statement, spelled_statements, statement_node, tree_of_start, tree_of_step, jump_of, kind_of, trees_of_statements, behind_test, behind_head, behind_part}
+use Rattle.pw_grammar.specs.Expressions.{ExpressionDerivation, spelled}
+use Rattle.pw_grammar.specs.Statements.{TypeDerivation, word, unsigned, spelled_type, type_of, type_or, type_in, LocalDerivation, plain, spelled_local, kind_of_local, SimpleDerivation, assign, assign_element, spelled_simple, kind_of_simple, ForStartDerivation, no_start, local_start, simple_start, spelled_start, spelled_maybe, tree_of_maybe, spelled_step, StatementDerivation, block, declare, simple, if_only, while_do, do_while, for_do, leave, jump, StatementDerivations, spelled_statement, spelled_statements, statement_node, tree_of_start, tree_of_step, jump_of, kind_of, trees_of_statements, behind_test, behind_head, behind_part}
 use Rattle.pw_grammar.specs.Statements as phrase
 use Rattle.pw_grammar.proofs.PlainNodes.{statement_place, statement-Empty, statement-Block, statement-Local, statement-Set, statement-Eval, statement-If, statement-While, statement-Do, statement-For, statement-Return, statement-Break, statement-Continue}
 use Rattle.pw_grammar.proofs.PlacedExpressions.{stands}
 use Rattle.pw_grammar.proofs.Lengths.{expression_length, simple_length}
 use Rattle.pw_grammar.proofs.PlacedForms.{StatementStands, StatementsStand, OptionStands, MaybeStands, no_option, an_option, no_maybe, a_maybe, by_form, maybe_behind, stands_by, stands_evaluate, stands_set, stands_set_element, stands_local, stands_block, stands_returns, stands_if, stands_while, stands_do, stands_for, none_stand, both_stand}
 use Rattle.pw_lex.specs.declared.token.Token.{Token}
-use Rattle.pw_tree.specs.Phrases.{Place, phrase_of}
-use Rattle.pw_tree.specs.Statements.{maybe, statement_of, statements_of}
+use Rattle.pw_tree.specs.Expressions.{Span, expression_of}
+use Rattle.pw_tree.specs.Statements.{optional_statement, statement_of, statements_of}
 use Rattle.pw_tree.specs.Placed.{local_name_at, set_end, IsStatementPlaced}
 
 -- ---- locals, assignments, and the parts of a `for`
 
 -- the name of a local stands behind its type
-one_word : (x : Sort) (at : Place) → local_name_at at (type_or (type_of x)) ≡ at.first + 1
+one_word : (x : Sort) (at : Span) → local_name_at at (type_or (type_of x)) ≡ at.first + 1
 one_word s.Long at = refl
 one_word _ at = refl
 
-name_behind : (ty : TypePhrase) (at : Place) → local_name_at at (type_in ty) ≡ at.first + length (spelled_type ty)
+name_behind : (ty : TypeDerivation) (at : Span) → local_name_at at (type_in ty) ≡ at.first + length (spelled_type ty)
 name_behind (word t) at = one_word (sort t) at
 name_behind (unsigned u l) at = refl
 
-local_stands : (in_head : Bool) (at : ℕ) (l : Local)
+local_stands : (in_head : Bool) (at : ℕ) (l : LocalDerivation)
     → StatementStands in_head at (length (spelled_local l)) (statement_of (statement_node at (spelled_local l) (kind_of_local at l)))
 local_stands in_head at (plain ty x e) = by_form (statement-Local at (spelled_local (plain ty x e)) _ _ None)
     (stands_local in_head at (length (spelled_type ty)) 0 (spelled_local (plain ty x e)) _ _ None (name_behind ty (statement_place at (spelled_local (plain ty x e))))
@@ -40,7 +40,7 @@ local_stands in_head at (phrase.set ty x q a e) = by_form (statement-Local at (s
     (an_option _ (length (spelled a)) _ _ (omega arith) (stands (suc (suc (at + length (spelled_type ty)))) a)))
 
 -- with its `;`, or without one as a part of a `for`
-simple_stands : (in_head : Bool) (at : ℕ) (ts : List Token) (a : Simple) → suc (set_end in_head (statement_place at ts)) ≡ at + length (spelled_simple a)
+simple_stands : (in_head : Bool) (at : ℕ) (ts : List Token) (a : SimpleDerivation) → suc (set_end in_head (statement_place at ts)) ≡ at + length (spelled_simple a)
     → length (spelled_simple a) ≤ length ts
     → StatementStands in_head at (length ts) (statement_of (statement_node at ts (kind_of_simple at a)))
 simple_stands in_head at ts (assign x q a) e h = by_form (statement-Set at ts _ None _)
@@ -52,20 +52,20 @@ simple_stands in_head at ts (assign_element x o i c q a) e h = by_form (statemen
 simple_stands in_head at ts (phrase.evaluate a) e h = by_form (statement-Eval at ts _)
     (stands_evaluate in_head at (length (spelled a)) ts _ h (omega (arith, expression_length a)) (stands at a))
 
-part_stands : (at : ℕ) (a : Simple)
+part_stands : (at : ℕ) (a : SimpleDerivation)
     → StatementStands true at (length (spelled_simple a)) (statement_of (statement_node at (spelled_simple a) (kind_of_simple at a)))
 part_stands at a = simple_stands true at (spelled_simple a) a (omega (arith, simple_length a)) (omega arith)
 
-start_stands : (at : ℕ) (a : Start) → MaybeStands true at (length (spelled_start a)) (maybe (option_map statement_of (tree_of_start at a)))
+start_stands : (at : ℕ) (a : ForStartDerivation) → MaybeStands true at (length (spelled_start a)) (optional_statement (option_map statement_of (tree_of_start at a)))
 start_stands at (no_start e) = no_maybe true at 1
 start_stands at (local_start l) = a_maybe true at _ _ _ (omega arith) (local_stands true at l)
 start_stands at (simple_start a e) = a_maybe true at (length (spelled_simple a)) _ _ (omega (arith, length-append (spelled_simple a) (e ∷ []))) (part_stands at a)
 
-step_stands : (at : ℕ) (a : Option Simple) → MaybeStands true at (length (spelled_step a)) (maybe (option_map statement_of (tree_of_step at a)))
+step_stands : (at : ℕ) (a : Option SimpleDerivation) → MaybeStands true at (length (spelled_step a)) (optional_statement (option_map statement_of (tree_of_step at a)))
 step_stands at None = no_maybe true at 0
 step_stands at (Some a) = a_maybe true at _ _ _ (omega arith) (part_stands at a)
 
-maybe_stands : (at : ℕ) (a : Option Phrase) → OptionStands at (length (spelled_maybe a)) (option_map phrase_of (tree_of_maybe at a))
+maybe_stands : (at : ℕ) (a : Option ExpressionDerivation) → OptionStands at (length (spelled_maybe a)) (option_map expression_of (tree_of_maybe at a))
 maybe_stands at None = no_option at
 maybe_stands at (Some a) = an_option at _ _ _ (omega arith) (stands at a)
 
@@ -80,7 +80,7 @@ jump_stands at ts _ full = by_form (statement-Continue at ts) (stands_by false a
 mutual
   unfolding spelled_statement kind_of IsStatementPlaced
 
-  pub statement_stands : (at : ℕ) (y : Statement)
+  pub statement_stands : (at : ℕ) (y : StatementDerivation)
       → StatementStands false at (length (spelled_statement y)) (statement_of (statement_node at (spelled_statement y) (kind_of at y)))
   statement_stands at (phrase.empty e) = by_form (statement-Empty at (e ∷ [])) (stands_by false at (e ∷ []) _ refl (omega arith) (λ low high w. w))
   statement_stands at (block o body c) = by_form (statement-Block at (spelled_statement (block o body c)) _)
@@ -123,7 +123,7 @@ mutual
       (omega (arith, length-append (spelled_maybe a) (e ∷ []))) (maybe_stands (suc at) a))
   statement_stands at (jump t e) = jump_stands at (t ∷ e ∷ []) (sort t) (omega arith)
 
-  pub statements_stand : (at : ℕ) (ys : Statements) → StatementsStand at (length (spelled_statements ys)) (statements_of (trees_of_statements at ys))
+  pub statements_stand : (at : ℕ) (ys : StatementDerivations) → StatementsStand at (length (spelled_statements ys)) (statements_of (trees_of_statements at ys))
   statements_stand at phrase.nil = none_stand at
   statements_stand at (phrase.cons y ys) = both_stand at (length (spelled_statement y)) (length (spelled_statements ys)) _ _ _
       (length-append (spelled_statement y) (spelled_statements ys)) (statement_stands at y) (statements_stand (at + length (spelled_statement y)) ys)

@@ -6,7 +6,7 @@ use Rattle.pw_grammar.specs.declared.sort.Sort.TheVariants as s
 use Rattle.pw_grammar.specs.Terminals.{sort, sort_of, first_sort, is_same}
 use Rattle.pw_lex.specs.declared.token.TokenKind.{TokenKind}
 use Rattle.pw_grammar.specs.Expressions.{name_in}
-use Rattle.pw_grammar.specs.Steps.{Place, Outcome, and_then, ◌>>=◌, pure, refuse, next_sort, sees, take, take_from, skip, expect, name}
+use Rattle.pw_grammar.specs.Steps.{Position, ReadResult, and_then, ◌>>=◌, pure, refuse, next_sort, sees, take, take_from, skip, expect, name}
 use Rattle.pw_grammar.proofs.Lawful.{Language, Leads, Agree, GoesOn, Says, Same, Lawful, Within, Lax, Seq, Leaves, Shrinks, Pure, lawful_pure, same_passed, near_or_far}
 use Rattle.pw_grammar.proofs.Branches.{Keeps, keeps_refuse, lawful_test, keeps_within, keeps_bind_from, same_sorts}
 use Rattle.pw_lex.specs.declared.token.Token.{Token}
@@ -53,7 +53,7 @@ keeps_take c ends n = record {
   steady = λ k i j h same. stays k i j h same (near_or_far i.at k);
 }
   where
-    stays : (k : ℕ) (i j : Place) → c (next_sort i) → Agree k i j → (i.at ≤ k) ⊎ (k < i.at) → Same k (take_from i.at i.rest) (take_from j.at j.rest)
+    stays : (k : ℕ) (i j : Position) → c (next_sort i) → Agree k i j → (i.at ≤ k) ⊎ (k < i.at) → Same k (take_from i.at i.rest) (take_from j.at j.rest)
     stays k i j h same (inl near) =
         subst (λ n. Same k (take_from i.at i.rest) (take_from n j.rest)) same.at
         (subst (λ ts. Same k (take_from i.at ts) (take_from i.at j.rest)) (sym same.left)
@@ -106,7 +106,7 @@ keeps_skip c ends n = keeps_within c n _ _ _ _ (line_of_a_token c)
     (keeps_bind_from c n n (AToken c) (λ t. Pure t.line) take take (λ t. pure t.line) (λ t. pure t.line) (a_token_is_lax c)
     (keeps_take c ends n) (λ t. lawful_pure n t.line) (λ i short. take_leaves n i.at i.rest short))
 
-skip_leaves : (n : ℕ) (o : Outcome Token) → Leaves n o → Leaves n (and_then o (λ t. pure t.line))
+skip_leaves : (n : ℕ) (o : ReadResult Token) → Leaves n o → Leaves n (and_then o (λ t. pure t.line))
 skip_leaves n (Ok p) l = l
 skip_leaves n (Err e) l = tt
 
@@ -144,7 +144,7 @@ lawful_expect n x t = lawful_test (λ y. is_same y x) n (One x) skip skip refuse
     (keeps_skip (λ y. is_same y x ≡ true) (λ e. t.no_end (sym (same_sorts s.End x e))) n))
     (keeps_refuse (λ y. is_same y x ≡ false) n (One x) (one_goes_on x t)) (one_goes_on x t)
 
-test_leaves : (n : ℕ) (b : Bool) (i : Place) → Leaves n (skip i) → Leaves n (if b then skip i else refuse i)
+test_leaves : (n : ℕ) (b : Bool) (i : Position) → Leaves n (skip i) → Leaves n (if b then skip i else refuse i)
 test_leaves n true i l = l
 test_leaves n false i l = tt
 

@@ -6,16 +6,16 @@ use Rattle.std.proofs.Math.Nat.{zero-add}
 use Rattle.pw_grammar.specs.declared.sort.Sort.TheVariants as s
 use Rattle.pw_grammar.specs.declared.error.SyntaxError.{SyntaxError}
 use Rattle.pw_grammar.specs.declared.error.SyntaxError.TheVariants.{At}
-use Rattle.pw_grammar.specs.Declarations.{UnitPhrase, spelled_unit, IsUnit, trees_of_declarations}
+use Rattle.pw_grammar.specs.Declarations.{UnitDerivation, spelled_unit, IsUnit, trees_of_declarations}
 use Rattle.pw_grammar.specs.Faults.{Begins, IsWhole, IsStuck}
-use Rattle.pw_grammar.specs.Steps.{Place, Outcome}
+use Rattle.pw_grammar.specs.Steps.{Position, ReadResult}
 use Rattle.pw_grammar.specs.ReadingDeclarations.{unit}
 use Rattle.pw_grammar.proofs.Lawful.{Language, Agree, GoesOn, HasRead, HasStopped, Says, Same, Lawful, near_or_far}
 use Rattle.pw_lex.specs.declared.token.Token.{Token}
 use Rattle.pw_tree.specs.declared.decl.Decl.{Decl}
 
 pub record IsUnitAt (at : ℕ) (ds : List Decl) (u : List Token) : Type 0 where
-  pub phrase : UnitPhrase
+  pub phrase : UnitDerivation
   pub is : IsUnit phrase
   pub spells : u ≡ spelled_unit phrase
   pub trees : ds ≡ trees_of_declarations at phrase
@@ -23,18 +23,18 @@ pub record IsUnitAt (at : ℕ) (ds : List Decl) (u : List Token) : Type 0 where
 abbrev pub AUnit : Language (List Decl)
 AUnit = λ at ds u x. IsUnitAt at ds u
 
-abbrev pub from_start : List Token → Place
+abbrev pub from_start : List Token → Position
 from_start tokens = record { at = 0; rest = tokens }
 
 -- what is known of the reader of units
 pub record Knows : Type 0 where
   pub lawful : (n : ℕ) → Lawful n AUnit (unit n) (unit (suc n))
-  pub reads : (n : ℕ) (c : UnitPhrase) → IsUnit c → length (spelled_unit c) < n
+  pub reads : (n : ℕ) (c : UnitDerivation) → IsUnit c → length (spelled_unit c) < n
       → unit n (from_start (spelled_unit c)) ≡ Ok (trees_of_declarations 0 c, record { at = length (spelled_unit c); rest = [] })
-  pub ends : (n : ℕ) (i j : Place) (ds : List Decl) → unit n i ≡ Ok (ds, j) → j.rest ≡ []
+  pub ends : (n : ℕ) (i j : Position) (ds : List Decl) → unit n i ≡ Ok (ds, j) → j.rest ≡ []
 
 -- more turns than enough give the same
-more_turns : (k : Knows) (n m : ℕ) (i : Place) → length i.rest < n → unit (m + n) i ≡ unit n i
+more_turns : (k : Knows) (n m : ℕ) (i : Position) → length i.rest < n → unit (m + n) i ≡ unit n i
 more_turns k n zero i short = ap (λ z. unit z i) (let e : zero + n ≡ n = omega arith in e)
 more_turns k n (suc m) i short =
     ap (λ z. unit z i) (let e : suc m + n ≡ suc (m + n) = omega arith in e)
@@ -48,7 +48,7 @@ begins_before at u g = let r = g.reads s.End (λ e. cc) in record { phrase = r.p
 same_front : (k : ℕ) (u x y : List Token) → k < length u → Agree k (from_start (u ++ x)) (from_start (u ++ y))
 same_front k u x y far = record { at = refl; shared = u; more = x; other = y; left = refl; right = refl; far = omega arith }
 
-ok_is_no_err : {A : Type 0} (o : Outcome A) (p : A × Place) (e : SyntaxError) → o ≡ Ok p → o ≡ Err e → ⊥
+ok_is_no_err : {A : Type 0} (o : ReadResult A) (p : A × Position) (e : SyntaxError) → o ≡ Ok p → o ≡ Err e → ⊥
 ok_is_no_err o p e a b = not_both (sym a ∙ b)
   where
     not_both : Ok p ≡ Err e → ⊥
@@ -83,7 +83,7 @@ not_whole k n at us short is w =
 -- ---- what an outcome tells of the list
 
 pub record IsRead (us : List Token) (ds : List Decl) : Type 0 where
-  pub phrase : UnitPhrase
+  pub phrase : UnitDerivation
   pub is : IsUnit phrase
   pub spells : spelled_unit phrase ≡ us
   pub trees : ds ≡ trees_of_declarations 0 phrase
@@ -96,11 +96,11 @@ pub record IsRefused (us : List Token) (fault : SyntaxError) : Type 0 where
   pub begins : Begins (take at us)
   pub stuck : IsStuck us at
 
-abbrev pub TellsOf : List Token → Outcome (List Decl) → Type 0
+abbrev pub TellsOf : List Token → ReadResult (List Decl) → Type 0
 TellsOf us (Ok p) = IsRead us p.0
 TellsOf us (Err fault) = IsRefused us fault
 
-was_read : (k : Knows) (n : ℕ) (us : List Token) (ds : List Decl) (j : Place) → unit n (from_start us) ≡ Ok (ds, j) → HasRead AUnit (from_start us) ds j → IsRead us ds
+was_read : (k : Knows) (n : ℕ) (us : List Token) (ds : List Decl) (j : Position) → unit n (from_start us) ≡ Ok (ds, j) → HasRead AUnit (from_start us) ds j → IsRead us ds
 was_read k n us ds j is r = record {
   phrase = r.reads.phrase;
   is = r.reads.is;
@@ -138,7 +138,7 @@ was_refused k n us e short is r = record {
     low : r.place.at ≤ length us
     low = let z : length us ≡ length r.tokens + length r.place.rest = ap length r.leads.rest ∙ length-append r.tokens r.place.rest in omega (arith, z, count)
 
-tells : (k : Knows) (n : ℕ) (us : List Token) → length us < n → (o : Outcome (List Decl)) → unit n (from_start us) ≡ o → Says AUnit (from_start us) o → TellsOf us o
+tells : (k : Knows) (n : ℕ) (us : List Token) → length us < n → (o : ReadResult (List Decl)) → unit n (from_start us) ≡ o → Says AUnit (from_start us) o → TellsOf us o
 tells k n us short (Ok p) is r = was_read k n us p.0 p.1 is r
 tells k n us short (Err e) is r = was_refused k n us e short is r
 

@@ -4,7 +4,7 @@ use Rattle.pw_grammar.specs.declared.sort.Sort.{Sort}
 use Rattle.pw_grammar.specs.declared.sort.Sort.TheVariants as s
 use Rattle.pw_grammar.specs.Terminals.{sort}
 use Rattle.pw_grammar.specs.Expressions.{name_in, value_in, IsConstant}
-use Rattle.pw_grammar.specs.Statements.{TypePhrase, spelled_type, IsType, type_in, Statements, spelled_statements, AreStatements, trees_of_statements, first_line}
+use Rattle.pw_grammar.specs.Statements.{TypeDerivation, spelled_type, IsType, type_in, StatementDerivations, spelled_statements, AreStatements, trees_of_statements, first_line}
 use Rattle.pw_lex.specs.declared.token.Token.{Token}
 use Rattle.pw_tree.specs.declared.ty.Ty.{Ty}
 use Rattle.pw_tree.specs.declared.ty.Ty.TheVariants.{Void}
@@ -43,41 +43,41 @@ linkage_of None = linkage.Plain
 linkage_of (Some t) = linkage_by (sort t)
 
 -- what a function gives
-pub data ResultPhrase : Type 0 where
-  nothing : Token → ResultPhrase
-  value : TypePhrase → ResultPhrase
+pub data ResultDerivation : Type 0 where
+  nothing : Token → ResultDerivation
+  value : TypeDerivation → ResultDerivation
 
-abbrev pub spelled_result : ResultPhrase → List Token
+abbrev pub spelled_result : ResultDerivation → List Token
 spelled_result (nothing t) = t ∷ []
 spelled_result (value ty) = spelled_type ty
 
-abbrev pub IsResult : ResultPhrase → Type 0
+abbrev pub IsResult : ResultDerivation → Type 0
 IsResult (nothing t) = sort t ≡ s.Void
 IsResult (value ty) = IsType ty
 
-abbrev pub result_in : ResultPhrase → Ty
+abbrev pub result_in : ResultDerivation → Ty
 result_in (nothing t) = Void
 result_in (value ty) = type_in ty
 
 -- ---- parameters
 
 -- a type, and a name or none
-pub record Parameter : Type 0 where
-  pub ty : TypePhrase
+pub record ParameterDerivation : Type 0 where
+  pub ty : TypeDerivation
   pub name : Option Token
 
 abbrev pub spelled_name : Option Token → List Token
 spelled_name None = []
 spelled_name (Some t) = t ∷ []
 
-abbrev pub spelled_parameter : Parameter → List Token
+abbrev pub spelled_parameter : ParameterDerivation → List Token
 spelled_parameter p = spelled_type p.ty ++ spelled_name p.name
 
 abbrev pub IsNamed : Option Token → Type 0
 IsNamed None = ⊤
 IsNamed (Some t) = sort t ≡ s.Name
 
-abbrev pub IsParameter : Parameter → Type 0
+abbrev pub IsParameter : ParameterDerivation → Type 0
 IsParameter p = IsType p.ty × IsNamed p.name
 
 abbrev pub has_name : Option Token → Bool
@@ -91,18 +91,18 @@ named (Some t) = Some (name_in t.kind)
 -- further parameters, each behind its comma
 pub data MoreParameters : Type 0 where
   end : MoreParameters
-  more : Token → Parameter → MoreParameters → MoreParameters
+  more : Token → ParameterDerivation → MoreParameters → MoreParameters
 
 -- `void`, or one or more parameters
-pub data Parameters : Type 0 where
-  none : Token → Parameters
-  some : Parameter → MoreParameters → Parameters
+pub data ParametersDerivation : Type 0 where
+  none : Token → ParametersDerivation
+  some : ParameterDerivation → MoreParameters → ParametersDerivation
 
 unfoldable pub spelled_more_parameters : MoreParameters → List Token
 spelled_more_parameters end = []
 spelled_more_parameters (more t p ps) = t ∷ (spelled_parameter p ++ spelled_more_parameters ps)
 
-abbrev pub spelled_parameters : Parameters → List Token
+abbrev pub spelled_parameters : ParametersDerivation → List Token
 spelled_parameters (none t) = t ∷ []
 spelled_parameters (some p ps) = spelled_parameter p ++ spelled_more_parameters ps
 
@@ -110,7 +110,7 @@ unfoldable pub AreMoreParameters : MoreParameters → Type 0
 AreMoreParameters end = ⊤
 AreMoreParameters (more t p ps) = (sort t ≡ s.Comma) × IsParameter p × AreMoreParameters ps
 
-abbrev pub AreParameters : Parameters → Type 0
+abbrev pub AreParameters : ParametersDerivation → Type 0
 AreParameters (none t) = sort t ≡ s.Void
 AreParameters (some p ps) = IsParameter p × AreMoreParameters ps
 
@@ -119,11 +119,11 @@ unfoldable pub AllNamed : MoreParameters → Type 0
 AllNamed end = ⊤
 AllNamed (more t p ps) = (has_name p.name ≡ true) × AllNamed ps
 
-abbrev pub HaveNames : Parameters → Type 0
+abbrev pub HaveNames : ParametersDerivation → Type 0
 HaveNames (none t) = ⊤
 HaveNames (some p ps) = (has_name p.name ≡ true) × AllNamed ps
 
-abbrev pub parameter_of : ℕ → Parameter → Param
+abbrev pub parameter_of : ℕ → ParameterDerivation → Param
 parameter_of at p =
     record { ty = type_in p.ty; name = named p.name; first = at; last = at + length (spelled_parameter p) - 1 }
 
@@ -132,24 +132,24 @@ more_parameters_of at end = []
 more_parameters_of at (more t p ps) =
     parameter_of (suc at) p ∷ more_parameters_of (suc at + length (spelled_parameter p)) ps
 
-abbrev pub parameters_of : ℕ → Parameters → List Param
+abbrev pub parameters_of : ℕ → ParametersDerivation → List Param
 parameters_of at (none t) = []
 parameters_of at (some p ps) = parameter_of at p ∷ more_parameters_of (at + length (spelled_parameter p)) ps
 
 -- ---- initialisers
 
 -- a name, or a constant, maybe behind a minus sign
-pub data Element : Type 0 where
-  word : Token → Element
-  positive : Token → Element
-  negative : Token → Token → Element
+pub data ElementDerivation : Type 0 where
+  word : Token → ElementDerivation
+  positive : Token → ElementDerivation
+  negative : Token → Token → ElementDerivation
 
-abbrev pub spelled_element : Element → List Token
+abbrev pub spelled_element : ElementDerivation → List Token
 spelled_element (word t) = t ∷ []
 spelled_element (positive t) = t ∷ []
 spelled_element (negative m t) = m ∷ t ∷ []
 
-abbrev pub IsElement : Element → Type 0
+abbrev pub IsElement : ElementDerivation → Type 0
 IsElement (word t) = sort t ≡ s.Name
 IsElement (positive t) = IsConstant (sort t)
 IsElement (negative m t) = (sort m ≡ s.Minus) × IsConstant (sort t)
@@ -158,12 +158,12 @@ IsElement (negative m t) = (sort m ≡ s.Minus) × IsConstant (sort t)
 abbrev pub negated : ℕ → ℕ
 negated n = (2 ^ 64 - n) % 2 ^ 64
 
-abbrev pub kind_of_element : Element → InitKind
+abbrev pub kind_of_element : ElementDerivation → InitKind
 kind_of_element (word t) = i.Word (name_in t.kind)
 kind_of_element (positive t) = i.Num (value_in t.kind)
 kind_of_element (negative m t) = i.Num (negated (value_in t.kind))
 
-abbrev pub element_of : ℕ → Element → InitItem
+abbrev pub element_of : ℕ → ElementDerivation → InitItem
 element_of at x =
     record { first = at; last = at + length (spelled_element x) - 1; line = first_line (spelled_element x); kind = kind_of_element x }
 
@@ -171,7 +171,7 @@ element_of at x =
 pub data MoreElements : Type 0 where
   end : MoreElements
   comma : Token → MoreElements
-  more : Token → Element → MoreElements → MoreElements
+  more : Token → ElementDerivation → MoreElements → MoreElements
 
 unfoldable pub spelled_more_elements : MoreElements → List Token
 spelled_more_elements end = []
@@ -189,13 +189,13 @@ more_elements_of at (comma t) = []
 more_elements_of at (more t x xs) = element_of (suc at) x ∷ more_elements_of (suc at + length (spelled_element x)) xs
 
 -- a variable's size, where it is an array, and its initialiser, where it has one
-pub data Variable : Type 0 where
-  scalar : Variable
-  scalar_set : Token → Element → Variable
-  array : Token → Token → Token → Variable
-  array_set : Token → Token → Token → Token → Token → Element → MoreElements → Token → Variable
+pub data VariableDerivation : Type 0 where
+  scalar : VariableDerivation
+  scalar_set : Token → ElementDerivation → VariableDerivation
+  array : Token → Token → Token → VariableDerivation
+  array_set : Token → Token → Token → Token → Token → ElementDerivation → MoreElements → Token → VariableDerivation
 
-abbrev pub spelled_variable : Variable → List Token
+abbrev pub spelled_variable : VariableDerivation → List Token
 spelled_variable scalar = []
 spelled_variable (scalar_set q x) = q ∷ spelled_element x
 spelled_variable (array o n c) = o ∷ n ∷ c ∷ []
@@ -205,7 +205,7 @@ spelled_variable (array_set o n c q b x xs e) =
 abbrev pub IsExtent : Token → Token → Token → Type 0
 IsExtent o n c = (sort o ≡ s.LeftBracket) × (sort n ≡ s.Number) × (sort c ≡ s.RightBracket)
 
-abbrev pub IsVariable : Variable → Type 0
+abbrev pub IsVariable : VariableDerivation → Type 0
 IsVariable scalar = ⊤
 IsVariable (scalar_set q x) = (sort q ≡ s.Assign) × IsElement x
 IsVariable (array o n c) = IsExtent o n c
@@ -213,32 +213,32 @@ IsVariable (array_set o n c q b x xs e) =
     IsExtent o n c × (sort q ≡ s.Assign) × (sort b ≡ s.LeftBrace) × IsElement x × AreMoreElements xs × (sort e ≡ s.RightBrace)
 
 -- a variable that is declared `extern` has no initialiser
-abbrev pub HasNoValue : Variable → Type 0
+abbrev pub HasNoValue : VariableDerivation → Type 0
 HasNoValue scalar = ⊤
 HasNoValue (scalar_set q x) = ⊥
 HasNoValue (array o n c) = ⊤
 HasNoValue (array_set o n c q b x xs e) = ⊥
 
 -- where the storage class asks for it, there is no initialiser
-abbrev pub MayHave : Option Token → Variable → Type 0
+abbrev pub MayHave : Option Token → VariableDerivation → Type 0
 MayHave None v = ⊤
 MayHave (Some t) v = (sort t ≡ s.Static) ⊎ ((sort t ≡ s.Extern) × HasNoValue v)
 
-abbrev pub count_in : Variable → Option ℕ
+abbrev pub count_in : VariableDerivation → Option ℕ
 count_in scalar = None
 count_in (scalar_set q x) = None
 count_in (array o n c) = Some (value_in n.kind)
 count_in (array_set o n c q b x xs e) = Some (value_in n.kind)
 
 -- how many tokens a declarator has behind its name
-abbrev pub extent : Variable → ℕ
+abbrev pub extent : VariableDerivation → ℕ
 extent scalar = 0
 extent (scalar_set q x) = 0
 extent (array o n c) = 3
 extent (array_set o n c q b x xs e) = 3
 
 -- the elements, where the variable's part begins at `at`
-abbrev pub elements_of : ℕ → Variable → Option (List InitItem)
+abbrev pub elements_of : ℕ → VariableDerivation → Option (List InitItem)
 elements_of at scalar = None
 elements_of at (scalar_set q x) = Some (element_of (at + 1) x ∷ [])
 elements_of at (array o n c) = None
@@ -247,15 +247,15 @@ elements_of at (array_set o n c q b x xs e) =
 
 -- ---- declarations
 
-pub data Declaration : Type 0 where
+pub data DeclarationDerivation : Type 0 where
   -- result name ( parameters ) ;
-  prototype : Option Token → ResultPhrase → Token → Token → Parameters → Token → Token → Declaration
+  prototype : Option Token → ResultDerivation → Token → Token → ParametersDerivation → Token → Token → DeclarationDerivation
   -- result name ( parameters ) { statements }
-  function : Option Token → ResultPhrase → Token → Token → Parameters → Token → Token → Statements → Token → Declaration
+  function : Option Token → ResultDerivation → Token → Token → ParametersDerivation → Token → Token → StatementDerivations → Token → DeclarationDerivation
   -- type name variable ;
-  variable : Option Token → TypePhrase → Token → Variable → Token → Declaration
+  variable : Option Token → TypeDerivation → Token → VariableDerivation → Token → DeclarationDerivation
 
-abbrev pub spelled_declaration : Declaration → List Token
+abbrev pub spelled_declaration : DeclarationDerivation → List Token
 spelled_declaration (prototype g r x o ps c e) =
     spelled_storage g ++ (spelled_result r ++ x ∷ o ∷ (spelled_parameters ps ++ c ∷ e ∷ []))
 spelled_declaration (function g r x o ps c b body e) =
@@ -263,7 +263,7 @@ spelled_declaration (function g r x o ps c b body e) =
 spelled_declaration (variable g ty x v e) =
     spelled_storage g ++ (spelled_type ty ++ x ∷ (spelled_variable v ++ e ∷ []))
 
-abbrev pub IsDeclaration : Declaration → Type 0
+abbrev pub IsDeclaration : DeclarationDerivation → Type 0
 IsDeclaration (prototype g r x o ps c e) =
     IsStorage g × IsResult r × (sort x ≡ s.Name) × (sort o ≡ s.LeftParen) × AreParameters ps
     × (sort c ≡ s.RightParen) × (sort e ≡ s.Semicolon)
@@ -277,10 +277,10 @@ IsDeclaration (variable g ty x v e) =
 abbrev pub name_at : ℕ → Option Token → List Token → ℕ
 name_at at g ty = at + length (spelled_storage g) + length ty
 
-abbrev pub behind_parameters : ℕ → Option Token → ResultPhrase → Parameters → ℕ
+abbrev pub behind_parameters : ℕ → Option Token → ResultDerivation → ParametersDerivation → ℕ
 behind_parameters at g r ps = suc (suc (name_at at g (spelled_result r))) + length (spelled_parameters ps)
 
-abbrev pub tree_of_declaration : ℕ → Declaration → Decl
+abbrev pub tree_of_declaration : ℕ → DeclarationDerivation → Decl
 tree_of_declaration at (prototype g r x o ps c e) = record {
   first = at;
   name_at = name_at at g (spelled_result r);
@@ -315,18 +315,18 @@ tree_of_declaration at (variable g ty x v e) = record {
 
 -- ---- units
 
-abbrev pub UnitPhrase : Type 0
-UnitPhrase = List Declaration
+abbrev pub UnitDerivation : Type 0
+UnitDerivation = List DeclarationDerivation
 
-unfoldable pub spelled_unit : UnitPhrase → List Token
+unfoldable pub spelled_unit : UnitDerivation → List Token
 spelled_unit [] = []
 spelled_unit (c ∷ cs) = spelled_declaration c ++ spelled_unit cs
 
-unfoldable pub IsUnit : UnitPhrase → Type 0
+unfoldable pub IsUnit : UnitDerivation → Type 0
 IsUnit [] = ⊤
 IsUnit (c ∷ cs) = IsDeclaration c × IsUnit cs
 
-unfoldable pub trees_of_declarations : ℕ → UnitPhrase → List Decl
+unfoldable pub trees_of_declarations : ℕ → UnitDerivation → List Decl
 trees_of_declarations at [] = []
 trees_of_declarations at (c ∷ cs) = tree_of_declaration at c ∷ trees_of_declarations (at + length (spelled_declaration c)) cs
 
@@ -335,7 +335,7 @@ lines_of tokens = map (λ t. t.line) tokens
 
 -- the grammar derives this unit from the tokens
 pub record Derives (tokens : List Token) (unit : Unit) : Type 0 where
-  pub phrase : UnitPhrase
+  pub phrase : UnitDerivation
   pub is : IsUnit phrase
   pub spells : spelled_unit phrase ≡ tokens
   pub decls : unit.decls ≡ trees_of_declarations 0 phrase

@@ -17,37 +17,37 @@ use Rattle.pw_tree.specs.declared.expr.ExprKind.TheVariants as e
 -- ---- data: an expression with all of its tokens
 
 mutual
-  pub data Phrase : Type 0 where
-    identifier : Token → Phrase
-    constant : Token → Phrase
+  pub data ExpressionDerivation : Type 0 where
+    identifier : Token → ExpressionDerivation
+    constant : Token → ExpressionDerivation
     -- ( e )
-    bracketed : Token → Phrase → Token → Phrase
+    bracketed : Token → ExpressionDerivation → Token → ExpressionDerivation
     -- __in ( )
-    input : Token → Token → Token → Phrase
+    input : Token → Token → Token → ExpressionDerivation
     -- __out ( e )
-    output : Token → Token → Phrase → Token → Phrase
+    output : Token → Token → ExpressionDerivation → Token → ExpressionDerivation
     -- f ( arguments )
-    call : Phrase → Token → Arguments → Token → Phrase
+    call : ExpressionDerivation → Token → Arguments → Token → ExpressionDerivation
     -- a [ i ]
-    index : Phrase → Token → Phrase → Token → Phrase
-    prefixed : Token → Phrase → Phrase
-    binary : Phrase → Token → Phrase → Phrase
+    index : ExpressionDerivation → Token → ExpressionDerivation → Token → ExpressionDerivation
+    prefixed : Token → ExpressionDerivation → ExpressionDerivation
+    binary : ExpressionDerivation → Token → ExpressionDerivation → ExpressionDerivation
     -- c ? a : b
-    choice : Phrase → Token → Phrase → Token → Phrase → Phrase
+    choice : ExpressionDerivation → Token → ExpressionDerivation → Token → ExpressionDerivation → ExpressionDerivation
 
   pub data Arguments : Type 0 where
     nothing : Arguments
-    arguments : Phrase → More → Arguments
+    arguments : ExpressionDerivation → More → Arguments
 
   -- further arguments, each behind its comma
   pub data More : Type 0 where
     end : More
-    more : Token → Phrase → More → More
+    more : Token → ExpressionDerivation → More → More
 
 -- ---- the tokens of a derivation, in order
 
 unfoldable mutual
-  pub spelled : Phrase → List Token
+  pub spelled : ExpressionDerivation → List Token
   spelled (identifier t) = t ∷ []
   spelled (constant t) = t ∷ []
   spelled (bracketed o a c) = o ∷ (spelled a ++ c ∷ [])
@@ -85,7 +85,7 @@ IsConstant x = (x ≡ s.Number) ⊎ (x ≡ s.Character)
 
 unfoldable mutual
   -- the derivation is one of an expression at this level
-  pub IsAt : ℕ → Phrase → Type 0
+  pub IsAt : ℕ → ExpressionDerivation → Type 0
   IsAt n (identifier t) = sort t ≡ s.Name
   IsAt n (constant t) = IsConstant (sort t)
   IsAt n (bracketed o a c) = (sort o ≡ s.LeftParen) × IsAt 13 a × (sort c ≡ s.RightParen)
@@ -150,29 +150,29 @@ node first count token kind = roll-Expr (record { first = first; last = first + 
 -- The tree of an expression whose first token has the number `at`. Brackets leave no node: what stands in them has its
 -- own tokens, and the phrase round it counts them among its own.
 unfoldable mutual
-  pub tree_of : ℕ → Phrase → Expr
-  tree_of at (identifier t) = node at 1 t (e.Word (name_in t.kind))
-  tree_of at (constant t) = node at 1 t (e.Num (value_in t.kind) (is_unsigned t.kind))
-  tree_of at (bracketed o a c) = tree_of (suc at) a
-  tree_of at (input k o c) = node at 3 k e.Input
-  tree_of at (output k o a c) = node at (length (spelled (output k o a c))) k (e.Output (tree_of (suc (suc at)) a))
-  tree_of at (call f o xs c) =
-      node at (length (spelled (call f o xs c))) o (e.Call (tree_of at f) (trees_of (suc (at + length (spelled f))) xs))
-  tree_of at (index a o i c) =
-      node at (length (spelled (index a o i c))) o (e.Index (tree_of at a) (tree_of (suc (at + length (spelled a))) i))
-  tree_of at (prefixed t a) = node at (length (spelled (prefixed t a))) t (e.Unary (prefix_in t) (tree_of (suc at) a))
-  tree_of at (binary a t b) =
+  pub expression_tree : ℕ → ExpressionDerivation → Expr
+  expression_tree at (identifier t) = node at 1 t (e.Word (name_in t.kind))
+  expression_tree at (constant t) = node at 1 t (e.Num (value_in t.kind) (is_unsigned t.kind))
+  expression_tree at (bracketed o a c) = expression_tree (suc at) a
+  expression_tree at (input k o c) = node at 3 k e.Input
+  expression_tree at (output k o a c) = node at (length (spelled (output k o a c))) k (e.Output (expression_tree (suc (suc at)) a))
+  expression_tree at (call f o xs c) =
+      node at (length (spelled (call f o xs c))) o (e.Call (expression_tree at f) (argument_trees (suc (at + length (spelled f))) xs))
+  expression_tree at (index a o i c) =
+      node at (length (spelled (index a o i c))) o (e.Index (expression_tree at a) (expression_tree (suc (at + length (spelled a))) i))
+  expression_tree at (prefixed t a) = node at (length (spelled (prefixed t a))) t (e.Unary (prefix_in t) (expression_tree (suc at) a))
+  expression_tree at (binary a t b) =
       node at (length (spelled (binary a t b))) t
-      (e.Binary (binary_in t) (tree_of at a) (tree_of (suc (at + length (spelled a))) b))
-  tree_of at (choice c q a m b) =
+      (e.Binary (binary_in t) (expression_tree at a) (expression_tree (suc (at + length (spelled a))) b))
+  expression_tree at (choice c q a m b) =
       node at (length (spelled (choice c q a m b))) q
-      (e.Cond (tree_of at c) (tree_of (suc (at + length (spelled c))) a)
-      (tree_of (suc (suc (at + length (spelled c)) + length (spelled a))) b))
+      (e.Cond (expression_tree at c) (expression_tree (suc (at + length (spelled c))) a)
+      (expression_tree (suc (suc (at + length (spelled c)) + length (spelled a))) b))
 
-  pub trees_of : ℕ → Arguments → List Expr
-  trees_of at nothing = []
-  trees_of at (arguments a xs) = tree_of at a ∷ trees_of_more (at + length (spelled a)) xs
+  pub argument_trees : ℕ → Arguments → List Expr
+  argument_trees at nothing = []
+  argument_trees at (arguments a xs) = expression_tree at a ∷ more_argument_trees (at + length (spelled a)) xs
 
-  pub trees_of_more : ℕ → More → List Expr
-  trees_of_more at end = []
-  trees_of_more at (more t a xs) = tree_of (suc at) a ∷ trees_of_more (suc at + length (spelled a)) xs
+  pub more_argument_trees : ℕ → More → List Expr
+  more_argument_trees at end = []
+  more_argument_trees at (more t a xs) = expression_tree (suc at) a ∷ more_argument_trees (suc at + length (spelled a)) xs

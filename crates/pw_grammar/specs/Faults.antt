@@ -5,21 +5,21 @@ use Rattle.pw_grammar.specs.declared.sort.Sort.TheVariants as s
 use Rattle.pw_grammar.specs.declared.error.SyntaxError.{SyntaxError}
 use Rattle.pw_grammar.specs.declared.error.SyntaxError.TheVariants.{At, TooNested, TooLong, NoMemory}
 use Rattle.pw_grammar.specs.Terminals.{sort, first_sort}
-use Rattle.pw_grammar.specs.Declarations.{Declaration, function, spelled_declaration, spelled_storage, spelled_result, spelled_parameters, UnitPhrase, spelled_unit, IsUnit}
+use Rattle.pw_grammar.specs.Declarations.{DeclarationDerivation, function, spelled_declaration, spelled_storage, spelled_result, spelled_parameters, UnitDerivation, spelled_unit, IsUnit}
 use Rattle.pw_lex.specs.declared.token.Token.{Token}
 
 -- ---- prefixes
 
 -- some unit's tokens begin with these
 pub record Begins (tokens : List Token) : Type 0 where
-  pub phrase : UnitPhrase
+  pub phrase : UnitDerivation
   pub is : IsUnit phrase
   pub rest : List Token
   pub spells : spelled_unit phrase ≡ tokens ++ rest
 
 -- the tokens are a whole unit's
 pub record IsWhole (tokens : List Token) : Type 0 where
-  pub phrase : UnitPhrase
+  pub phrase : UnitDerivation
   pub is : IsUnit phrase
   pub spells : spelled_unit phrase ≡ tokens
 
@@ -56,25 +56,25 @@ open_behind n (t ∷ ts) = open_behind (bracket n t) ts
 
 -- how many tokens a function's definition has before the brace that opens its body, and in all; for other declarations
 -- there is no such brace
-abbrev pub before_body : Declaration → Option ℕ
+abbrev pub before_body : DeclarationDerivation → Option ℕ
 before_body (function g r x o ps c b body e) =
     Some (length (spelled_storage g) + length (spelled_result r) + length (spelled_parameters ps) + 3)
 before_body _ = None
 
 -- token t, counted from the declaration's first, stands in the body, its braces included, behind 8,192 others
-abbrev pub IsLate : Declaration → ℕ → Option ℕ → Type 0
+abbrev pub IsLate : DeclarationDerivation → ℕ → Option ℕ → Type 0
 IsLate c t None = ⊥
 IsLate c t (Some brace) = (brace ≤ t) × (8192 ≤ t) × (t < length (spelled_declaration c))
 
 -- token t, counted from the unit's first, stands so in one of its functions
-unfoldable pub StandsLate : UnitPhrase → ℕ → Type 0
+unfoldable pub StandsLate : UnitDerivation → ℕ → Type 0
 StandsLate [] t = ⊥
 StandsLate (c ∷ cs) t =
     IsLate c t (before_body c) ⊎ ((before : ℕ) × (t ≡ length (spelled_declaration c) + before) × StandsLate cs before)
 
 -- some unit goes on from tokens 0 to t, and t stands late in it
 pub record GoesOnTooLong (tokens : List Token) (t : ℕ) : Type 0 where
-  pub phrase : UnitPhrase
+  pub phrase : UnitDerivation
   pub is : IsUnit phrase
   pub rest : List Token
   pub spells : spelled_unit phrase ≡ take (suc t) tokens ++ rest

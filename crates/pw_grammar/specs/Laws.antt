@@ -1,7 +1,7 @@
 -- Laws of the grammar.
 use Rattle.std.specs.Prelude.{◌≡◌, ℕ, ◌^◌, ◌<◌, ◌≤◌, List, length, sum_by, Result, Ok, Err}
 use Rattle.pw_grammar.specs.declared.error.SyntaxError.{SyntaxError}
-use Rattle.pw_grammar.specs.Declarations.{UnitPhrase, spelled_unit, IsUnit, trees_of_declarations, Derives}
+use Rattle.pw_grammar.specs.Declarations.{UnitDerivation, spelled_unit, IsUnit, trees_of_declarations, Derives}
 use Rattle.pw_grammar.specs.Faults.{IsFault, IsFirstFault}
 use Rattle.pw_grammar.specs.Reading.{parsed}
 use Rattle.pw_grammar.specs.Terminals.{keywords, punctuators, symbol_beside, sort_of}
@@ -12,8 +12,8 @@ use Rattle.pw_lex.specs.declared.token.Token.{Token}
 use Rattle.pw_lex.specs.declared.token.TokenKind.TheVariants as t
 use Rattle.pw_tree.specs.declared.decl.Decl.{Decl}
 use Rattle.pw_tree.specs.declared.decl.Unit.{Unit}
-use Rattle.pw_tree.specs.Declarations.{declarations_of, written_unit_of}
-use Rattle.pw_tree.specs.Placed.{IsWritten}
+use Rattle.pw_tree.specs.Declarations.{declarations_of, untyped_unit_of}
+use Rattle.pw_tree.specs.Placed.{IsParsed}
 
 -- the symbol of each keyword is the one beside its text
 abbrev pub KeywordsByText : Type 0
@@ -27,7 +27,7 @@ PunctuatorsByText =
 
 -- the tokens have no fault, and the grammar derives these declarations from them
 pub record HasTree (tokens : List Token) (decls : List Decl) : Type 0 where
-  pub phrase : UnitPhrase
+  pub phrase : UnitDerivation
   pub is : IsUnit phrase
   pub spells : spelled_unit phrase ≡ tokens
   pub trees : decls ≡ trees_of_declarations 0 phrase
@@ -47,7 +47,7 @@ OneTree = (tokens : List Token) (a b : Unit) → Derives tokens a → Derives to
 
 -- the trees of a unit stand in its tokens, of which there are fewer than 2 to the 32nd
 abbrev pub TreesAreWritten : Type 0
-TreesAreWritten = (tokens : List Token) (unit : Unit) → Derives tokens unit → length tokens < 2 ^ 32 → IsWritten (written_unit_of unit)
+TreesAreWritten = (tokens : List Token) (unit : Unit) → Derives tokens unit → length tokens < 2 ^ 32 → IsParsed (untyped_unit_of unit)
 
 -- a unit has no fewer tokens than the definitions of its functions need
 abbrev pub UnitsAreNoLonger : Type 0

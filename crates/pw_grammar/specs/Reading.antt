@@ -4,7 +4,7 @@ use Rattle.pw_grammar.specs.declared.error.SyntaxError.{SyntaxError}
 use Rattle.pw_grammar.specs.declared.error.SyntaxError.TheVariants.{TooNested, TooLong}
 use Rattle.pw_grammar.specs.Faults.{token_of}
 use Rattle.pw_grammar.specs.Limits.{first_nested, first_late, anew}
-use Rattle.pw_grammar.specs.Steps.{Outcome}
+use Rattle.pw_grammar.specs.Steps.{ReadResult}
 use Rattle.pw_grammar.specs.ReadingDeclarations.{unit}
 use Rattle.pw_lex.specs.declared.token.Token.{Token}
 use Rattle.pw_tree.specs.declared.decl.Decl.{Decl}
@@ -26,15 +26,15 @@ up_to None tokens = tokens
 up_to (Some limit) tokens = take (suc (token_of limit)) tokens
 
 -- the limit is the answer, unless no unit goes on at its token or before
-abbrev pub judged_by : SyntaxError → Outcome (List Decl) → Result (List Decl) SyntaxError
+abbrev pub judged_by : SyntaxError → ReadResult (List Decl) → Result (List Decl) SyntaxError
 judged_by limit (Ok p) = Err limit
 judged_by limit (Err fault) = Err (if nat_le (token_of fault) (token_of limit) then fault else limit)
 
-abbrev pub value_of : Outcome (List Decl) → Result (List Decl) SyntaxError
+abbrev pub value_of : ReadResult (List Decl) → Result (List Decl) SyntaxError
 value_of (Ok p) = Ok p.0
 value_of (Err fault) = Err fault
 
-abbrev pub judged : Option SyntaxError → Outcome (List Decl) → Result (List Decl) SyntaxError
+abbrev pub judged : Option SyntaxError → ReadResult (List Decl) → Result (List Decl) SyntaxError
 judged None outcome = value_of outcome
 judged (Some limit) outcome = judged_by limit outcome
 

@@ -3,7 +3,7 @@ use Rattle.std.specs.Prelude.{◌≡◌, ℕ, suc, ◌+◌, ◌-◌, Bool, true,
 use Rattle.pw_grammar.specs.declared.sort.Sort.{Sort}
 use Rattle.pw_grammar.specs.declared.sort.Sort.TheVariants as s
 use Rattle.pw_grammar.specs.Terminals.{sort}
-use Rattle.pw_grammar.specs.Expressions.{Phrase, spelled, IsAt, tree_of, name_in}
+use Rattle.pw_grammar.specs.Expressions.{ExpressionDerivation, spelled, IsAt, expression_tree, name_in}
 use Rattle.pw_lex.specs.declared.token.Token.{Token}
 use Rattle.pw_tree.specs.declared.ty.Ty.{Ty}
 use Rattle.pw_tree.specs.declared.ty.Ty.TheVariants as ty
@@ -15,9 +15,9 @@ use Rattle.pw_tree.specs.declared.stmt.StmtKind.TheVariants as k
 -- ---- types
 
 -- a type of one word, or `unsigned long`
-pub data TypePhrase : Type 0 where
-  word : Token → TypePhrase
-  unsigned : Token → Token → TypePhrase
+pub data TypeDerivation : Type 0 where
+  word : Token → TypeDerivation
+  unsigned : Token → Token → TypeDerivation
 
 -- the type of one word that a symbol is
 abbrev pub type_of : Sort → Option Ty
@@ -31,11 +31,11 @@ type_of s.Fn5 = Some (ty.Fn 5)
 type_of s.Fn6 = Some (ty.Fn 6)
 type_of _ = None
 
-abbrev pub spelled_type : TypePhrase → List Token
+abbrev pub spelled_type : TypeDerivation → List Token
 spelled_type (word t) = t ∷ []
 spelled_type (unsigned u l) = u ∷ l ∷ []
 
-abbrev pub IsType : TypePhrase → Type 0
+abbrev pub IsType : TypeDerivation → Type 0
 IsType (word t) = (x : Ty) × (type_of (sort t) ≡ Some x)
 IsType (unsigned u l) = (sort u ≡ s.Unsigned) × (sort l ≡ s.Long)
 
@@ -43,124 +43,124 @@ abbrev pub type_or : Option Ty → Ty
 type_or (Some x) = x
 type_or None = ty.Void
 
-abbrev pub type_in : TypePhrase → Ty
+abbrev pub type_in : TypeDerivation → Ty
 type_in (word t) = type_or (type_of (sort t))
 type_in (unsigned u l) = ty.Ulong
 
 -- ---- locals, assignments, and the first part of a `for`
 
 -- type name ;   type name = e ;
-pub data Local : Type 0 where
-  plain : TypePhrase → Token → Token → Local
-  set : TypePhrase → Token → Token → Phrase → Token → Local
+pub data LocalDerivation : Type 0 where
+  plain : TypeDerivation → Token → Token → LocalDerivation
+  set : TypeDerivation → Token → Token → ExpressionDerivation → Token → LocalDerivation
 
-abbrev pub spelled_local : Local → List Token
+abbrev pub spelled_local : LocalDerivation → List Token
 spelled_local (plain ty x e) = spelled_type ty ++ x ∷ e ∷ []
 spelled_local (set ty x q a e) = spelled_type ty ++ x ∷ q ∷ (spelled a ++ e ∷ [])
 
-abbrev pub IsLocal : Local → Type 0
+abbrev pub IsLocal : LocalDerivation → Type 0
 IsLocal (plain ty x e) = IsType ty × (sort x ≡ s.Name) × (sort e ≡ s.Semicolon)
 IsLocal (set ty x q a e) = IsType ty × (sort x ≡ s.Name) × (sort q ≡ s.Assign) × IsAt 13 a × (sort e ≡ s.Semicolon)
 
-abbrev pub kind_of_local : ℕ → Local → StmtKind
+abbrev pub kind_of_local : ℕ → LocalDerivation → StmtKind
 kind_of_local at (plain ty x e) = k.Local (type_in ty) (name_in x.kind) None
 kind_of_local at (set ty x q a e) =
-    k.Local (type_in ty) (name_in x.kind) (Some (tree_of (suc (suc (at + length (spelled_type ty)))) a))
+    k.Local (type_in ty) (name_in x.kind) (Some (expression_tree (suc (suc (at + length (spelled_type ty)))) a))
 
 -- x = e   x [ i ] = e   e
-pub data Simple : Type 0 where
-  assign : Token → Token → Phrase → Simple
-  assign_element : Token → Token → Phrase → Token → Token → Phrase → Simple
-  evaluate : Phrase → Simple
+pub data SimpleDerivation : Type 0 where
+  assign : Token → Token → ExpressionDerivation → SimpleDerivation
+  assign_element : Token → Token → ExpressionDerivation → Token → Token → ExpressionDerivation → SimpleDerivation
+  evaluate : ExpressionDerivation → SimpleDerivation
 
-abbrev pub spelled_simple : Simple → List Token
+abbrev pub spelled_simple : SimpleDerivation → List Token
 spelled_simple (assign x q a) = x ∷ q ∷ spelled a
 spelled_simple (assign_element x o i c q a) = x ∷ o ∷ (spelled i ++ c ∷ q ∷ spelled a)
 spelled_simple (evaluate a) = spelled a
 
-abbrev pub IsSimple : Simple → Type 0
+abbrev pub IsSimple : SimpleDerivation → Type 0
 IsSimple (assign x q a) = (sort x ≡ s.Name) × (sort q ≡ s.Assign) × IsAt 13 a
 IsSimple (assign_element x o i c q a) =
     (sort x ≡ s.Name) × (sort o ≡ s.LeftBracket) × IsAt 13 i × (sort c ≡ s.RightBracket) × (sort q ≡ s.Assign) × IsAt 13 a
 IsSimple (evaluate a) = IsAt 13 a
 
-abbrev pub kind_of_simple : ℕ → Simple → StmtKind
-kind_of_simple at (assign x q a) = k.Set (name_in x.kind) None (tree_of (suc (suc at)) a)
+abbrev pub kind_of_simple : ℕ → SimpleDerivation → StmtKind
+kind_of_simple at (assign x q a) = k.Set (name_in x.kind) None (expression_tree (suc (suc at)) a)
 kind_of_simple at (assign_element x o i c q a) =
-    k.Set (name_in x.kind) (Some (tree_of (suc (suc at)) i)) (tree_of (suc (suc (suc (suc at) + length (spelled i)))) a)
-kind_of_simple at (evaluate a) = k.Eval (tree_of at a)
+    k.Set (name_in x.kind) (Some (expression_tree (suc (suc at)) i)) (expression_tree (suc (suc (suc (suc at) + length (spelled i)))) a)
+kind_of_simple at (evaluate a) = k.Eval (expression_tree at a)
 
 -- ;   local   simple ;
-pub data Start : Type 0 where
-  no_start : Token → Start
-  local_start : Local → Start
-  simple_start : Simple → Token → Start
+pub data ForStartDerivation : Type 0 where
+  no_start : Token → ForStartDerivation
+  local_start : LocalDerivation → ForStartDerivation
+  simple_start : SimpleDerivation → Token → ForStartDerivation
 
-abbrev pub spelled_start : Start → List Token
+abbrev pub spelled_start : ForStartDerivation → List Token
 spelled_start (no_start e) = e ∷ []
 spelled_start (local_start l) = spelled_local l
 spelled_start (simple_start a e) = spelled_simple a ++ e ∷ []
 
-abbrev pub IsStart : Start → Type 0
+abbrev pub IsStart : ForStartDerivation → Type 0
 IsStart (no_start e) = sort e ≡ s.Semicolon
 IsStart (local_start l) = IsLocal l
 IsStart (simple_start a e) = IsSimple a × (sort e ≡ s.Semicolon)
 
 -- what may be left out
 
-abbrev pub spelled_maybe : Option Phrase → List Token
+abbrev pub spelled_maybe : Option ExpressionDerivation → List Token
 spelled_maybe None = []
 spelled_maybe (Some a) = spelled a
 
-abbrev pub IsMaybe : Option Phrase → Type 0
+abbrev pub IsMaybe : Option ExpressionDerivation → Type 0
 IsMaybe None = ⊤
 IsMaybe (Some a) = IsAt 13 a
 
-abbrev pub tree_of_maybe : ℕ → Option Phrase → Option Expr
+abbrev pub tree_of_maybe : ℕ → Option ExpressionDerivation → Option Expr
 tree_of_maybe at None = None
-tree_of_maybe at (Some a) = Some (tree_of at a)
+tree_of_maybe at (Some a) = Some (expression_tree at a)
 
-abbrev pub spelled_step : Option Simple → List Token
+abbrev pub spelled_step : Option SimpleDerivation → List Token
 spelled_step None = []
 spelled_step (Some a) = spelled_simple a
 
-abbrev pub IsStep : Option Simple → Type 0
+abbrev pub IsStep : Option SimpleDerivation → Type 0
 IsStep None = ⊤
 IsStep (Some a) = IsSimple a
 
 -- ---- statements
 
 mutual
-  pub data Statement : Type 0 where
+  pub data StatementDerivation : Type 0 where
     -- ;
-    empty : Token → Statement
+    empty : Token → StatementDerivation
     -- { statements }
-    block : Token → Statements → Token → Statement
+    block : Token → StatementDerivations → Token → StatementDerivation
     -- a local's declaration, which stands in a block alone
-    declare : Local → Statement
+    declare : LocalDerivation → StatementDerivation
     -- simple ;
-    simple : Simple → Token → Statement
+    simple : SimpleDerivation → Token → StatementDerivation
     -- if ( e ) s
-    if_only : Token → Token → Phrase → Token → Statement → Statement
+    if_only : Token → Token → ExpressionDerivation → Token → StatementDerivation → StatementDerivation
     -- if ( e ) s else s
-    if_else : Token → Token → Phrase → Token → Statement → Token → Statement → Statement
+    if_else : Token → Token → ExpressionDerivation → Token → StatementDerivation → Token → StatementDerivation → StatementDerivation
     -- while ( e ) s
-    while_do : Token → Token → Phrase → Token → Statement → Statement
+    while_do : Token → Token → ExpressionDerivation → Token → StatementDerivation → StatementDerivation
     -- do s while ( e ) ;
-    do_while : Token → Statement → Token → Token → Phrase → Token → Token → Statement
+    do_while : Token → StatementDerivation → Token → Token → ExpressionDerivation → Token → Token → StatementDerivation
     -- for ( start e ; step ) s
-    for_do : Token → Token → Start → Option Phrase → Token → Option Simple → Token → Statement → Statement
+    for_do : Token → Token → ForStartDerivation → Option ExpressionDerivation → Token → Option SimpleDerivation → Token → StatementDerivation → StatementDerivation
     -- return e ;
-    leave : Token → Option Phrase → Token → Statement
+    leave : Token → Option ExpressionDerivation → Token → StatementDerivation
     -- break ;   continue ;
-    jump : Token → Token → Statement
+    jump : Token → Token → StatementDerivation
 
-  pub data Statements : Type 0 where
-    nil : Statements
-    cons : Statement → Statements → Statements
+  pub data StatementDerivations : Type 0 where
+    nil : StatementDerivations
+    cons : StatementDerivation → StatementDerivations → StatementDerivations
 
 unfoldable mutual
-  pub spelled_statement : Statement → List Token
+  pub spelled_statement : StatementDerivation → List Token
   spelled_statement (empty e) = e ∷ []
   spelled_statement (block o body c) = o ∷ (spelled_statements body ++ c ∷ [])
   spelled_statement (declare l) = spelled_local l
@@ -174,12 +174,12 @@ unfoldable mutual
   spelled_statement (leave t a e) = t ∷ (spelled_maybe a ++ e ∷ [])
   spelled_statement (jump t e) = t ∷ e ∷ []
 
-  pub spelled_statements : Statements → List Token
+  pub spelled_statements : StatementDerivations → List Token
   spelled_statements nil = []
   spelled_statements (cons y ys) = spelled_statement y ++ spelled_statements ys
 
 -- the statement ends in an `if` without `else`, to which an `else` behind it would belong
-unfoldable pub open_ended : Statement → Bool
+unfoldable pub open_ended : StatementDerivation → Bool
 open_ended (empty e) = false
 open_ended (block o body c) = false
 open_ended (declare l) = false
@@ -194,7 +194,7 @@ open_ended (jump t e) = false
 
 unfoldable mutual
   -- a statement, or where `declares` a local's declaration too
-  pub IsStatement : Bool → Statement → Type 0
+  pub IsStatement : Bool → StatementDerivation → Type 0
   IsStatement declares (empty e) = sort e ≡ s.Semicolon
   IsStatement declares (block o body c) = (sort o ≡ s.LeftBrace) × AreStatements body × (sort c ≡ s.RightBrace)
   IsStatement declares (declare l) = (declares ≡ true) × IsLocal l
@@ -216,7 +216,7 @@ unfoldable mutual
   IsStatement declares (jump t e) = ((sort t ≡ s.Break) ⊎ (sort t ≡ s.Continue)) × (sort e ≡ s.Semicolon)
 
   -- what stands in a block
-  pub AreStatements : Statements → Type 0
+  pub AreStatements : StatementDerivations → Type 0
   AreStatements nil = ⊤
   AreStatements (cons y ys) = IsStatement true y × AreStatements ys
 
@@ -231,12 +231,12 @@ abbrev pub statement_node : ℕ → List Token → StmtKind → Stmt
 statement_node first tokens kind =
     roll-Stmt (record { first = first; last = first + length tokens - 1; line = first_line tokens; kind = kind })
 
-abbrev pub tree_of_start : ℕ → Start → Option Stmt
+abbrev pub tree_of_start : ℕ → ForStartDerivation → Option Stmt
 tree_of_start at (no_start e) = None
 tree_of_start at (local_start l) = Some (statement_node at (spelled_local l) (kind_of_local at l))
 tree_of_start at (simple_start a e) = Some (statement_node at (spelled_simple a) (kind_of_simple at a))
 
-abbrev pub tree_of_step : ℕ → Option Simple → Option Stmt
+abbrev pub tree_of_step : ℕ → Option SimpleDerivation → Option Stmt
 tree_of_step at None = None
 tree_of_step at (Some a) = Some (statement_node at (spelled_simple a) (kind_of_simple at a))
 
@@ -245,49 +245,49 @@ jump_of s.Break = k.Break
 jump_of _ = k.Continue
 
 -- the numbers of the tokens behind `( e )`, behind the head of a `for`, and behind a part and a word
-abbrev pub behind_test : ℕ → Phrase → ℕ
+abbrev pub behind_test : ℕ → ExpressionDerivation → ℕ
 behind_test at a = suc (suc (suc at) + length (spelled a))
 
-abbrev pub behind_head : ℕ → Start → Option Phrase → Option Simple → ℕ
+abbrev pub behind_head : ℕ → ForStartDerivation → Option ExpressionDerivation → Option SimpleDerivation → ℕ
 behind_head at start a step =
     suc (suc (suc (suc at) + length (spelled_start start) + length (spelled_maybe a)) + length (spelled_step step))
 
-abbrev pub behind_part : ℕ → Statement → ℕ
+abbrev pub behind_part : ℕ → StatementDerivation → ℕ
 behind_part at y = suc (at + length (spelled_statement y))
 
 -- a `for` whose first part begins at `at`
-abbrev pub for_kind : ℕ → Start → Option Phrase → Option Simple → Stmt → StmtKind
+abbrev pub for_kind : ℕ → ForStartDerivation → Option ExpressionDerivation → Option SimpleDerivation → Stmt → StmtKind
 for_kind at start a step body =
     k.For (tree_of_start at start) (tree_of_maybe (at + length (spelled_start start)) a)
     (tree_of_step (suc (at + length (spelled_start start) + length (spelled_maybe a))) step) body
 
 unfoldable mutual
   -- the form of a statement whose first token has the number `at`
-  pub kind_of : ℕ → Statement → StmtKind
+  pub kind_of : ℕ → StatementDerivation → StmtKind
   kind_of at (empty e) = k.Empty
   kind_of at (block o body c) = k.Block (trees_of_statements (suc at) body)
   kind_of at (declare l) = kind_of_local at l
   kind_of at (simple a e) = kind_of_simple at a
   kind_of at (if_only t o a c y) =
-      k.If (tree_of (suc (suc at)) a) (statement_node (behind_test at a) (spelled_statement y) (kind_of (behind_test at a) y)) None
+      k.If (expression_tree (suc (suc at)) a) (statement_node (behind_test at a) (spelled_statement y) (kind_of (behind_test at a) y)) None
   kind_of at (if_else t o a c y e n) =
-      k.If (tree_of (suc (suc at)) a) (statement_node (behind_test at a) (spelled_statement y) (kind_of (behind_test at a) y))
+      k.If (expression_tree (suc (suc at)) a) (statement_node (behind_test at a) (spelled_statement y) (kind_of (behind_test at a) y))
       (Some (statement_node (behind_part (behind_test at a) y) (spelled_statement n) (kind_of (behind_part (behind_test at a) y) n)))
   kind_of at (while_do t o a c y) =
-      k.While (tree_of (suc (suc at)) a) (statement_node (behind_test at a) (spelled_statement y) (kind_of (behind_test at a) y))
+      k.While (expression_tree (suc (suc at)) a) (statement_node (behind_test at a) (spelled_statement y) (kind_of (behind_test at a) y))
   kind_of at (do_while t y w o a c e) =
-      k.Do (statement_node (suc at) (spelled_statement y) (kind_of (suc at) y)) (tree_of (suc (behind_part (suc at) y)) a)
+      k.Do (statement_node (suc at) (spelled_statement y) (kind_of (suc at) y)) (expression_tree (suc (behind_part (suc at) y)) a)
   kind_of at (for_do t o start a e step c y) =
       for_kind (suc (suc at)) start a step
       (statement_node (behind_head at start a step) (spelled_statement y) (kind_of (behind_head at start a step) y))
   kind_of at (leave t a e) = k.Return (tree_of_maybe (suc at) a)
   kind_of at (jump t e) = jump_of (sort t)
 
-  pub trees_of_statements : ℕ → Statements → List Stmt
+  pub trees_of_statements : ℕ → StatementDerivations → List Stmt
   trees_of_statements at nil = []
   trees_of_statements at (cons y ys) =
       statement_node at (spelled_statement y) (kind_of at y) ∷ trees_of_statements (at + length (spelled_statement y)) ys
 
 -- the tree of a statement whose first token has the number `at`
-abbrev pub tree_of_statement : ℕ → Statement → Stmt
+abbrev pub tree_of_statement : ℕ → StatementDerivation → Stmt
 tree_of_statement at y = statement_node at (spelled_statement y) (kind_of at y)

@@ -14,17 +14,17 @@ use Rattle.pw_tree.specs.declared.stmt.Stmt.{Stmt, roll-Stmt}
 use Rattle.pw_tree.specs.declared.stmt.StmtKind.{StmtKind}
 
 -- the number of the next token, and the tokens from it on
-pub record Place : Type 0 where
+pub record Position : Type 0 where
   pub at : ℕ
   pub rest : List Token
 
-abbrev pub Outcome : Type 0 → Type 0
-Outcome A = Result (A × Place) SyntaxError
+abbrev pub ReadResult : Type 0 → Type 0
+ReadResult A = Result (A × Position) SyntaxError
 
 abbrev pub Parser : Type 0 → Type 0
-Parser A = Place → Outcome A
+Parser A = Position → ReadResult A
 
-abbrev pub and_then : {A B : Type 0} → Outcome A → (A → Parser B) → Outcome B
+abbrev pub and_then : {A B : Type 0} → ReadResult A → (A → Parser B) → ReadResult B
 and_then (Ok p) f = f p.0 p.1
 and_then (Err e) f = Err e
 
@@ -41,10 +41,10 @@ refuse = λ i. Err (At i.at)
 
 -- ---- the next token
 
-abbrev pub next_sort : Place → Sort
+abbrev pub next_sort : Position → Sort
 next_sort i = first_sort i.rest
 
-unfoldable pub sees : Sort → Place → Bool
+unfoldable pub sees : Sort → Position → Bool
 sees x i = is_same (next_sort i) x
 
 abbrev pub here : Parser ℕ
@@ -54,7 +54,7 @@ here = λ i. Ok (i.at, i)
 abbrev pub line_here : Parser ℕ
 line_here = λ i. Ok (first_line i.rest, i)
 
-unfoldable pub take_from : ℕ → List Token → Outcome Token
+unfoldable pub take_from : ℕ → List Token → ReadResult Token
 take_from at [] = Err (At at)
 take_from at (t ∷ ts) = Ok (t, record { at = suc at; rest = ts })
 
@@ -93,6 +93,6 @@ finish_statement first line kind = λ i. Ok (roll-Stmt (record { first = first; 
 
 -- ---- what a function that reads ensures: the parser's outcome, unless memory is refused
 
-abbrev pub Reads : {A : Type 0} → Outcome A → Result A SyntaxError → Place → Type 0
+abbrev pub Reads : {A : Type 0} → ReadResult A → Result A SyntaxError → Position → Type 0
 Reads outcome (Ok a) new = outcome ≡ Ok (a, new)
 Reads outcome (Err e) new = e ≢ NoMemory → outcome ≡ Err e

@@ -11,7 +11,7 @@ use Rattle.pw_io.specs.Sink.{SinkState}
 use Rattle.pw_hart.specs.declared.hart.Hart.{Hart}
 use Rattle.pw_hart.specs.declared.ends.End.{End}
 use Rattle.pw_hart.specs.declared.ends.End.TheVariants.{Exit, Checked, Spent, Trap, ReadFault, WriteFault, Limit}
-use Rattle.pw_hart.specs.State.{State, Next, Goes, Ends, get}
+use Rattle.pw_hart.specs.State.{MachineState, Next, Goes, Ends, get}
 use Rattle.pw_hart.specs.Exec.{exec, takes_input, puts_output}
 use Rattle.pw_hart.specs.Run.{fetches, carries_out, step}
 use Rattle.pw_hart.specs.Harts.{registers, state_of, next_of, Does}
@@ -74,7 +74,7 @@ moment hart mem count told p = record { hart = hart; mem = mem; fetches = count;
 -- an environment call that was fetched and decoded
 module _ (hart hart' : Hart) (mem : Mem) (count : ℕ) (told told' : Option (List ℕ)) (p q : Ports) (word : ℕ) (fetched : fetch mem hart.pc ≡ Ok word)
     (decodes : decoded word ≡ Some Ecall) (tells : Told told (hart.pc ∷ []) told') where
-  steps_call : (next : State → Next) → Uses (exec Ecall) p hart mem q hart' mem next →
+  steps_call : (next : MachineState → Next) → Uses (exec Ecall) p hart mem q hart' mem next →
       Steps (moment hart mem count told p) p.used_up (moment hart' mem (counted count 1) told' q) q.used_up next
   steps_call next uses = record {
     fetches = record { counts = refl; tells = tells };
@@ -110,7 +110,7 @@ module _ (hart hart' : Hart) (mem : Mem) (count : ℕ) (told told' : Option (Lis
 
 -- a step that uses neither the input nor the output
 module _ (hart hart' : Hart) (mem mem' : Mem) (count : ℕ) (told told' : Option (List ℕ)) (p : Ports) (tells : Told told (hart.pc ∷ []) told') where
-  pub steps_quietly : (next : State → Next) →
+  pub steps_quietly : (next : MachineState → Next) →
       ((input output : List ℕ) → step (state_of hart mem input output) ≡ next (state_of hart' mem' input output)) →
       Steps (moment hart mem count told p) p.used_up (moment hart' mem' (counted count 1) told' p) p.used_up next
   steps_quietly next does = record {

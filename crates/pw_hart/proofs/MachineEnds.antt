@@ -7,7 +7,7 @@ use Rattle.pw_mem.specs.Memory.{Mem, load, store}
 use Rattle.pw_mem.specs.declared.errors.Access.{Access}
 use Rattle.pw_mem.specs.declared.errors.Access.TheVariants.{Misaligned, Unmapped, Denied}
 use Rattle.pw_hart.specs.declared.ends.End.TheVariants.{Exit, Checked, Trap}
-use Rattle.pw_hart.specs.State.{State, Next, Goes, Ends, get}
+use Rattle.pw_hart.specs.State.{MachineState, Next, Goes, Ends, get}
 use Rattle.pw_hart.specs.Exec.{exec, jumps, takes_step, branches_if, loaded, stored, effective, takes_input, puts_output}
 use Rattle.pw_hart.specs.Advances.{IsMachines}
 
@@ -16,39 +16,39 @@ abbrev pub IsMachinesNext : Next → Type 0
 IsMachinesNext (Goes s) = Unit {0}
 IsMachinesNext (Ends end s) = IsMachines end
 
-takes_step_is : (counted : Bool) (left target : ℕ) (x : ℕ → ℕ) (s : State) → IsMachinesNext (takes_step counted left target x s)
+takes_step_is : (counted : Bool) (left target : ℕ) (x : ℕ → ℕ) (s : MachineState) → IsMachinesNext (takes_step counted left target x s)
 takes_step_is false left target x s = tt
 takes_step_is true zero target x s = tt
 takes_step_is true (suc left) target x s = tt
 
-jumps_is : (counted : Bool) (target : ℕ) (x : ℕ → ℕ) (s : State) → IsMachinesNext (jumps counted target x s)
+jumps_is : (counted : Bool) (target : ℕ) (x : ℕ → ℕ) (s : MachineState) → IsMachinesNext (jumps counted target x s)
 jumps_is counted target x s = by_test (nat_eq (target % 4) 0)
   where
     by_test : (aligned : Bool) → IsMachinesNext (if aligned then takes_step counted s.steps target x s else Ends (Trap 0 s.pc target) s)
     by_test true = takes_step_is counted s.steps target x s
     by_test false = tt
 
-branches_if_is : (taken : Bool) (imm : ℤ) (s : State) → IsMachinesNext (branches_if taken imm s)
+branches_if_is : (taken : Bool) (imm : ℤ) (s : MachineState) → IsMachinesNext (branches_if taken imm s)
 branches_if_is true imm s = jumps_is _ _ _ s
 branches_if_is false imm s = tt
 
-loaded_is : (extend : ℕ → ℕ) (rd at : ℕ) (s : State) (r : Result ℕ Access) → IsMachinesNext (loaded extend rd at s r)
+loaded_is : (extend : ℕ → ℕ) (rd at : ℕ) (s : MachineState) (r : Result ℕ Access) → IsMachinesNext (loaded extend rd at s r)
 loaded_is extend rd at s (Ok value) = tt
 loaded_is extend rd at s (Err Misaligned) = tt
 loaded_is extend rd at s (Err Unmapped) = tt
 loaded_is extend rd at s (Err Denied) = tt
 
-stored_is : (at : ℕ) (s : State) (r : Result Mem Access) → IsMachinesNext (stored at s r)
+stored_is : (at : ℕ) (s : MachineState) (r : Result Mem Access) → IsMachinesNext (stored at s r)
 stored_is at s (Ok mem) = tt
 stored_is at s (Err Misaligned) = tt
 stored_is at s (Err Unmapped) = tt
 stored_is at s (Err Denied) = tt
 
-takes_input_is : (input : List ℕ) (s : State) → IsMachinesNext (takes_input input s)
+takes_input_is : (input : List ℕ) (s : MachineState) → IsMachinesNext (takes_input input s)
 takes_input_is [] s = tt
 takes_input_is (byte ∷ rest) s = tt
 
-calls_is : (exits takes puts checks : Bool) (number : ℕ) (s : State) → IsMachinesNext
+calls_is : (exits takes puts checks : Bool) (number : ℕ) (s : MachineState) → IsMachinesNext
     (if exits then Ends (Exit (get s.x 10)) s
     else (if takes then takes_input s.input s
     else (if puts then puts_output s
@@ -60,7 +60,7 @@ calls_is false false true checks number s = tt
 calls_is false false false true number s = tt
 calls_is false false false false number s = tt
 
-pub exec_is : (inst : Inst) (s : State) → IsMachinesNext (exec inst s)
+pub exec_is : (inst : Inst) (s : MachineState) → IsMachinesNext (exec inst s)
 exec_is (Lui rd imm) s = tt
 exec_is (Auipc rd imm) s = tt
 exec_is (Jal rd imm) s = jumps_is _ _ _ s

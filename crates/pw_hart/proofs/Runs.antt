@@ -8,8 +8,8 @@ use Rattle.pw_io.proofs.Sources.{after_nothing, after_after}
 use Rattle.pw_io.proofs.Sinks.{wrote_nothing, wrote_wrote}
 use Rattle.pw_hart.specs.declared.ends.End.{End}
 use Rattle.pw_hart.specs.declared.ends.End.TheVariants.{Exit, Checked, Spent, Trap, ReadFault, WriteFault, Limit}
-use Rattle.pw_hart.specs.State.{State, Next, Goes, Ends}
-use Rattle.pw_hart.specs.Run.{Outcome, fetching, then, run}
+use Rattle.pw_hart.specs.State.{MachineState, Next, Goes, Ends}
+use Rattle.pw_hart.specs.Run.{RunResult, fetching, then, run}
 use Rattle.pw_hart.specs.Harts.{state_of}
 use Rattle.pw_hart.specs.Runs.{Moment, IsLeft, RunsTo, Runs}
 use Rattle.pw_hart.specs.Advances.{CanBeLeft, Steps, Advances}
@@ -59,7 +59,7 @@ told_more (Some xs) (Some ys) (Some list) before behind h g =
 
 -- ---- what an outcome leaves, from a moment with this input left and this output put
 
-pub record Ended (old : Moment) (input output : List ℕ) (o : Outcome) (new : Moment) (end : End) : Type 0 where
+pub record Ended (old : Moment) (input output : List ℕ) (o : RunResult) (new : Moment) (end : End) : Type 0 where
   pub taken : List ℕ
   pub put : List ℕ
   pub ends : o.end ≡ end
@@ -88,8 +88,8 @@ ended_none m input output = record {
 }
 
 -- an instruction, and then an outcome
-module _ (old : Moment) (used_up : Bool) (mid : Moment) (used_up' : Bool) (next : State → Next) where
-  ended_after : (s : Steps old used_up mid used_up' next) (rest output : List ℕ) (o : Outcome) (new : Moment) (end : End) →
+module _ (old : Moment) (used_up : Bool) (mid : Moment) (used_up' : Bool) (next : MachineState → Next) where
+  ended_after : (s : Steps old used_up mid used_up' next) (rest output : List ℕ) (o : RunResult) (new : Moment) (end : End) →
       Ended mid rest (output ++ s.uses.put) o new end →
       Ended old (s.uses.taken ++ rest) output (fetching old.hart.pc o) new end
   ended_after s rest output o new end e = record {

@@ -8,14 +8,14 @@ use Rattle.pw_io.proofs.Sinks.{wrote_nothing}
 use Rattle.std.specs.Int.{w8}
 use Rattle.pw_hart.specs.declared.hart.Hart.{Hart}
 use Rattle.pw_hart.specs.Bits.{all_ones, zero_extend}
-use Rattle.pw_hart.specs.State.{State, Next, Goes, writes, goes_on, get}
+use Rattle.pw_hart.specs.State.{MachineState, Next, Goes, writes, goes_on, get}
 use Rattle.pw_hart.specs.Exec.{takes_input, puts_output}
 use Rattle.pw_hart.specs.Harts.{registers, state_of}
 use Rattle.pw_hart.specs.Runs.{IsLeft}
 use Rattle.pw_hart.specs.Advances.{Ports, Uses}
 
 -- an instruction that is the same whatever the input and the output are uses nothing of them
-pub uses_nothing : (f : State → Next) (p : Ports) (hart : Hart) (mem : Mem) (hart' : Hart) (mem' : Mem) (next : State → Next) →
+pub uses_nothing : (f : MachineState → Next) (p : Ports) (hart : Hart) (mem : Mem) (hart' : Hart) (mem' : Mem) (next : MachineState → Next) →
     ((input output : List ℕ) → f (state_of hart mem input output) ≡ next (state_of hart' mem' input output)) →
     Uses f p hart mem p hart' mem' next
 uses_nothing f p hart mem hart' mem' next does = record {
@@ -29,7 +29,7 @@ uses_nothing f p hart mem hart' mem' next does = record {
 }
 
 -- an instruction uses what one uses that does the same
-pub Uses-same : (f g : State → Next) (p : Ports) (hart : Hart) (mem : Mem) (q : Ports) (hart' : Hart) (mem' : Mem) (next : State → Next) →
+pub Uses-same : (f g : MachineState → Next) (p : Ports) (hart : Hart) (mem : Mem) (q : Ports) (hart' : Hart) (mem' : Mem) (next : MachineState → Next) →
     ((input output : List ℕ) → f (state_of hart mem input output) ≡ g (state_of hart mem input output)) →
     Uses g p hart mem q hart' mem' next → Uses f p hart mem q hart' mem' next
 Uses-same f g p hart mem q hart' mem' next same uses = record {

@@ -8,7 +8,7 @@ use Rattle.pw_io.specs.Sink.{SinkState, SinkFails, wrote}
 use Rattle.pw_hart.specs.declared.hart.Hart.{Hart}
 use Rattle.pw_hart.specs.declared.ends.End.{End}
 use Rattle.pw_hart.specs.declared.ends.End.TheVariants.{ReadFault, WriteFault, Limit}
-use Rattle.pw_hart.specs.State.{State, Next, Goes, Ends, get}
+use Rattle.pw_hart.specs.State.{MachineState, Next, Goes, Ends, get}
 use Rattle.pw_hart.specs.Exec.{exec, takes_input, puts_output}
 use Rattle.pw_hart.specs.Run.{step}
 use Rattle.pw_hart.specs.Harts.{registers, state_of}
@@ -33,7 +33,7 @@ pub record CanBeLeft (input : SourceState) (used_up : Bool) (bytes : List ℕ) :
   pub none : used_up ≡ true → bytes ≡ []
 
 -- what an instruction does with bytes that were taken from the input and put behind the output, whatever is left in the input behind them and was put before
-pub record Uses (instruction : State → Next) (old : Ports) (hart : Hart) (mem : Mem) (new : Ports) (hart' : Hart) (mem' : Mem) (next : State → Next) : Type 0 where
+pub record Uses (instruction : MachineState → Next) (old : Ports) (hart : Hart) (mem : Mem) (new : Ports) (hart' : Hart) (mem' : Mem) (next : MachineState → Next) : Type 0 where
   pub taken : List ℕ
   pub put : List ℕ
   pub input : new.input ≡ after taken old.input
@@ -91,7 +91,7 @@ pub record Fetches (old new : Moment) : Type 0 where
   pub tells : Told old.told (old.hart.pc ∷ []) new.told
 
 -- one step of the machine, from a moment to the next
-pub record Steps (old : Moment) (used_up : Bool) (new : Moment) (used_up' : Bool) (next : State → Next) : Type 0 where
+pub record Steps (old : Moment) (used_up : Bool) (new : Moment) (used_up' : Bool) (next : MachineState → Next) : Type 0 where
   pub fetches : Fetches old new
   pub uses : Uses step (ports old used_up) old.hart old.mem (ports new used_up') new.hart new.mem next
 

@@ -11,20 +11,20 @@ use Rattle.pw_hart.specs.Bits.{bits64, sign_extend, zero_extend, all_ones}
 use Rattle.pw_hart.specs.Integer.{add, sub, sll, slt, sltu, srl, sra, is_less_signed}
 use Rattle.pw_hart.specs.Word.{addw, subw, sllw, srlw, sraw}
 use Rattle.pw_hart.specs.Multiply.{mul, mulh, mulhsu, mulhu, div, divu, rem, remu, mulw, divw, divuw, remw, remuw}
-use Rattle.pw_hart.specs.State.{State, get, set, Next, Goes, Ends, following, goes_on, writes}
+use Rattle.pw_hart.specs.State.{MachineState, get, set, Next, Goes, Ends, following, goes_on, writes}
 
 -- ---- values: register by register, register by immediate, register by a count, and the upper immediates
 
 -- rd gets what an operation gives for rs1 and rs2
-abbrev pub by_register : (ℕ → ℕ → ℕ) → ℕ → ℕ → ℕ → State → Next
+abbrev pub by_register : (ℕ → ℕ → ℕ) → ℕ → ℕ → ℕ → MachineState → Next
 by_register operation rd rs1 rs2 s = writes rd (operation (get s.x rs1) (get s.x rs2)) s
 
 -- rd gets what an operation gives for rs1 and the sign-extended immediate
-abbrev pub by_immediate : (ℕ → ℕ → ℕ) → ℕ → ℕ → ℤ → State → Next
+abbrev pub by_immediate : (ℕ → ℕ → ℕ) → ℕ → ℕ → ℤ → MachineState → Next
 by_immediate operation rd rs1 imm s = writes rd (operation (get s.x rs1) (bits64 imm)) s
 
 -- rd gets what an operation gives for rs1 and a count of places
-abbrev pub by_count : (ℕ → ℕ → ℕ) → ℕ → ℕ → ℕ → State → Next
+abbrev pub by_count : (ℕ → ℕ → ℕ) → ℕ → ℕ → ℕ → MachineState → Next
 by_count operation rd rs1 count s = writes rd (operation (get s.x rs1) count) s
 
 -- an immediate of 20 bits in the places above the lowest 12, sign-extended
@@ -34,76 +34,76 @@ upper imm = (bits64 imm * 2 ^ 12) % 2 ^ 64
 -- ---- jumps and branches
 
 -- the run goes on at the target, with these steps left and these registers
-abbrev pub lands : ℕ → ℕ → (ℕ → ℕ) → State → Next
+abbrev pub lands : ℕ → ℕ → (ℕ → ℕ) → MachineState → Next
 lands steps target x s = Goes (record s { x = x; pc = target; steps = steps })
 
 -- a counted jump takes a step, and where none is left the run ends as spent
-abbrev pub takes_step : Bool → ℕ → ℕ → (ℕ → ℕ) → State → Next
+abbrev pub takes_step : Bool → ℕ → ℕ → (ℕ → ℕ) → MachineState → Next
 takes_step false left target x s = lands left target x s
 takes_step true zero target x s = Ends Spent s
 takes_step true (suc left) target x s = lands left target x s
 
 -- a jump that is taken: a misaligned target traps first, with nothing written
-abbrev pub jumps : Bool → ℕ → (ℕ → ℕ) → State → Next
+abbrev pub jumps : Bool → ℕ → (ℕ → ℕ) → MachineState → Next
 jumps counted target x s =
     if target % 4 == 0 then takes_step counted s.steps target x s else Ends (Trap 0 s.pc target) s
 
 -- whether a target is not above the instruction, so that the run may go round
-abbrev pub goes_back : ℕ → State → Bool
+abbrev pub goes_back : ℕ → MachineState → Bool
 goes_back target s = nat_le target s.pc
 
 -- a jump that writes the address behind it to rd: a call, with rd = x1, and a jump back are counted
-abbrev pub jumps_and_links : ℕ → ℕ → Bool → State → Next
+abbrev pub jumps_and_links : ℕ → ℕ → Bool → MachineState → Next
 jumps_and_links rd target counted s = jumps (rd == 1 || counted) target (set s.x rd (following s)) s
 
 -- a branch that is taken or not: taken backwards it is counted
-abbrev pub branches_if : Bool → ℤ → State → Next
+abbrev pub branches_if : Bool → ℤ → MachineState → Next
 branches_if true imm s = let target = add s.pc (bits64 imm) in jumps (goes_back target s) target s.x s
 branches_if false imm s = goes_on s.x s
 
 -- a branch on a test of rs1 and rs2
-abbrev pub branches : (ℕ → ℕ → Bool) → ℕ → ℕ → ℤ → State → Next
+abbrev pub branches : (ℕ → ℕ → Bool) → ℕ → ℕ → ℤ → MachineState → Next
 branches test rs1 rs2 imm s = branches_if (test (get s.x rs1) (get s.x rs2)) imm s
 
 -- ---- loads and stores
 
 -- the address that a load or a store means
-abbrev pub effective : ℕ → ℤ → State → ℕ
+abbrev pub effective : ℕ → ℤ → MachineState → ℕ
 effective rs1 imm s = add (get s.x rs1) (bits64 imm)
 
 -- what a load from an address does with the memory's answer: rd gets the value extended, or it traps
-abbrev pub loaded : (ℕ → ℕ) → ℕ → ℕ → State → Result ℕ Access → Next
+abbrev pub loaded : (ℕ → ℕ) → ℕ → ℕ → MachineState → Result ℕ Access → Next
 loaded extend rd at s (Ok value) = writes rd (extend value) s
 loaded extend rd at s (Err Misaligned) = Ends (Trap 4 s.pc at) s
 loaded extend rd at s (Err Unmapped) = Ends (Trap 5 s.pc at) s
 loaded extend rd at s (Err Denied) = Ends (Trap 5 s.pc at) s
 
 -- what a store to an address does with the memory's answer
-abbrev pub stored : ℕ → State → Result Mem Access → Next
+abbrev pub stored : ℕ → MachineState → Result Mem Access → Next
 stored at s (Ok mem) = Goes (record s { mem = mem; pc = following s })
 stored at s (Err Misaligned) = Ends (Trap 6 s.pc at) s
 stored at s (Err Unmapped) = Ends (Trap 7 s.pc at) s
 stored at s (Err Denied) = Ends (Trap 7 s.pc at) s
 
 -- rd gets the number of so many bytes at an address, extended to 64 bits
-abbrev pub loads : (ℕ → ℕ) → ℕ → ℕ → ℕ → ℤ → State → Next
+abbrev pub loads : (ℕ → ℕ) → ℕ → ℕ → ℕ → ℤ → MachineState → Next
 loads extend width rd rs1 imm s =
     let at = effective rs1 imm s in loaded extend rd at s (load s.mem at width)
 
 -- the lowest bytes of rs2 are stored at an address
-abbrev pub stores : ℕ → ℕ → ℕ → ℤ → State → Next
+abbrev pub stores : ℕ → ℕ → ℕ → ℤ → MachineState → Next
 stores width rs1 rs2 imm s =
     let at = effective rs1 imm s in stored at s (store s.mem at width (get s.x rs2))
 
 -- ---- environment calls, by a7
 
 -- the next byte of the input goes to a0, or all ones at its end
-abbrev pub takes_input : List ℕ → State → Next
+abbrev pub takes_input : List ℕ → MachineState → Next
 takes_input [] s = writes 10 all_ones s
 takes_input (byte ∷ rest) s = writes 10 byte (record s { input = rest })
 
 -- the lowest byte of a0 is put behind the output
-abbrev pub puts_output : State → Next
+abbrev pub puts_output : MachineState → Next
 puts_output s = goes_on s.x (record s { output = s.output ++ zero_extend w8 (get s.x 10) ∷ [] })
 
 -- whether a number names a kind of checked fault
@@ -111,7 +111,7 @@ abbrev pub is_fault_kind : ℕ → Bool
 is_fault_kind kind = nat_le 1 kind && nat_le kind 4
 
 -- 93 exits with a0, 1024 takes input, 1025 puts output, 1026 is a checked fault of the kind a0 in the line a1; others trap
-abbrev pub calls_environment : ℕ → State → Next
+abbrev pub calls_environment : ℕ → MachineState → Next
 calls_environment number s =
     if number == 93 then Ends (Exit (get s.x 10)) s
     else (if number == 1024 then takes_input s.input s
@@ -121,7 +121,7 @@ calls_environment number s =
 
 -- ---- the table
 
-abbrev pub exec : Inst → State → Next
+abbrev pub exec : Inst → MachineState → Next
 -- integer computational instructions, register by immediate
 exec (Addi rd rs1 imm) = by_immediate add rd rs1 imm
 exec (Slti rd rs1 imm) = by_immediate slt rd rs1 imm

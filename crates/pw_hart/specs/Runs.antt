@@ -9,8 +9,8 @@ use Rattle.pw_io.specs.Sink.{SinkState, SinkFails, wrote}
 use Rattle.pw_hart.specs.declared.hart.Hart.{Hart}
 use Rattle.pw_hart.specs.declared.ends.End.{End}
 use Rattle.pw_hart.specs.declared.ends.End.TheVariants.{ReadFault, WriteFault, Limit}
-use Rattle.pw_hart.specs.State.{State, get}
-use Rattle.pw_hart.specs.Run.{Outcome, run}
+use Rattle.pw_hart.specs.State.{MachineState, get}
+use Rattle.pw_hart.specs.Run.{RunResult, run}
 use Rattle.pw_hart.specs.Harts.{state_of}
 
 -- a processor and what it is given, at one moment: a memory with its fetches, an input, and an output
@@ -27,11 +27,11 @@ abbrev pub IsLeft : List ℕ → SourceState → Type 0
 IsLeft bytes input = IfSome input.left (λ left. left ≡ bytes)
 
 -- the machine's state at a moment, where this input is left and nothing is put yet
-abbrev pub state_at : Moment → List ℕ → State
+abbrev pub state_at : Moment → List ℕ → MachineState
 state_at m input = state_of m.hart m.mem input []
 
 -- what an outcome of the machine leaves: its state, the input without what was taken, the output with what was put, and its fetches counted
-pub record Leaves (old : Moment) (input : List ℕ) (o : Outcome) (new : Moment) : Type 0 where
+pub record Leaves (old : Moment) (input : List ℕ) (o : RunResult) (new : Moment) : Type 0 where
   pub taken : List ℕ
   pub took : input ≡ taken ++ o.state.input
   pub left : new.input ≡ after taken old.input

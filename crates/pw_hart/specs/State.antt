@@ -4,7 +4,7 @@ use Rattle.pw_hart.specs.declared.ends.End.{End}
 use Rattle.pw_mem.specs.Memory.{Mem}
 
 -- registers by their numbers, the program counter, the counted steps left, the memory, the input left and the output so far
-pub record State : Type 0 where
+pub record MachineState : Type 0 where
   pub x : ℕ → ℕ
   pub pc : ℕ
   pub steps : ℕ
@@ -24,17 +24,17 @@ set x (suc r) value = λ k. if nat_eq k (suc r) then value else x k
 
 -- what one instruction does: the run goes on in a state, or it ends there
 pub data Next : Type 0 where
-  Goes : State → Next
-  Ends : End → State → Next
+  Goes : MachineState → Next
+  Ends : End → MachineState → Next
 
 -- the address of the instruction behind
-abbrev pub following : State → ℕ
+abbrev pub following : MachineState → ℕ
 following s = (s.pc + 4) % 2 ^ 64
 
 -- the run goes on behind the instruction, with these registers
-abbrev pub goes_on : (ℕ → ℕ) → State → Next
+abbrev pub goes_on : (ℕ → ℕ) → MachineState → Next
 goes_on x s = Goes (record s { x = x; pc = following s })
 
 -- a value is written to rd, and the run goes on behind the instruction
-abbrev pub writes : ℕ → ℕ → State → Next
+abbrev pub writes : ℕ → ℕ → MachineState → Next
 writes rd value s = goes_on (set s.x rd value) s

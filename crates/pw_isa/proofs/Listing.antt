@@ -1,11 +1,11 @@
--- The rows of the listing: what a word that matches one has, and that the word of one matches it.
+-- The rows of the listing: what a instruction_word that matches one has, and that the instruction_word of one matches it.
 use Rattle.std.proofs.Common.{◌≡◌, ℕ, ℤ, ◌+◌, ◌%◌, ◌^◌, ◌<◌, Bool, true, refl, sym, subst, ap, ◌∙◌, arith}
 use Rattle.std.specs.Prelude.{nat_eq, nat_lt, ◌&&◌}
 use Rattle.std.proofs.lemmas.Bool.Decides.{nat_tests}
-use Rattle.pw_isa.specs.Formats.{Row, R, I, Shift, ShiftW, S, B, U, J, Free, Exact, Fits, HasOperands, has_code, word, bits, pattern, sign_extend, FitsField, IsEven, opcode_of, funct3_of, funct7_of, funct6_of}
+use Rattle.pw_isa.specs.Formats.{Row, R, I, Shift, ShiftW, S, B, U, J, Free, Exact, Fits, HasOperands, has_code, instruction_word, bits, pattern, sign_extend, FitsField, IsEven, opcode_of, funct3_of, funct7_of, funct6_of}
 use Rattle.pw_isa.proofs.Immediates.{FitsField-sign_extend, IsEven-sign_extend, pattern-sign_extend, sign_extend-pattern, pattern_fits, pattern_even}
 
--- operands that stand in a word have room in their format
+-- operands that stand in a instruction_word have room in their format
 pub operands_fit : (w : ℕ) (r : Row) → HasOperands w r → Fits r
 operands_fit w (R _ _ _ rd rs1 rs2) h = (omega arith, omega arith, omega arith)
 operands_fit w (I _ _ rd rs1 imm) h =
@@ -44,13 +44,13 @@ all_three a b c d e f h = (grind (arith, nat_tests), grind (arith, nat_tests), g
 pattern_is : (sign n : ℕ) (imm : ℤ) → n < sign + sign → sign_extend sign n ≡ imm → pattern (sign + sign) imm ≡ n
 pattern_is sign n imm small e = subst (λ v. pattern (sign + sign) v ≡ n) e (pattern-sign_extend sign n small)
 
--- the row of a word says all of its bits
+-- the row of a instruction_word says all of its bits
 abbrev pub IsWhole : Row → Type 0
 IsWhole (Free _ _ _) = ⊥
 IsWhole _ = Unit {0}
 
--- then the word of a row that a word matches is that word
-pub word_is : (w : ℕ) (r : Row) → w < 2 ^ 32 → IsWhole r → has_code w r ≡ true → HasOperands w r → word r ≡ w
+-- then the instruction_word of a row that a instruction_word matches is that instruction_word
+pub word_is : (w : ℕ) (r : Row) → w < 2 ^ 32 → IsWhole r → has_code w r ≡ true → HasOperands w r → instruction_word r ≡ w
 word_is w (R op f3 f7 rd rs1 rs2) small _ code h =
     let c : (opcode_of w ≡ op) × (funct3_of w ≡ f3) × (funct7_of w ≡ f7) = all_three _ _ _ _ _ _ code in
     omega arith
@@ -116,49 +116,49 @@ two_tests a b c d h k = grind (arith, nat_tests)
 three_tests : (a b c d e f : ℕ) → a ≡ b → c ≡ d → e ≡ f → (nat_eq a b && nat_eq c d && nat_eq e f) ≡ true
 three_tests a b c d e f h k l = grind (arith, nat_tests)
 
--- the word of a row has the numbers that the row fixes
-pub word_has_code : (r : Row) → fits_code r ≡ true → Fits r → has_code (word r) r ≡ true
+-- the instruction_word of a row has the numbers that the row fixes
+pub word_has_code : (r : Row) → fits_code r ≡ true → Fits r → has_code (instruction_word r) r ≡ true
 word_has_code (R op f3 f7 rd rs1 rs2) code h =
     let c : (op < 128) × (f3 < 8) × (f7 < 128) = all_less _ _ _ _ _ _ code in
-    let w : ℕ = word (R op f3 f7 rd rs1 rs2) in
+    let w : ℕ = instruction_word (R op f3 f7 rd rs1 rs2) in
     let e : (opcode_of w ≡ op) × (funct3_of w ≡ f3) × (funct7_of w ≡ f7) = (omega arith, omega arith, omega arith) in
     three_tests _ _ _ _ _ _ e.0 e.1 e.2
 word_has_code (I op f3 rd rs1 imm) code h =
     let c : (op < 128) × (f3 < 8) = both_less _ _ _ _ code in
     let p : pattern (2 ^ 12) imm < 2 ^ 12 = pattern_fits (2 ^ 11) imm h.2 in
-    let w : ℕ = word (I op f3 rd rs1 imm) in
+    let w : ℕ = instruction_word (I op f3 rd rs1 imm) in
     let e : (opcode_of w ≡ op) × (funct3_of w ≡ f3) = (omega arith, omega arith) in
     two_tests _ _ _ _ e.0 e.1
 word_has_code (Shift op f3 f6 rd rs1 count) code h =
     let c : (op < 128) × (f3 < 8) × (f6 < 64) = all_less _ _ _ _ _ _ code in
-    let w : ℕ = word (Shift op f3 f6 rd rs1 count) in
+    let w : ℕ = instruction_word (Shift op f3 f6 rd rs1 count) in
     let e : (opcode_of w ≡ op) × (funct3_of w ≡ f3) × (funct6_of w ≡ f6) = (omega arith, omega arith, omega arith) in
     three_tests _ _ _ _ _ _ e.0 e.1 e.2
 word_has_code (ShiftW op f3 f7 rd rs1 count) code h =
     let c : (op < 128) × (f3 < 8) × (f7 < 128) = all_less _ _ _ _ _ _ code in
-    let w : ℕ = word (ShiftW op f3 f7 rd rs1 count) in
+    let w : ℕ = instruction_word (ShiftW op f3 f7 rd rs1 count) in
     let e : (opcode_of w ≡ op) × (funct3_of w ≡ f3) × (funct7_of w ≡ f7) = (omega arith, omega arith, omega arith) in
     three_tests _ _ _ _ _ _ e.0 e.1 e.2
 word_has_code (S op f3 rs1 rs2 imm) code h =
     let c : (op < 128) × (f3 < 8) = both_less _ _ _ _ code in
     let p : pattern (2 ^ 12) imm < 2 ^ 12 = pattern_fits (2 ^ 11) imm h.2 in
-    let w : ℕ = word (S op f3 rs1 rs2 imm) in
+    let w : ℕ = instruction_word (S op f3 rs1 rs2 imm) in
     let e : (opcode_of w ≡ op) × (funct3_of w ≡ f3) = (omega arith, omega arith) in
     two_tests _ _ _ _ e.0 e.1
 word_has_code (B op f3 rs1 rs2 imm) code h =
     let c : (op < 128) × (f3 < 8) = both_less _ _ _ _ code in
     let p : pattern (2 ^ 13) imm < 2 ^ 13 = pattern_fits (2 ^ 12) imm h.2 in
-    let w : ℕ = word (B op f3 rs1 rs2 imm) in
+    let w : ℕ = instruction_word (B op f3 rs1 rs2 imm) in
     let e : (opcode_of w ≡ op) × (funct3_of w ≡ f3) = (omega arith, omega arith) in
     two_tests _ _ _ _ e.0 e.1
 word_has_code (U op rd imm) code h =
     let c : op < 128 = less op 128 code in
     let p : pattern (2 ^ 20) imm < 2 ^ 20 = pattern_fits (2 ^ 19) imm h.1 in
-    let e : opcode_of (word (U op rd imm)) ≡ op = omega arith in one_test _ _ e
+    let e : opcode_of (instruction_word (U op rd imm)) ≡ op = omega arith in one_test _ _ e
 word_has_code (J op rd imm) code h =
     let c : op < 128 = less op 128 code in
     let p : pattern (2 ^ 21) imm < 2 ^ 21 = pattern_fits (2 ^ 20) imm h.1 in
-    let e : opcode_of (word (J op rd imm)) ≡ op = omega arith in one_test _ _ e
+    let e : opcode_of (instruction_word (J op rd imm)) ≡ op = omega arith in one_test _ _ e
 word_has_code (Free op f3 n) code h = first_two (opcode_of n) op (funct3_of n) f3 (nat_lt n (2 ^ 32)) code
 word_has_code (Exact n) code h = one_test n n refl
 
@@ -167,7 +167,7 @@ stands_for : (sign n : ℕ) (imm : ℤ) → FitsField sign imm → n ≡ pattern
 stands_for sign n imm fits e = ap (sign_extend sign) e ∙ sign_extend-pattern sign imm fits
 
 -- and its operands in their places
-pub word_has_operands : (r : Row) → fits_code r ≡ true → Fits r → HasOperands (word r) r
+pub word_has_operands : (r : Row) → fits_code r ≡ true → Fits r → HasOperands (instruction_word r) r
 word_has_operands (R op f3 f7 rd rs1 rs2) code h =
     let c : (op < 128) × (f3 < 8) × (f7 < 128) = all_less _ _ _ _ _ _ code in
     (omega arith, omega arith, omega arith)
@@ -202,8 +202,8 @@ word_has_operands (J op rd imm) code h =
 word_has_operands (Free op f3 n) code h = tt
 word_has_operands (Exact n) code h = tt
 
--- and it is a word of 32 bits
-pub word_fits : (r : Row) → fits_code r ≡ true → Fits r → word r < 2 ^ 32
+-- and it is a instruction_word of 32 bits
+pub word_fits : (r : Row) → fits_code r ≡ true → Fits r → instruction_word r < 2 ^ 32
 word_fits (R op f3 f7 rd rs1 rs2) code h =
     let c : (op < 128) × (f3 < 8) × (f7 < 128) = all_less _ _ _ _ _ _ code in
     omega arith

@@ -6,11 +6,11 @@ use Rattle.pw_base.proofs.Bytes.{le-le_bytes}
 use Rattle.pw_mem.specs.declared.errors.Access.TheVariants.{Misaligned}
 use Rattle.pw_mem.specs.Regions.{MappedRegion, region_at, bytes_at, written}
 use Rattle.pw_mem.specs.Memory.{Mem, may_store, number_in, load, store, fetch}
-use Rattle.pw_mem.specs.Words.{word_in, word, put_word}
+use Rattle.pw_mem.specs.Words.{word_in, doubleword, put_word}
 use Rattle.pw_mem.proofs.Bytes.{bytes_at-with_bytes, bytes_at-with_other}
 use Rattle.pw_mem.proofs.Regions.{view-written, region_at-written, region_at-holds}
 
--- what an address that has a word says of the memory
+-- what an address that has a doubleword says of the memory
 pub record HasWord (m : Mem) (a v : ℕ) : Type 0 where
   pub region : MappedRegion
   pub found : region_at m.regions a 8 ≡ Some region
@@ -32,19 +32,19 @@ word_of_test : (m : Mem) (a v : ℕ) (t : Bool) → eqb (a % 8) 0 ≡ t → cond
 word_of_test m a v true even h = word_of_region m a v even (region_at m.regions a 8) refl h
 word_of_test m a v false even h = cc
 
-pub has_word : (m : Mem) (a v : ℕ) → word m a ≡ Some v → HasWord m a v
+pub has_word : (m : Mem) (a v : ℕ) → doubleword m a ≡ Some v → HasWord m a v
 has_word m a v h = word_of_test m a v (eqb (a % 8) 0) refl h
 
--- a word is what a load of 8 bytes gives
-pub load_word : (m : Mem) (a v : ℕ) → word m a ≡ Some v → load m a 8 ≡ Ok v
+-- a doubleword is what a load of 8 bytes gives
+pub load_word : (m : Mem) (a v : ℕ) → doubleword m a ≡ Some v → load m a 8 ≡ Ok v
 load_word m a v h = let w = has_word m a v h in rw (w.aligned, w.found, w.readable, w.value) refl
 
 -- and a store of 8 bytes puts another in its place
-pub store_word : (m : Mem) (a v x : ℕ) → word m a ≡ Some v → store m a 8 x ≡ Ok (put_word m a x)
+pub store_word : (m : Mem) (a v x : ℕ) → doubleword m a ≡ Some v → store m a 8 x ≡ Ok (put_word m a x)
 store_word m a v x h = let w = has_word m a v h in rw (w.aligned, w.found, w.storable) refl
 
--- which is the word then
-pub word-put_same : (m : Mem) (a v x : ℕ) → x < 2 ^ 64 → word m a ≡ Some v → word (put_word m a x) a ≡ Some x
+-- which is the doubleword then
+pub word-put_same : (m : Mem) (a v x : ℕ) → x < 2 ^ 64 → doubleword m a ≡ Some v → doubleword (put_word m a x) a ≡ Some x
 word-put_same m a v x small h =
     let w = has_word m a v h in
     let held = region_at-holds m.regions a 8 w.region w.found in
@@ -63,7 +63,7 @@ number_from_view allowed b n None (Some r) e = cc
 number_from_view allowed b n (Some q) None e = cc
 number_from_view allowed b n (Some q) (Some r) e = cc
 
--- another word stays
+-- another doubleword stays
 word_at_other : (m : Mem) (a b v x : ℕ) → HasWord m a v → a ≢ b → (t : Bool) → eqb (b % 8) 0 ≡ t → cond t (word_in m.sealed (region_at (written m.regions a (le_bytes 8 x)) b 8) b) None ≡ cond t (word_in m.sealed (region_at m.regions b 8) b) None
 word_at_other m a b v x w apart false even = refl
 word_at_other m a b v x w apart true even =
@@ -72,10 +72,10 @@ word_at_other m a b v x w apart true even =
     word_from_view m.sealed b _ _ (view-written (λ r. word_in m.sealed (Some r) b) a b 8 (le_bytes 8 x) m.regions (λ r found held.
     rw (bytes_at-with_other r a b 8 (le_bytes 8 x) (region_at-holds m.regions a 8 r found) held beside) refl))
 
-pub word-put_other : (m : Mem) (a b v x : ℕ) → word m a ≡ Some v → a ≢ b → word (put_word m a x) b ≡ word m b
+pub word-put_other : (m : Mem) (a b v x : ℕ) → doubleword m a ≡ Some v → a ≢ b → doubleword (put_word m a x) b ≡ doubleword m b
 word-put_other m a b v x h apart = word_at_other m a b v x (has_word m a v h) apart (eqb (b % 8) 0) refl
 
--- after the seal a word is outside the text, so storing one changes no instruction
+-- after the seal a doubleword is outside the text, so storing one changes no instruction
 not_text : (write execute : Bool) → write && not (true && execute) ≡ true → execute ≡ false
 not_text true true h = cc
 not_text true false h = refl
@@ -88,5 +88,5 @@ fetch_after m a b v x w sealed true =
     let same : r ≡ w.region = cc in
     let plain : r.execute ≡ false = rw same (not_text w.region.write w.region.execute (rw sealed at w.storable)) in rw plain refl))
 
-pub fetch-put_word : (m : Mem) (a b v x : ℕ) → m.sealed ≡ true → word m a ≡ Some v → fetch (put_word m a x) b ≡ fetch m b
+pub fetch-put_word : (m : Mem) (a b v x : ℕ) → m.sealed ≡ true → doubleword m a ≡ Some v → fetch (put_word m a x) b ≡ fetch m b
 fetch-put_word m a b v x sealed h = fetch_after m a b v x (has_word m a v h) sealed (eqb (b % 4) 0)

@@ -2,29 +2,29 @@
 use Rattle.std.specs.Prelude.{◌≡◌, ◌≢◌, ℕ, ◌+◌, ◌*◌, ◌%◌, ◌^◌, ◌<◌, true, List, ◌++◌, length, slice_index, Some, Ok}
 use Rattle.pw_mem.specs.Regions.{MappedRegion, region_at}
 use Rattle.pw_mem.specs.Memory.{Mem, load, store, fetch}
-use Rattle.pw_mem.specs.Words.{word, put_word, text_bytes}
+use Rattle.pw_mem.specs.Words.{doubleword, put_word, text_bytes}
 
--- a word is what a load of 8 bytes gives
+-- a doubleword is what a load of 8 bytes gives
 abbrev pub WordsAreLoaded : Type 0
-WordsAreLoaded = (m : Mem) (a v : ℕ) → word m a ≡ Some v → load m a 8 ≡ Ok v
+WordsAreLoaded = (m : Mem) (a v : ℕ) → doubleword m a ≡ Some v → load m a 8 ≡ Ok v
 
 -- a store of 8 bytes puts another in its place
 abbrev pub WordsAreStored : Type 0
-WordsAreStored = (m : Mem) (a v x : ℕ) → word m a ≡ Some v → store m a 8 x ≡ Ok (put_word m a x)
+WordsAreStored = (m : Mem) (a v x : ℕ) → doubleword m a ≡ Some v → store m a 8 x ≡ Ok (put_word m a x)
 
--- which is the word there then
+-- which is the doubleword there then
 abbrev pub StoredWordsAreRead : Type 0
-StoredWordsAreRead = (m : Mem) (a v x : ℕ) → x < 2 ^ 64 → word m a ≡ Some v → word (put_word m a x) a ≡ Some x
+StoredWordsAreRead = (m : Mem) (a v x : ℕ) → x < 2 ^ 64 → doubleword m a ≡ Some v → doubleword (put_word m a x) a ≡ Some x
 
--- and every other word stays
+-- and every other doubleword stays
 abbrev pub OtherWordsStay : Type 0
-OtherWordsStay = (m : Mem) (a b v x : ℕ) → word m a ≡ Some v → a ≢ b → word (put_word m a x) b ≡ word m b
+OtherWordsStay = (m : Mem) (a b v x : ℕ) → doubleword m a ≡ Some v → a ≢ b → doubleword (put_word m a x) b ≡ doubleword m b
 
--- once the memory is sealed, storing a word changes no instruction
+-- once the memory is sealed, storing a doubleword changes no instruction
 abbrev pub WordsAreNoText : Type 0
-WordsAreNoText = (m : Mem) (a b v x : ℕ) → m.sealed ≡ true → word m a ≡ Some v → fetch (put_word m a x) b ≡ fetch m b
+WordsAreNoText = (m : Mem) (a b v x : ℕ) → m.sealed ≡ true → doubleword m a ≡ Some v → fetch (put_word m a x) b ≡ fetch m b
 
--- instruction word `k` of the text that an executable region begins with is fetched from its place
+-- instruction doubleword `k` of the text that an executable region begins with is fetched from its place
 abbrev pub TextIsFetched : Type 0
 TextIsFetched =
     (m : Mem) (r : MappedRegion) (ws pad : List ℕ) (k : ℕ) → region_at m.regions (r.start + 4 * k) 4 ≡ Some r → r.execute ≡ true

@@ -10,11 +10,11 @@ word_in sealed None at = None
 word_in sealed (Some region) at =
     if region.read && may_store sealed region then Some (le (bytes_at region at 8)) else None
 
--- the word at an address, where there is one
-abbrev pub word : Mem → ℕ → Option ℕ
-word m at = if at % 8 == 0 then word_in m.sealed (region_at m.regions at 8) at else None
+-- the doubleword at an address, where there is one
+abbrev pub doubleword : Mem → ℕ → Option ℕ
+doubleword m at = if at % 8 == 0 then word_in m.sealed (region_at m.regions at 8) at else None
 
--- the memory with another word at an address that has one
+-- the memory with another doubleword at an address that has one
 abbrev pub put_word : Mem → ℕ → ℕ → Mem
 put_word m at value = with_regions m (written m.regions at (le_bytes 8 value))
 

@@ -3,7 +3,7 @@ use Rattle.std.proofs.Common.{◌≡◌, refl, ◌∙◌, ℕ, suc, Bool, true, 
 use Rattle.pw_grammar.specs.declared.sort.Sort.{Sort}
 use Rattle.pw_grammar.specs.declared.sort.Sort.TheVariants as s
 use Rattle.pw_grammar.specs.Statements.{first_line}
-use Rattle.pw_grammar.specs.Steps.{Place, Outcome, Parser, and_then, pure, sees, next_sort, skip, expect, finish_statement}
+use Rattle.pw_grammar.specs.Steps.{Position, ReadResult, Parser, and_then, pure, sees, next_sort, skip, expect, finish_statement}
 use Rattle.pw_grammar.specs.ReadingExpressions.{expression}
 use Rattle.pw_grammar.specs.ReadingStatements as r
 use Rattle.pw_parse.specs.Heads as p
@@ -19,12 +19,12 @@ use Rattle.pw_tree.specs.declared.stmt.StmtKind.TheVariants as k
 
 -- ---- one reader after another
 
-pub then_then : {A B C : Type 0} (o : Outcome A) (g : A → Parser B) (e : B → Parser C)
+pub then_then : {A B C : Type 0} (o : ReadResult A) (g : A → Parser B) (e : B → Parser C)
     → and_then (and_then o g) e ≡ and_then o (λ a i. and_then (g a i) e)
 then_then (Ok q) g e = refl
 then_then (Err x) g e = refl
 
-pub same_then : {A B : Type 0} (o : Outcome A) (g e : A → Parser B) → ((a : A) (i : Place) → g a i ≡ e a i) → and_then o g ≡ and_then o e
+pub same_then : {A B : Type 0} (o : ReadResult A) (g e : A → Parser B) → ((a : A) (i : Position) → g a i ≡ e a i) → and_then o g ≡ and_then o e
 same_then (Ok q) g e same = same q.0 q.1
 same_then (Err x) g e same = refl
 
@@ -37,18 +37,18 @@ follow expr stmt (f.Head head) = λ i. and_then (stmt i) (p.close expr stmt head
 
 -- ---- a statement that begins with a head
 
-abbrev some_of : Outcome HeadForm → Outcome (Option HeadForm)
+abbrev some_of : ReadResult HeadForm → ReadResult (Option HeadForm)
 some_of q = and_then q (λ form. pure (Some form))
 
-record Begins (expr : Parser Expr) (stmt : Parser Stmt) (n first line : ℕ) (x : Sort) (o : Outcome StmtKind) (q : Outcome HeadForm) : Type 0 where
+record Begins (expr : Parser Expr) (stmt : Parser Stmt) (n first line : ℕ) (x : Sort) (o : ReadResult StmtKind) (q : ReadResult HeadForm) : Type 0 where
   is : and_then o (finish_statement first line) ≡ and_then (and_then (some_of q) (p.fronted expr stmt n first line x)) (follow expr stmt)
 
-begins : {A : Type 0} (expr : Parser Expr) (stmt : Parser Stmt) (n first line : ℕ) (x : Sort) (o : Outcome A) (g : A → Parser StmtKind) (e : A → Parser HeadForm)
-    → ((a : A) (i : Place) → Begins expr stmt n first line x (g a i) (e a i)) → Begins expr stmt n first line x (and_then o g) (and_then o e)
+begins : {A : Type 0} (expr : Parser Expr) (stmt : Parser Stmt) (n first line : ℕ) (x : Sort) (o : ReadResult A) (g : A → Parser StmtKind) (e : A → Parser HeadForm)
+    → ((a : A) (i : Position) → Begins expr stmt n first line x (g a i) (e a i)) → Begins expr stmt n first line x (and_then o g) (and_then o e)
 begins expr stmt n first line x (Ok q) g e same = same q.0 q.1
 begins expr stmt n first line x (Err _) g e same = record { is = refl }
 
-if_begins : (expr : Parser Expr) (stmt : Parser Stmt) (n first line : ℕ) (x : Sort) (i : Place)
+if_begins : (expr : Parser Expr) (stmt : Parser Stmt) (n first line : ℕ) (x : Sort) (i : Position)
     → Begins expr stmt n first line x (r.conditional expr stmt i) (p.if_head expr i)
 unfolding r.conditional p.if_head p.close
 if_begins expr stmt n first line x i =
@@ -57,7 +57,7 @@ if_begins expr stmt n first line x i =
           then_then (stmt l) _ _ ∙ same_then (stmt l) _ _ (λ y m. then_then (r.maybe_else stmt m) _ _);
     }))
 
-while_begins : (expr : Parser Expr) (stmt : Parser Stmt) (n first line : ℕ) (x : Sort) (i : Place)
+while_begins : (expr : Parser Expr) (stmt : Parser Stmt) (n first line : ℕ) (x : Sort) (i : Position)
     → Begins expr stmt n first line x (r.while_loop expr stmt i) (p.while_head expr i)
 unfolding r.while_loop p.while_head p.close
 while_begins expr stmt n first line x i =
@@ -66,7 +66,7 @@ while_begins expr stmt n first line x i =
           then_then (stmt l) _ _;
     }))
 
-do_begins : (expr : Parser Expr) (stmt : Parser Stmt) (n first line : ℕ) (x : Sort) (i : Place)
+do_begins : (expr : Parser Expr) (stmt : Parser Stmt) (n first line : ℕ) (x : Sort) (i : Position)
     → Begins expr stmt n first line x (r.do_loop expr stmt i) (p.do_head i)
 unfolding r.do_loop p.do_head p.close
 do_begins expr stmt n first line x i =
@@ -77,7 +77,7 @@ do_begins expr stmt n first line x i =
           ∙ same_then (r.test expr m) _ _ (λ a q. then_then (expect s.Semicolon q) _ _)));
     })
 
-for_begins : (expr : Parser Expr) (stmt : Parser Stmt) (n first line : ℕ) (x : Sort) (i : Place)
+for_begins : (expr : Parser Expr) (stmt : Parser Stmt) (n first line : ℕ) (x : Sort) (i : Position)
     → Begins expr stmt n first line x (r.for_loop expr stmt i) (p.for_head expr i)
 unfolding r.for_loop p.for_head p.close
 for_begins expr stmt n first line x i =
@@ -91,12 +91,12 @@ for_begins expr stmt n first line x i =
 
 -- ---- every statement
 
-headless : (expr : Parser Expr) (stmt : Parser Stmt) (first line : ℕ) (o : Outcome StmtKind)
+headless : (expr : Parser Expr) (stmt : Parser Stmt) (first line : ℕ) (o : ReadResult StmtKind)
     → and_then o (finish_statement first line) ≡ and_then (and_then o (p.whole first line)) (follow expr stmt)
 headless expr stmt first line (Ok q) = refl
 headless expr stmt first line (Err e) = refl
 
-front_of_form : (expr : Parser Expr) (stmt : Parser Stmt) (n first line : ℕ) (x : Sort) (i : Place)
+front_of_form : (expr : Parser Expr) (stmt : Parser Stmt) (n first line : ℕ) (x : Sort) (i : Position)
     → and_then (r.form_by expr stmt n x i) (finish_statement first line) ≡ and_then (p.front_by expr stmt n first line x i) (follow expr stmt)
 unfolding r.some
 front_of_form expr stmt n first line s.If i = (if_begins expr stmt n first line s.If i).is
@@ -111,21 +111,21 @@ front_of_form expr stmt n first line s.Continue i = headless expr stmt first lin
 front_of_form expr stmt n first line _ i = headless expr stmt first line (r.evaluated expr i)
 
 -- a statement is its front and what follows
-pub statement_front : (n : ℕ) (i : Place) → r.statement (suc n) i
+pub statement_front : (n : ℕ) (i : Position) → r.statement (suc n) i
     ≡ and_then (p.front (expression (suc n)) (r.statement n) (suc n) i) (follow (expression (suc n)) (r.statement n))
 unfolding r.statement r.whole r.form p.front
 statement_front n i = front_of_form (expression (suc n)) (r.statement n) (suc n) i.at (first_line i.rest) (next_sort i) i
 
 -- ---- what follows the statement of a head
 
-behind_else : (expr : Parser Expr) (stmt : Parser Stmt) (first line : ℕ) (a : Expr) (y : Stmt) (o : Outcome ℕ)
+behind_else : (expr : Parser Expr) (stmt : Parser Stmt) (first line : ℕ) (a : Expr) (y : Stmt) (o : ReadResult ℕ)
     → and_then (and_then o (λ _ j. and_then (stmt j) (λ z. pure (Some z)))) (λ z. finish_statement first line (k.If a y z))
     ≡ and_then (and_then o (λ _. pure (f.Head (record { first = first; line = line; form = h.Else a y })))) (follow expr stmt)
 unfolding p.close
 behind_else expr stmt first line a y (Ok q) = then_then (stmt q.1) _ _
 behind_else expr stmt first line a y (Err e) = refl
 
-maybe_behind : (expr : Parser Expr) (stmt : Parser Stmt) (first line : ℕ) (a : Expr) (y : Stmt) (i : Place) (b : Bool)
+maybe_behind : (expr : Parser Expr) (stmt : Parser Stmt) (first line : ℕ) (a : Expr) (y : Stmt) (i : Position) (b : Bool)
     → and_then (if b then r.alternative stmt i else Ok (None, i)) (λ z. finish_statement first line (k.If a y z))
     ≡ and_then (if b then p.else_head first line a y i else p.whole first line (k.If a y None) i) (follow expr stmt)
 unfolding r.alternative p.else_head
@@ -133,15 +133,15 @@ maybe_behind expr stmt first line a y i true = behind_else expr stmt first line 
 maybe_behind expr stmt first line a y i false = refl
 
 -- a statement that ends with its head's statement and more
-record Ends (expr : Parser Expr) (stmt : Parser Stmt) (first line : ℕ) (o : Outcome Stmt) (q : Outcome StmtKind) : Type 0 where
+record Ends (expr : Parser Expr) (stmt : Parser Stmt) (first line : ℕ) (o : ReadResult Stmt) (q : ReadResult StmtKind) : Type 0 where
   is : o ≡ and_then (and_then q (p.whole first line)) (follow expr stmt)
 
-ends : {A : Type 0} (expr : Parser Expr) (stmt : Parser Stmt) (first line : ℕ) (o : Outcome A) (g : A → Parser Stmt) (e : A → Parser StmtKind)
-    → ((a : A) (i : Place) → Ends expr stmt first line (g a i) (e a i)) → Ends expr stmt first line (and_then o g) (and_then o e)
+ends : {A : Type 0} (expr : Parser Expr) (stmt : Parser Stmt) (first line : ℕ) (o : ReadResult A) (g : A → Parser Stmt) (e : A → Parser StmtKind)
+    → ((a : A) (i : Position) → Ends expr stmt first line (g a i) (e a i)) → Ends expr stmt first line (and_then o g) (and_then o e)
 ends expr stmt first line (Ok q) g e same = same q.0 q.1
 ends expr stmt first line (Err _) g e same = record { is = refl }
 
-behind_do : (expr : Parser Expr) (stmt : Parser Stmt) (first line : ℕ) (y : Stmt) (i : Place)
+behind_do : (expr : Parser Expr) (stmt : Parser Stmt) (first line : ℕ) (y : Stmt) (i : Position)
     → Ends expr stmt first line (p.close_by expr stmt first line h.Do y i) (p.do_end expr y i)
 unfolding p.do_end
 behind_do expr stmt first line y i =
@@ -149,7 +149,7 @@ behind_do expr stmt first line y i =
     ends expr stmt first line (r.test expr j) _ _ (λ a l.
     ends expr stmt first line (expect s.Semicolon l) _ _ (λ e m. record { is = refl })))
 
-closes_by : (expr : Parser Expr) (stmt : Parser Stmt) (first line : ℕ) (form : HeadForm) (y : Stmt) (i : Place)
+closes_by : (expr : Parser Expr) (stmt : Parser Stmt) (first line : ℕ) (form : HeadForm) (y : Stmt) (i : Position)
     → p.close_by expr stmt first line form y i ≡ and_then (p.closed_by expr first line form y i) (follow expr stmt)
 unfolding r.maybe_else
 closes_by expr stmt first line (h.If a) y i = maybe_behind expr stmt first line a y i (sees s.Else i)
@@ -158,7 +158,7 @@ closes_by expr stmt first line (h.While a) y i = refl
 closes_by expr stmt first line h.Do y i = (behind_do expr stmt first line y i).is
 closes_by expr stmt first line (h.For x a z) y i = refl
 
-pub closes : (expr : Parser Expr) (stmt : Parser Stmt) (head : Head) (y : Stmt) (i : Place)
+pub closes : (expr : Parser Expr) (stmt : Parser Stmt) (head : Head) (y : Stmt) (i : Position)
     → p.close expr stmt head y i ≡ and_then (p.closed expr head y i) (follow expr stmt)
 unfolding p.close p.closed
 closes expr stmt head y i = closes_by expr stmt head.first head.line head.form y i

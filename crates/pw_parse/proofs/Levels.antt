@@ -1,10 +1,10 @@
 -- An expression of a level is a chain of operands of the level below.
 use Rattle.std.proofs.Common.{◌≡◌, ℕ, suc, ◌+◌, ◌-◌, ◌<◌, ◌≤◌, sym, ap, ◌∙◌, arith}
-use Rattle.pw_grammar.specs.Steps.{Place, Parser, and_then, refuse}
+use Rattle.pw_grammar.specs.Steps.{Position, Parser, and_then, refuse}
 use Rattle.pw_grammar.specs.ReadingExpressions.{level, chain, prefix, choice, expression}
 use Rattle.pw_tree.specs.declared.expr.Expr.{Expr}
 
-pub looser : (expr : Parser Expr) (n l : ℕ) (i : Place) → 2 < l
+pub looser : (expr : Parser Expr) (n l : ℕ) (i : Position) → 2 < l
     → level expr n (l - 2) i ≡ and_then (level expr n (l - 1 - 2) i) (chain l (level expr n (l - 1 - 2)) n i.at)
 unfolding level
 looser expr n l i above =
@@ -13,17 +13,17 @@ looser expr n l i above =
     let same : suc k + 2 ≡ l = omega (arith, above) in
     ap (λ m. level expr n m i) one_more ∙ ap (λ m. and_then (level expr n k i) (chain m (level expr n k) n i.at)) same
 
-pub tightest : (expr : Parser Expr) (n l : ℕ) (i : Place) → l ≤ 2 → prefix expr n i ≡ level expr n (l - 2) i
+pub tightest : (expr : Parser Expr) (n l : ℕ) (i : Position) → l ≤ 2 → prefix expr n i ≡ level expr n (l - 2) i
 unfolding level
 tightest expr n l i below = let none : 0 ≡ l - 2 = omega (arith, below) in ap (λ m. level expr n m i) none
 
 -- an expression is a choice of expressions that nest less deep
-pub less_deep : (n : ℕ) (i : Place) → 0 < n → choice (expression (n - 1)) n i ≡ expression n i
+pub less_deep : (n : ℕ) (i : Position) → 0 < n → choice (expression (n - 1)) n i ≡ expression n i
 unfolding expression
 less_deep n i above =
     let one_more : n ≡ suc (n - 1) = omega (arith, above) in
     ap (λ m. choice (expression (n - 1)) m i) one_more ∙ ap (λ m. expression m i) (sym one_more)
 
-pub too_deep : (n : ℕ) (i : Place) → n ≡ 0 → expression n i ≡ refuse i
+pub too_deep : (n : ℕ) (i : Position) → n ≡ 0 → expression n i ≡ refuse i
 unfolding expression
 too_deep n i none = ap (λ m. expression m i) none

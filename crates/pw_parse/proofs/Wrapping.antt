@@ -1,7 +1,7 @@
 -- Prefix operators, from the innermost on.
 use Rattle.std.proofs.Common.{◌≡◌, ℕ, zero, suc, ◌+◌, ◌-◌, ◌≤◌, List, [], ◌∷◌, ◌++◌, length, length-append, Option, Some, None, Ok, Err, ap, ◌∙◌, sym, refl, arith}
 use Rattle.pw_lex.specs.declared.token.Token.{Token}
-use Rattle.pw_grammar.specs.Steps.{Place, Outcome, take, take_from, skip, and_then, pure, on_option, next_sort}
+use Rattle.pw_grammar.specs.Steps.{Position, ReadResult, take, take_from, skip, and_then, pure, on_option, next_sort}
 use Rattle.pw_grammar.specs.Terminals.{prefix_of}
 use Rattle.pw_grammar.specs.ReadingExpressions.{wrapped, prefix_by, prefix_operator, operators}
 use Rattle.pw_tree.specs.declared.operator.Un.{Un}
@@ -42,20 +42,20 @@ none_inner at last ops a done h = sym (h ∙ ap (λ l. wrapped (at - length l) l
 
 -- ---- how far the operators reach
 
-same_pair : {A : Type 0} (a b : A) (i j : Place) → ◌≡◌ {A = Outcome A} (Ok (a, i)) (Ok (b, j)) → ◌≡◌ {A = A × Place} (a, i) (b, j)
+same_pair : {A : Type 0} (a b : A) (i j : Position) → ◌≡◌ {A = ReadResult A} (Ok (a, i)) (Ok (b, j)) → ◌≡◌ {A = A × Position} (a, i) (b, j)
 same_pair a b i j h = cc
 
-same_value : {A : Type 0} {a b : A} {i j : Place} → ◌≡◌ {A = Outcome A} (Ok (a, i)) (Ok (b, j)) → a ≡ b
-same_value {A} {a} {b} {i} {j} h = let first : A × Place → A = λ p. p.0 in ap first (same_pair a b i j h)
+same_value : {A : Type 0} {a b : A} {i j : Position} → ◌≡◌ {A = ReadResult A} (Ok (a, i)) (Ok (b, j)) → a ≡ b
+same_value {A} {a} {b} {i} {j} h = let first : A × Position → A = λ p. p.0 in ap first (same_pair a b i j h)
 
-same_place : {A : Type 0} {a b : A} {i j : Place} → ◌≡◌ {A = Outcome A} (Ok (a, i)) (Ok (b, j)) → i ≡ j
-same_place {A} {a} {b} {i} {j} h = let second : A × Place → Place = λ p. p.1 in ap second (same_pair a b i j h)
+same_place : {A : Type 0} {a b : A} {i j : Position} → ◌≡◌ {A = ReadResult A} (Ok (a, i)) (Ok (b, j)) → i ≡ j
+same_place {A} {a} {b} {i} {j} h = let second : A × Position → Position = λ p. p.1 in ap second (same_pair a b i j h)
 
 abbrev count : Option (Un × ℕ) → ℕ
 count None = 0
 count (Some op) = 1
 
-counted_skip : (op : Un) (at : ℕ) (ts : List Token) (x : Option (Un × ℕ)) (j : Place)
+counted_skip : (op : Un) (at : ℕ) (ts : List Token) (x : Option (Un × ℕ)) (j : Position)
     → and_then (and_then (take_from at ts) (λ t. pure t.line)) (λ line. pure (Some (op, line))) ≡ Ok (x, j) → j.at ≡ at + count x
 unfolding take_from
 counted_skip op at [] x j h = cc
@@ -64,7 +64,7 @@ counted_skip op at (t ∷ ts) x j h =
     let one : 1 ≡ count x = ap count (same_value h) in
     omega (arith, place, one)
 
-counted_by : (o : Option Un) (i : Place) (x : Option (Un × ℕ)) (j : Place) → prefix_by o i ≡ Ok (x, j) → j.at ≡ i.at + count x
+counted_by : (o : Option Un) (i : Position) (x : Option (Un × ℕ)) (j : Position) → prefix_by o i ≡ Ok (x, j) → j.at ≡ i.at + count x
 unfolding skip take
 counted_by None i x j h =
     let place : i.at ≡ j.at = ap (λ k. k.at) (same_place h) in
@@ -72,9 +72,9 @@ counted_by None i x j h =
     omega (arith, place, none)
 counted_by (Some op) i x j h = counted_skip op i.at i.rest x j h
 
-counted_next : (n : ℕ) → ((found : List (Un × ℕ)) (i : Place) (ops : List (Un × ℕ)) (j : Place) → operators n found i ≡ Ok (ops, j) → i.at + length ops ≡ j.at + length found)
-    → (found : List (Un × ℕ)) (i : Place) (ops : List (Un × ℕ)) (j : Place) (r : Outcome (Option (Un × ℕ)))
-    → ((x : Option (Un × ℕ)) (k : Place) → r ≡ Ok (x, k) → k.at ≡ i.at + count x)
+counted_next : (n : ℕ) → ((found : List (Un × ℕ)) (i : Position) (ops : List (Un × ℕ)) (j : Position) → operators n found i ≡ Ok (ops, j) → i.at + length ops ≡ j.at + length found)
+    → (found : List (Un × ℕ)) (i : Position) (ops : List (Un × ℕ)) (j : Position) (r : ReadResult (Option (Un × ℕ)))
+    → ((x : Option (Un × ℕ)) (k : Position) → r ≡ Ok (x, k) → k.at ≡ i.at + count x)
     → and_then r (λ x. on_option x (pure found) (λ op. operators n (found ++ op ∷ []))) ≡ Ok (ops, j)
     → i.at + length ops ≡ j.at + length found
 counted_next n rest found i ops j (Err e) reach h = cc
@@ -89,7 +89,7 @@ counted_next n rest found i ops j (Ok (Some op, k)) reach h =
     let more = length-append found (op ∷ []) in
     omega (arith, behind, one, more)
 
-pub counted : (n : ℕ) (found : List (Un × ℕ)) (i : Place) (ops : List (Un × ℕ)) (j : Place)
+pub counted : (n : ℕ) (found : List (Un × ℕ)) (i : Position) (ops : List (Un × ℕ)) (j : Position)
     → operators n found i ≡ Ok (ops, j) → i.at + length ops ≡ j.at + length found
 unfolding operators prefix_operator
 counted zero found i ops j h =

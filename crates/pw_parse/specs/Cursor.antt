@@ -1,9 +1,9 @@
 -- What a cursor shows, and what bounds it.
 use Rattle.std.specs.Prelude.{◌+◌, ◌^◌, ◌<◌, length}
 use Rattle.pw_parse.specs.declared.cursor.Cursor.TheInside.{Inside}
-use Rattle.pw_grammar.specs.Steps.{Place}
+use Rattle.pw_grammar.specs.Steps.{Position}
 
-abbrev pub place_of : Inside → Place
+abbrev pub place_of : Inside → Position
 place_of c = record { at = c.at; rest = c.rest.now }
 
 -- the number of each token, and of the end, has 32 bits

@@ -2,7 +2,7 @@
 use Rattle.std.specs.Prelude.{◌≡◌, ◌≢◌, ℕ, ◌-◌, List, [], ◌∷◌, length, Option, Some, None, Result, Ok, Err}
 use Rattle.pw_grammar.specs.declared.error.SyntaxError.{SyntaxError}
 use Rattle.pw_grammar.specs.declared.error.SyntaxError.TheVariants.{NoMemory}
-use Rattle.pw_grammar.specs.Steps.{Parser, Place, Outcome, and_then}
+use Rattle.pw_grammar.specs.Steps.{Parser, Position, ReadResult, and_then}
 use Rattle.pw_grammar.specs.ReadingExpressions.{expression}
 use Rattle.pw_grammar.specs.ReadingStatements.{statement}
 use Rattle.pw_parse.specs.Heads.{close}
@@ -14,16 +14,16 @@ abbrev pub close_at : ℕ → Head → Stmt → Parser Stmt
 close_at n = close (expression n) (statement (n - 1))
 
 -- the outcome of the outermost statement, from that of the innermost; the outermost head comes first, at depth n
-unfoldable pub resume : ℕ → List Head → Outcome Stmt → Outcome Stmt
+unfoldable pub resume : ℕ → List Head → ReadResult Stmt → ReadResult Stmt
 resume n [] o = o
 resume n (h ∷ hs) o = and_then (resume (n - 1) hs o) (close_at n h)
 
 -- where the innermost statement is still to be read
-abbrev pub unread : ℕ → List Head → Place → Outcome Stmt
+abbrev pub unread : ℕ → List Head → Position → ReadResult Stmt
 unread n hs i = resume n hs (statement (n - length hs) i)
 
 -- what was read: the outermost statement, or up to an `else`
-abbrev pub Resumes : ℕ → Outcome Stmt → Result (Option Stmt) SyntaxError → List Head → Place → Type 0
+abbrev pub Resumes : ℕ → ReadResult Stmt → Result (Option Stmt) SyntaxError → List Head → Position → Type 0
 Resumes n outcome (Ok (Some y)) hs new = outcome ≡ Ok (y, new)
 Resumes n outcome (Ok None) hs new = outcome ≡ unread n hs new
 Resumes n outcome (Err e) hs new = e ≢ NoMemory → outcome ≡ Err e

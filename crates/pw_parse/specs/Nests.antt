@@ -4,11 +4,11 @@ use Rattle.std.specs.declared.alloc.Global.{Global}
 use denote.Ref.{MutBor}
 use Rattle.pw_tree.specs.declared.expr.Expr.{Expr}
 use Rattle.pw_grammar.specs.declared.error.SyntaxError.{SyntaxError}
-use Rattle.pw_grammar.specs.Steps.{Place, Reads}
+use Rattle.pw_grammar.specs.Steps.{Position, Reads}
 use Rattle.pw_grammar.specs.ReadingExpressions.{expression}
 
-pub record Nests (depth : ℕ) (pre : Global → MutBor Place → ℕ → Type 0)
-    (post : Global → MutBor Place → ℕ → Result Expr SyntaxError → MutBor Place → Type 0) : Type 0 where
-  pub callable : (alloc : Global) (old : MutBor Place) → pre alloc old depth
-  pub reads : (alloc : Global) (old new : MutBor Place) (r : Result Expr SyntaxError) → post alloc old depth r new
+pub record Nests (depth : ℕ) (pre : Global → MutBor Position → ℕ → Type 0)
+    (post : Global → MutBor Position → ℕ → Result Expr SyntaxError → MutBor Position → Type 0) : Type 0 where
+  pub callable : (alloc : Global) (old : MutBor Position) → pre alloc old depth
+  pub reads : (alloc : Global) (old new : MutBor Position) (r : Result Expr SyntaxError) → post alloc old depth r new
       → Reads (expression depth old.now) r new.now

@@ -16,5 +16,5 @@ abbrev pub IsFaultless : List Token → Type 0
 IsFaultless tokens = (fault : SyntaxError) → IsFault tokens fault → ⊥
 
 -- the line of a token, or of the end
-abbrev pub line_of : List Token → ℕ → ℕ → ℕ
-line_of tokens end at = slice_index_or (map (λ t. t.line) tokens) at end
+abbrev pub fault_line_of : List Token → ℕ → ℕ → ℕ
+fault_line_of tokens end at = slice_index_or (map (λ t. t.line) tokens) at end

@@ -20,10 +20,10 @@ pub(crate) struct Cursor<'a> {
 }
 
 impl<'a> Model for Cursor<'a> {
-    ghost use Rattle.pw_grammar.specs.Steps.{Place};
+    ghost use Rattle.pw_grammar.specs.Steps.{Position};
     ghost use Rattle.pw_parse.specs.Cursor.{place_of, IsNumbered};
 
-    ghost Value = { Place };
+    ghost Value = { Position };
 
     ghost view = { place_of };
 

@@ -4,7 +4,7 @@ ghost use Rattle.pw_grammar.specs.Declarations.{Derives, lines_of};
 ghost use Rattle.pw_grammar.specs.Faults.{IsFirstFault, IsFault, token_of};
 ghost use Rattle.pw_grammar.specs.Reading as spec;
 ghost use Rattle.pw_grammar.specs.ReadingDeclarations as declarations;
-ghost use Rattle.pw_parse.specs.Whole.{Answers, IsFaultless, line_of};
+ghost use Rattle.pw_parse.specs.Whole.{Answers, IsFaultless, fault_line_of};
 
 use crate::cursor::Cursor;
 use crate::limits::first_limit;
@@ -93,7 +93,7 @@ pub fn parse(alloc: Global, tokens: &[Token]) -> Result<Unit, SyntaxError>
 
 /// The line of a fault: that of its token, or `end_line` where the list ends too early.
 pub fn fault_line(tokens: &[Token], end_line: u32, fault: SyntaxError) -> u32
-    ensures { result ≡ line_of tokens.now end_line (token_of fault) }
+    ensures { result ≡ fault_line_of tokens.now end_line (token_of fault) }
 {
     let at = fault.token() as usize;
     if at < tokens.len() {

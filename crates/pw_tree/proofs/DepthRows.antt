@@ -1,7 +1,7 @@
 -- Worked rows on how deep calls go, computed from the definition.
 use Rattle.std.proofs.Common.{◌≡◌, false, [], ◌∷◌, Some, refl, codes}
-use Rattle.pw_tree.specs.Trees.{constant, local, binary, call, trees}
-use Rattle.pw_tree.specs.Commands.{evaluate, block, if_else, returns, absent, commands}
+use Rattle.pw_tree.specs.TypedExpressions.{constant, local, binary, call, typed_expressions}
+use Rattle.pw_tree.specs.TypedStatements.{evaluate, block, if_else, returns, absent, typed_statements}
 use Rattle.pw_tree.specs.Names.{Project}
 use Rattle.pw_tree.specs.States.{depth, checked, spent}
 use Rattle.pw_tree.specs.Meaning.{meaning, exit, stopped}
@@ -15,11 +15,11 @@ use Rattle.pw_tree.proofs.Programs.{at, external, program, definition, run}
 abbrev a_thousand_calls : Project
 a_thousand_calls = program (
     external (codes "f") Long (Long ∷ []) 1 (
-    (if_else (binary (at 1) Eq false (local (at 1) 0) (constant (at 1) 0)) (block (commands ((returns (Some (constant (at 1) 0))) ∷ []))) absent) ∷
-    (returns (Some (binary (at 1) Add false (call (at 1) (Global (codes "f")) (trees ((binary (at 1) Sub false (local (at 1) 0) (constant (at 1) 1)) ∷ []))) (constant (at 1) 1)))) ∷
+    (if_else (binary (at 1) Eq false (local (at 1) 0) (constant (at 1) 0)) (block (typed_statements ((returns (Some (constant (at 1) 0))) ∷ []))) absent) ∷
+    (returns (Some (binary (at 1) Add false (call (at 1) (Global (codes "f")) (typed_expressions ((binary (at 1) Sub false (local (at 1) 0) (constant (at 1) 1)) ∷ []))) (constant (at 1) 1)))) ∷
     []) ∷
     external (codes "main") Long [] 2 (
-    (returns (Some (call (at 2) (Global (codes "f")) (trees ((constant (at 2) 998) ∷ []))))) ∷
+    (returns (Some (call (at 2) (Global (codes "f")) (typed_expressions ((constant (at 2) 998) ∷ []))))) ∷
     []) ∷
     []) []
 
@@ -32,11 +32,11 @@ a_thousand_calls_may_be_alive = refl
 abbrev one_call_more : Project
 one_call_more = program (
     external (codes "f") Long (Long ∷ []) 1 (
-    (if_else (binary (at 1) Eq false (local (at 1) 0) (constant (at 1) 0)) (block (commands ((returns (Some (constant (at 1) 0))) ∷ []))) absent) ∷
-    (returns (Some (binary (at 1) Add false (call (at 1) (Global (codes "f")) (trees ((binary (at 1) Sub false (local (at 1) 0) (constant (at 1) 1)) ∷ []))) (constant (at 1) 1)))) ∷
+    (if_else (binary (at 1) Eq false (local (at 1) 0) (constant (at 1) 0)) (block (typed_statements ((returns (Some (constant (at 1) 0))) ∷ []))) absent) ∷
+    (returns (Some (binary (at 1) Add false (call (at 1) (Global (codes "f")) (typed_expressions ((binary (at 1) Sub false (local (at 1) 0) (constant (at 1) 1)) ∷ []))) (constant (at 1) 1)))) ∷
     []) ∷
     external (codes "main") Long [] 2 (
-    (returns (Some (call (at 2) (Global (codes "f")) (trees ((constant (at 2) 999) ∷ []))))) ∷
+    (returns (Some (call (at 2) (Global (codes "f")) (typed_expressions ((constant (at 2) 999) ∷ []))))) ∷
     []) ∷
     []) []
 
@@ -53,12 +53,12 @@ two_calls_more = program (
     (returns (Some (constant (at 1) 0))) ∷
     []) ∷
     external (codes "f") Long (Long ∷ []) 2 (
-    (if_else (binary (at 2) Eq false (local (at 2) 0) (constant (at 2) 0)) (block (commands ((returns (Some (constant (at 2) 0))) ∷ []))) absent) ∷
-    (returns (Some (binary (at 2) Add false (call (at 2) (Global (codes "f")) (trees ((binary (at 2) Sub false (local (at 2) 0) (constant (at 2) 1)) ∷ []))) (constant (at 2) 1)))) ∷
+    (if_else (binary (at 2) Eq false (local (at 2) 0) (constant (at 2) 0)) (block (typed_statements ((returns (Some (constant (at 2) 0))) ∷ []))) absent) ∷
+    (returns (Some (binary (at 2) Add false (call (at 2) (Global (codes "f")) (typed_expressions ((binary (at 2) Sub false (local (at 2) 0) (constant (at 2) 1)) ∷ []))) (constant (at 2) 1)))) ∷
     []) ∷
     external (codes "main") Long [] 3 (
-    (evaluate (call (at 3) (Global (codes "g")) (trees []))) ∷
-    (returns (Some (call (at 3) (Global (codes "f")) (trees ((constant (at 3) 999) ∷ []))))) ∷
+    (evaluate (call (at 3) (Global (codes "g")) (typed_expressions []))) ∷
+    (returns (Some (call (at 3) (Global (codes "f")) (typed_expressions ((constant (at 3) 999) ∷ []))))) ∷
     []) ∷
     []) []
 

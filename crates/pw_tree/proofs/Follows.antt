@@ -3,8 +3,8 @@ use Rattle.std.proofs.Common.{◌≡◌, ℕ, zero, suc, ◌+◌, ◌≤◌, ◌
 use Rattle.pw_tree.specs.Laws.{IsPrefix}
 use Rattle.pw_tree.specs.Names.{Definition, Project}
 use Rattle.pw_tree.specs.Units.{Function}
-use Rattle.pw_tree.specs.Trees.{Tree, Trees, constant, local, variable, designator, element, unary, binary, conditional, call, call_pointer, input, output, nil, cons}
-use Rattle.pw_tree.specs.Commands.{Command, Commands, Maybe, evaluate, set_local, set_variable, set_element, block, if_else, while_loop, do_loop, for_loop, returns, breaks, continues, nil, cons, absent, present}
+use Rattle.pw_tree.specs.TypedExpressions.{TypedExpression, TypedExpressions, constant, local, variable, designator, element, unary, binary, conditional, call, call_pointer, input, output, nil, cons}
+use Rattle.pw_tree.specs.TypedStatements.{TypedStatement, TypedStatements, OptionalTypedStatement, evaluate, set_local, set_variable, set_element, block, if_else, while_loop, do_loop, for_loop, returns, breaks, continues, nil, cons, absent, present}
 use Rattle.pw_tree.specs.States.{Value, number, null, pointer, holds, number_of, Locals, State, spent, checked, Outcome, gives, stops, and_then, choice, stepped_from, stepped}
 use Rattle.pw_tree.specs.Evaluation.{Context, divided, binary_value, truth_of, operated, indexed, next_byte, call_through, eval, eval_all}
 use Rattle.pw_tree.specs.Execution.{Completion, normal, broke, continued, returned, followed, Turn, back, out, after_body, runs, tests, goes_back, after_turn, turns, eval_option, assigned, exec, exec_all, exec_maybe}
@@ -175,7 +175,7 @@ module _ (k : ℕ) (x : Context) (called : Definition → List Value → State �
 
   -- Expressions.
   mutual
-    follows_eval : (e : Tree) (locals : Locals) (st : State) → Follows k (eval x e locals st) (eval y e locals (with_more k st))
+    follows_eval : (e : TypedExpression) (locals : Locals) (st : State) → Follows k (eval x e locals st) (eval y e locals (with_more k st))
     follows_eval (constant at value) locals st = record { same = refl }
     follows_eval (local at i) locals st = record { same = refl }
     follows_eval (variable at v) locals st = record { same = refl }
@@ -204,19 +204,19 @@ module _ (k : ℕ) (x : Context) (called : Definition → List Value → State �
     follows_eval (output at e) locals st =
         follows_then k _ _ _ _ (follows_eval e locals st) (λ v st. record { same = refl }) (λ v st. record { more = (number_of v % 256 ∷ [], refl) })
 
-    follows_eval_all : (es : Trees) (locals : Locals) (st : State) → Follows k (eval_all x es locals st) (eval_all y es locals (with_more k st))
+    follows_eval_all : (es : TypedExpressions) (locals : Locals) (st : State) → Follows k (eval_all x es locals st) (eval_all y es locals (with_more k st))
     follows_eval_all nil locals st = record { same = refl }
     follows_eval_all (cons e es) locals st =
         follows_then k _ _ _ _ (follows_eval e locals st)
         (λ v st. follows_then k _ _ _ _ (follows_eval_all es locals st) (λ vs st. record { same = refl }) (λ vs st. grows_nothing st _ refl))
         (λ v st. grows_then st _ _ (grows_eval_all y grow es locals st) (λ vs st. grows_nothing st _ refl))
 
-  follows_eval_option : (e : Option Tree) (locals : Locals) (st : State) → Follows k (eval_option x e locals st) (eval_option y e locals (with_more k st))
+  follows_eval_option : (e : Option TypedExpression) (locals : Locals) (st : State) → Follows k (eval_option x e locals st) (eval_option y e locals (with_more k st))
   follows_eval_option None locals st = record { same = refl }
   follows_eval_option (Some e) locals st =
       follows_then k _ _ _ _ (follows_eval e locals st) (λ v st. record { same = refl }) (λ v st. grows_nothing st _ refl)
 
-  follows_tests : (c : Option Tree) (next next' : Locals → State → Outcome Turn) →
+  follows_tests : (c : Option TypedExpression) (next next' : Locals → State → Outcome Turn) →
       ((locals : Locals) (st : State) → Follows k (next locals st) (next' locals (with_more k st))) →
       ((locals : Locals) (st : State) → Grows st (next' locals st)) →
       (locals : Locals) (st : State) → Follows k (tests x c next locals st) (tests y c next' locals (with_more k st))
@@ -228,7 +228,7 @@ module _ (k : ℕ) (x : Context) (called : Definition → List Value → State �
 
   -- Statements.
   mutual
-    follows_exec : (s : Command) (locals : Locals) (st : State) → Follows k (exec x s locals st) (exec y s locals (with_more k st))
+    follows_exec : (s : TypedStatement) (locals : Locals) (st : State) → Follows k (exec x s locals st) (exec y s locals (with_more k st))
     follows_exec (evaluate e) locals st =
         follows_then k _ _ _ _ (follows_eval e locals st) (λ v st. record { same = refl }) (λ v st. grows_nothing st _ refl)
     follows_exec (set_local i e) locals st =
@@ -275,14 +275,14 @@ module _ (k : ℕ) (x : Context) (called : Definition → List Value → State �
     follows_exec breaks locals st = record { same = refl }
     follows_exec continues locals st = record { same = refl }
 
-    follows_exec_all : (ss : Commands) (locals : Locals) (st : State) → Follows k (exec_all x ss locals st) (exec_all y ss locals (with_more k st))
+    follows_exec_all : (ss : TypedStatements) (locals : Locals) (st : State) → Follows k (exec_all x ss locals st) (exec_all y ss locals (with_more k st))
     follows_exec_all nil locals st = record { same = refl }
     follows_exec_all (cons s ss) locals st =
         follows_then k _ _ _ _ (follows_exec s locals st)
         (λ done. follows_followed k done (exec_all x ss) (exec_all y ss) (follows_exec_all ss))
         (λ done. grows_followed done (exec_all y ss) (grows_exec_all y grow ss))
 
-    follows_exec_maybe : (s : Maybe) (locals : Locals) (st : State) → Follows k (exec_maybe x s locals st) (exec_maybe y s locals (with_more k st))
+    follows_exec_maybe : (s : OptionalTypedStatement) (locals : Locals) (st : State) → Follows k (exec_maybe x s locals st) (exec_maybe y s locals (with_more k st))
     follows_exec_maybe absent locals st = record { same = refl }
     follows_exec_maybe (present s) locals st = follows_exec s locals st
 

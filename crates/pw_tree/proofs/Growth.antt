@@ -4,8 +4,8 @@ use Rattle.std.proofs.lemmas.List.{append-nil}
 use Rattle.pw_tree.specs.Laws.{IsPrefix}
 use Rattle.pw_tree.specs.Names.{Definition, Project}
 use Rattle.pw_tree.specs.Units.{Function}
-use Rattle.pw_tree.specs.Trees.{Tree, Trees, constant, local, variable, designator, element, unary, binary, conditional, call, call_pointer, input, output, nil, cons}
-use Rattle.pw_tree.specs.Commands.{Command, Commands, Maybe, evaluate, set_local, set_variable, set_element, block, if_else, while_loop, do_loop, for_loop, returns, breaks, continues, nil, cons, absent, present}
+use Rattle.pw_tree.specs.TypedExpressions.{TypedExpression, TypedExpressions, constant, local, variable, designator, element, unary, binary, conditional, call, call_pointer, input, output, nil, cons}
+use Rattle.pw_tree.specs.TypedStatements.{TypedStatement, TypedStatements, OptionalTypedStatement, evaluate, set_local, set_variable, set_element, block, if_else, while_loop, do_loop, for_loop, returns, breaks, continues, nil, cons, absent, present}
 use Rattle.pw_tree.specs.States.{Value, number, null, pointer, holds, number_of, Locals, State, Outcome, gives, stops, and_then, choice, stepped_from, stepped}
 use Rattle.pw_tree.specs.Evaluation.{Context, divided, binary_value, truth_of, operated, indexed, next_byte, call_through, eval, eval_all}
 use Rattle.pw_tree.specs.Execution.{Completion, normal, broke, continued, returned, followed, Turn, back, out, after_body, runs, tests, goes_back, after_turn, turns, eval_option, assigned, exec, exec_all, exec_maybe}
@@ -91,7 +91,7 @@ grows_call_through x c line arguments (number n) st = grows_nothing st _ refl
 
 -- Expressions.
 mutual
-  pub grows_eval : (x : Context) → CallsGrow x → (e : Tree) (locals : Locals) (st : State) → Grows st (eval x e locals st)
+  pub grows_eval : (x : Context) → CallsGrow x → (e : TypedExpression) (locals : Locals) (st : State) → Grows st (eval x e locals st)
   grows_eval x c (constant at value) locals st = grows_nothing st _ refl
   grows_eval x c (local at i) locals st = grows_nothing st _ refl
   grows_eval x c (variable at v) locals st = grows_nothing st _ refl
@@ -110,7 +110,7 @@ mutual
   grows_eval x c (output at e) locals st =
       grows_then st _ _ (grows_eval x c e locals st) (λ v st. record { more = (number_of v % 256 ∷ [], refl) })
 
-  pub grows_eval_all : (x : Context) → CallsGrow x → (es : Trees) (locals : Locals) (st : State) → Grows st (eval_all x es locals st)
+  pub grows_eval_all : (x : Context) → CallsGrow x → (es : TypedExpressions) (locals : Locals) (st : State) → Grows st (eval_all x es locals st)
   grows_eval_all x c nil locals st = grows_nothing st _ refl
   grows_eval_all x c (cons e es) locals st =
       grows_then st _ _ (grows_eval x c e locals st) (λ v st. grows_then st _ _ (grows_eval_all x c es locals st) (λ vs st. grows_nothing st _ refl))
@@ -134,7 +134,7 @@ pub grows_runs : (body : Locals → State → Outcome Completion) (next : Locals
     (locals : Locals) (st : State) → Grows st (runs body next locals st)
 grows_runs body next g h locals st = grows_then st _ _ (g locals st) (λ done. grows_after_body done next h)
 
-pub grows_tests : (x : Context) → CallsGrow x → (c : Option Tree) (next : Locals → State → Outcome Turn) →
+pub grows_tests : (x : Context) → CallsGrow x → (c : Option TypedExpression) (next : Locals → State → Outcome Turn) →
     ((locals : Locals) (st : State) → Grows st (next locals st)) → (locals : Locals) (st : State) → Grows st (tests x c next locals st)
 grows_tests x c None next g locals st = g locals st
 grows_tests x c (Some e) next g locals st =
@@ -156,13 +156,13 @@ grows_turns turn g zero locals st =
 grows_turns turn g (suc n) locals st =
     grows_then st _ _ (g locals st) (λ t. grows_after_turn t _ (λ locals. grows_stepped _ (grows_turns turn g n locals)))
 
-pub grows_eval_option : (x : Context) → CallsGrow x → (e : Option Tree) (locals : Locals) (st : State) → Grows st (eval_option x e locals st)
+pub grows_eval_option : (x : Context) → CallsGrow x → (e : Option TypedExpression) (locals : Locals) (st : State) → Grows st (eval_option x e locals st)
 grows_eval_option x c None locals st = grows_nothing st _ refl
 grows_eval_option x c (Some e) locals st = grows_then st _ _ (grows_eval x c e locals st) (λ v st. grows_nothing st _ refl)
 
 -- Statements.
 mutual
-  pub grows_exec : (x : Context) → CallsGrow x → (s : Command) (locals : Locals) (st : State) → Grows st (exec x s locals st)
+  pub grows_exec : (x : Context) → CallsGrow x → (s : TypedStatement) (locals : Locals) (st : State) → Grows st (exec x s locals st)
   grows_exec x c (evaluate e) locals st = grows_then st _ _ (grows_eval x c e locals st) (λ v st. grows_nothing st _ refl)
   grows_exec x c (set_local i e) locals st = grows_then st _ _ (grows_eval_option x c e locals st) (λ v st. grows_nothing st _ refl)
   grows_exec x c (set_variable v e) locals st = grows_then st _ _ (grows_eval x c e locals st) (λ v st. grows_nothing st _ refl)
@@ -184,12 +184,12 @@ mutual
   grows_exec x c breaks locals st = grows_nothing st _ refl
   grows_exec x c continues locals st = grows_nothing st _ refl
 
-  pub grows_exec_all : (x : Context) → CallsGrow x → (ss : Commands) (locals : Locals) (st : State) → Grows st (exec_all x ss locals st)
+  pub grows_exec_all : (x : Context) → CallsGrow x → (ss : TypedStatements) (locals : Locals) (st : State) → Grows st (exec_all x ss locals st)
   grows_exec_all x c nil locals st = grows_nothing st _ refl
   grows_exec_all x c (cons s ss) locals st =
       grows_then st _ _ (grows_exec x c s locals st) (λ done. grows_followed done _ (grows_exec_all x c ss))
 
-  pub grows_exec_maybe : (x : Context) → CallsGrow x → (s : Maybe) (locals : Locals) (st : State) → Grows st (exec_maybe x s locals st)
+  pub grows_exec_maybe : (x : Context) → CallsGrow x → (s : OptionalTypedStatement) (locals : Locals) (st : State) → Grows st (exec_maybe x s locals st)
   grows_exec_maybe x c absent locals st = grows_nothing st _ refl
   grows_exec_maybe x c (present s) locals st = grows_exec x c s locals st
 

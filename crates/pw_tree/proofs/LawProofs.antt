@@ -3,7 +3,7 @@ use Rattle.std.proofs.Common.{◌≡◌, ℕ, ◌+◌, ◌-◌, ◌≤◌, ◌�
 use Rattle.pw_tree.specs.Laws.{IsPrefix, OutputGrows, EndStays}
 use Rattle.pw_tree.specs.Names.{Project}
 use Rattle.pw_tree.specs.States.{Value, spent, checked, Outcome, gives, stops}
-use Rattle.pw_tree.specs.Meaning.{stopped, run_of, main_of, initial_state, call_of}
+use Rattle.pw_tree.specs.Meaning.{stopped, run_of, main_definition, initial_state, call_of}
 use Rattle.pw_tree.proofs.Growth.{prefix_self}
 use Rattle.pw_tree.proofs.Follows.{Follows, follows_call}
 
@@ -21,11 +21,11 @@ end_follows k (stops spent st) r' f h = absurd (h refl)
 
 -- The run with a greater bound follows the one with a smaller bound.
 meaning_follows : (project : Project) (input : List ℕ) (m n : ℕ) → m ≤ n →
-    Follows (n - m) (call_of project m (main_of project) [] (initial_state project input m)) (call_of project n (main_of project) [] (initial_state project input n))
+    Follows (n - m) (call_of project m (main_definition project) [] (initial_state project input m)) (call_of project n (main_definition project) [] (initial_state project input n))
 meaning_follows project input m n h =
     let e : m + (n - m) ≡ n = omega arith in
-    subst (λ steps. Follows (n - m) (call_of project m (main_of project) [] (initial_state project input m)) (call_of project n (main_of project) [] (initial_state project input steps)))
-    e (follows_call (n - m) project m n h (main_of project) [] (initial_state project input m))
+    subst (λ steps. Follows (n - m) (call_of project m (main_definition project) [] (initial_state project input m)) (call_of project n (main_definition project) [] (initial_state project input steps)))
+    e (follows_call (n - m) project m n h (main_definition project) [] (initial_state project input m))
 
 pub output_grows : OutputGrows
 output_grows project input m n h = output_follows (n - m) _ _ (meaning_follows project input m n h)

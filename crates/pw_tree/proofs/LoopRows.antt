@@ -1,7 +1,7 @@
 -- Worked rows on steps, loops and locals, computed from the definition.
 use Rattle.std.proofs.Common.{◌≡◌, false, [], ◌∷◌, Some, None, refl, codes}
-use Rattle.pw_tree.specs.Trees.{constant, local, unary, binary, call, call_pointer, output, trees}
-use Rattle.pw_tree.specs.Commands.{evaluate, set_local, block, if_else, while_loop, do_loop, for_loop, returns, breaks, continues, absent, present, commands}
+use Rattle.pw_tree.specs.TypedExpressions.{constant, local, unary, binary, call, call_pointer, output, typed_expressions}
+use Rattle.pw_tree.specs.TypedStatements.{evaluate, set_local, block, if_else, while_loop, do_loop, for_loop, returns, breaks, continues, absent, present, typed_statements}
 use Rattle.pw_tree.specs.Names.{Project}
 use Rattle.pw_tree.specs.States.{null_call, checked, spent}
 use Rattle.pw_tree.specs.Meaning.{meaning, exit, stopped}
@@ -31,7 +31,7 @@ one_step_one_call = refl
 abbrev dots : Project
 dots = program (
     external (codes "main") Long [] 1 (
-    (while_loop (constant (at 1) 1) (block (commands ((evaluate (output (at_void 1) (constant (at 1) 46))) ∷ [])))) ∷
+    (while_loop (constant (at 1) 1) (block (typed_statements ((evaluate (output (at_void 1) (constant (at 1) 46))) ∷ [])))) ∷
     (returns (Some (constant (at 1) 0))) ∷
     []) ∷
     []) []
@@ -44,7 +44,7 @@ a_turn_takes_a_step = refl
 abbrev one_break : Project
 one_break = program (
     external (codes "main") Long [] 1 (
-    (while_loop (constant (at 1) 1) (block (commands (breaks ∷ [])))) ∷
+    (while_loop (constant (at 1) 1) (block (typed_statements (breaks ∷ [])))) ∷
     (returns (Some (constant (at 1) 0))) ∷
     []) ∷
     []) []
@@ -57,7 +57,7 @@ break_takes_no_step = refl
 abbrev no_turn : Project
 no_turn = program (
     external (codes "main") Long [] 1 (
-    (while_loop (constant (at 1) 0) (block (commands []))) ∷
+    (while_loop (constant (at 1) 0) (block (typed_statements []))) ∷
     (returns (Some (constant (at 1) 7))) ∷
     []) ∷
     []) []
@@ -71,7 +71,7 @@ abbrev do_once : Project
 do_once = program (
     external (codes "main") Long [] 1 (
     (set_local 0 None) ∷
-    (do_loop (block (commands ((set_local 0 (Some (binary (at 1) Add false (local (at 1) 0) (constant (at 1) 1)))) ∷ []))) (binary (at 1) Lt false (local (at 1) 0) (constant (at 1) 3))) ∷
+    (do_loop (block (typed_statements ((set_local 0 (Some (binary (at 1) Add false (local (at 1) 0) (constant (at 1) 1)))) ∷ []))) (binary (at 1) Lt false (local (at 1) 0) (constant (at 1) 3))) ∷
     (returns (Some (local (at 1) 0))) ∷
     []) ∷
     []) []
@@ -90,7 +90,7 @@ for_with_continue = program (
     external (codes "main") Long [] 1 (
     (set_local 0 None) ∷
     (set_local 1 None) ∷
-    (for_loop (present (set_local 1 (Some (constant (at 1) 0)))) (Some (binary (at 1) Lt false (local (at 1) 1) (constant (at 1) 5))) (present (set_local 1 (Some (binary (at 1) Add false (local (at 1) 1) (constant (at 1) 1))))) (block (commands ((if_else (binary (at 1) Eq false (local (at 1) 1) (constant (at 1) 2)) (block (commands (continues ∷ []))) absent) ∷ (if_else (binary (at 1) Eq false (local (at 1) 1) (constant (at 1) 4)) (block (commands (breaks ∷ []))) absent) ∷ (set_local 0 (Some (binary (at 1) Add false (local (at 1) 0) (local (at 1) 1)))) ∷ [])))) ∷
+    (for_loop (present (set_local 1 (Some (constant (at 1) 0)))) (Some (binary (at 1) Lt false (local (at 1) 1) (constant (at 1) 5))) (present (set_local 1 (Some (binary (at 1) Add false (local (at 1) 1) (constant (at 1) 1))))) (block (typed_statements ((if_else (binary (at 1) Eq false (local (at 1) 1) (constant (at 1) 2)) (block (typed_statements (continues ∷ []))) absent) ∷ (if_else (binary (at 1) Eq false (local (at 1) 1) (constant (at 1) 4)) (block (typed_statements (breaks ∷ []))) absent) ∷ (set_local 0 (Some (binary (at 1) Add false (local (at 1) 0) (local (at 1) 1)))) ∷ [])))) ∷
     (returns (Some (binary (at 1) Add false (binary (at 1) Mul false (local (at 1) 0) (constant (at 1) 10)) (local (at 1) 1)))) ∷
     []) ∷
     []) []
@@ -104,7 +104,7 @@ abbrev declared_anew : Project
 declared_anew = program (
     external (codes "main") Long [] 1 (
     (set_local 0 None) ∷
-    (for_loop (present (set_local 0 (Some (constant (at 1) 0)))) (Some (binary (at 1) Lt false (local (at 1) 0) (constant (at 1) 3))) (present (set_local 0 (Some (binary (at 1) Add false (local (at 1) 0) (constant (at 1) 1))))) (block (commands ((set_local 1 None) ∷ (set_local 1 (Some (binary (at 1) Add false (local (at 1) 1) (constant (at 1) 1)))) ∷ (if_else (binary (at 1) Eq false (local (at 1) 0) (constant (at 1) 2)) (block (commands ((returns (Some (local (at 1) 1))) ∷ []))) absent) ∷ [])))) ∷
+    (for_loop (present (set_local 0 (Some (constant (at 1) 0)))) (Some (binary (at 1) Lt false (local (at 1) 0) (constant (at 1) 3))) (present (set_local 0 (Some (binary (at 1) Add false (local (at 1) 0) (constant (at 1) 1))))) (block (typed_statements ((set_local 1 None) ∷ (set_local 1 (Some (binary (at 1) Add false (local (at 1) 1) (constant (at 1) 1)))) ∷ (if_else (binary (at 1) Eq false (local (at 1) 0) (constant (at 1) 2)) (block (typed_statements ((returns (Some (local (at 1) 1))) ∷ []))) absent) ∷ [])))) ∷
     (returns (Some (constant (at 1) 0))) ∷
     []) ∷
     []) []
@@ -118,7 +118,7 @@ abbrev declared_null : Project
 declared_null = program (
     external (codes "main") Long [] 1 (
     (set_local 0 None) ∷
-    (returns (Some (call_pointer (at 1) (local (at_pointer 0 1) 0) (trees [])))) ∷
+    (returns (Some (call_pointer (at 1) (local (at_pointer 0 1) 0) (typed_expressions [])))) ∷
     []) ∷
     []) []
 
@@ -133,7 +133,7 @@ falls_off = program (
     external (codes "f") Long [] 1 (
     []) ∷
     external (codes "main") Long [] 2 (
-    (returns (Some (binary (at 2) Add false (call (at 2) (Global (codes "f")) (trees [])) (constant (at 2) 3)))) ∷
+    (returns (Some (binary (at 2) Add false (call (at 2) (Global (codes "f")) (typed_expressions [])) (constant (at 2) 3)))) ∷
     []) ∷
     []) []
 
@@ -148,7 +148,7 @@ falls_off_null = program (
     external (codes "f") (Fn 0) [] 1 (
     []) ∷
     external (codes "main") Long [] 2 (
-    (returns (Some (unary (at 2) Bang (call (at_pointer 0 2) (Global (codes "f")) (trees []))))) ∷
+    (returns (Some (unary (at 2) Bang (call (at_pointer 0 2) (Global (codes "f")) (typed_expressions []))))) ∷
     []) ∷
     []) []
 
@@ -162,7 +162,7 @@ nested = program (
     external (codes "main") Long [] 1 (
     (set_local 0 None) ∷
     (set_local 1 None) ∷
-    (for_loop (present (set_local 1 (Some (constant (at 1) 0)))) (Some (binary (at 1) Lt false (local (at 1) 1) (constant (at 1) 2))) (present (set_local 1 (Some (binary (at 1) Add false (local (at 1) 1) (constant (at 1) 1))))) (block (commands ((while_loop (constant (at 1) 1) (block (commands ((set_local 0 (Some (binary (at 1) Add false (local (at 1) 0) (constant (at 1) 1)))) ∷ breaks ∷ [])))) ∷ [])))) ∷
+    (for_loop (present (set_local 1 (Some (constant (at 1) 0)))) (Some (binary (at 1) Lt false (local (at 1) 1) (constant (at 1) 2))) (present (set_local 1 (Some (binary (at 1) Add false (local (at 1) 1) (constant (at 1) 1))))) (block (typed_statements ((while_loop (constant (at 1) 1) (block (typed_statements ((set_local 0 (Some (binary (at 1) Add false (local (at 1) 0) (constant (at 1) 1)))) ∷ breaks ∷ [])))) ∷ [])))) ∷
     (returns (Some (local (at 1) 0))) ∷
     []) ∷
     []) []

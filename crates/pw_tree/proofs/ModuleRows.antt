@@ -1,7 +1,7 @@
 -- Worked rows on projects of several modules and units, computed from the definition.
 use Rattle.std.proofs.Common.{◌≡◌, true, false, [], ◌∷◌, Some, None, refl, codes}
-use Rattle.pw_tree.specs.Trees.{constant, local, variable, unary, binary, conditional, call, call_pointer, input, output, trees}
-use Rattle.pw_tree.specs.Commands.{evaluate, set_local, block, if_else, while_loop, returns, absent, commands}
+use Rattle.pw_tree.specs.TypedExpressions.{constant, local, variable, unary, binary, conditional, call, call_pointer, input, output, typed_expressions}
+use Rattle.pw_tree.specs.TypedStatements.{evaluate, set_local, block, if_else, while_loop, returns, absent, typed_statements}
 use Rattle.pw_tree.specs.Names.{Project}
 use Rattle.pw_tree.specs.States.{spent}
 use Rattle.pw_tree.specs.Meaning.{meaning, exit, stopped}
@@ -26,7 +26,7 @@ interposed =
     (returns (Some (constant (at 1) 1))) ∷
     []) ∷
     external (codes "main") Long [] 3 (
-    (returns (Some (call (at 3) (Global (codes "g")) (trees [])))) ∷
+    (returns (Some (call (at 3) (Global (codes "g")) (typed_expressions [])))) ∷
     []) ∷
     []) [] ∷ []) ∷
     (unit (
@@ -34,7 +34,7 @@ interposed =
     (returns (Some (constant (at 1) 2))) ∷
     []) ∷
     external (codes "g") Long [] 2 (
-    (returns (Some (call (at 2) (Global (codes "f")) (trees [])))) ∷
+    (returns (Some (call (at 2) (Global (codes "f")) (typed_expressions [])))) ∷
     []) ∷
     []) [] ∷ []) ∷
     []
@@ -56,14 +56,14 @@ two_statics =
     (returns (Some (constant (at 1) 3))) ∷
     []) ∷
     external (codes "main") Long [] 2 (
-    (returns (Some (call (at 2) (LocalFun 0) (trees [])))) ∷
+    (returns (Some (call (at 2) (LocalFun 0) (typed_expressions [])))) ∷
     []) ∷
     []) [] ∷ unit (
     internal (codes "h") Long [] 1 (
     (returns (Some (constant (at 1) 4))) ∷
     []) ∷
     external (codes "other") Long [] 2 (
-    (returns (Some (call (at 2) (LocalFun 0) (trees [])))) ∷
+    (returns (Some (call (at 2) (LocalFun 0) (typed_expressions [])))) ∷
     []) ∷
     []) [] ∷ []) ∷
     []
@@ -85,7 +85,7 @@ abbrev two_libraries : Project
 two_libraries =
     (unit (
     external (codes "main") Long [] 2 (
-    (returns (Some (call (at 2) (Global (codes "f")) (trees [])))) ∷
+    (returns (Some (call (at 2) (Global (codes "f")) (typed_expressions [])))) ∷
     []) ∷
     []) [] ∷ []) ∷
     (unit [] (
@@ -146,8 +146,8 @@ counts_letters =
     (set_local 0 None) ∷
     (set_local 1 None) ∷
     (set_local 0 (Some (input (at 7)))) ∷
-    (while_loop (binary (at 8) Ne false (local (at 8) 0) (unary (at 8) Neg (constant (at 8) 1))) (block (commands ((if_else (call_pointer (at 9) (variable (at_pointer 1 9) (Global (codes "test"))) (trees ((local (at 9) 0) ∷ []))) (block (commands ((set_local 1 (Some (binary (at 9) Add false (local (at 9) 1) (constant (at 9) 1)))) ∷ []))) absent) ∷ (set_local 0 (Some (input (at 10)))) ∷ [])))) ∷
-    (evaluate (call (at 12) (Global (codes "put_dec")) (trees ((local (at 12) 1) ∷ [])))) ∷
+    (while_loop (binary (at 8) Ne false (local (at 8) 0) (unary (at 8) Neg (constant (at 8) 1))) (block (typed_statements ((if_else (call_pointer (at 9) (variable (at_pointer 1 9) (Global (codes "test"))) (typed_expressions ((local (at 9) 0) ∷ []))) (block (typed_statements ((set_local 1 (Some (binary (at 9) Add false (local (at 9) 1) (constant (at 9) 1)))) ∷ []))) absent) ∷ (set_local 0 (Some (input (at 10)))) ∷ [])))) ∷
+    (evaluate (call (at 12) (Global (codes "put_dec")) (typed_expressions ((local (at 12) 1) ∷ [])))) ∷
     (returns (Some (constant (at 13) 0))) ∷
     []) ∷
     []) (
@@ -155,12 +155,12 @@ counts_letters =
     []) ∷ []) ∷
     (unit (
     external (codes "put_dec") Long (Long ∷ []) 1 (
-    (if_else (binary (at 2) Gt false (local (at 2) 0) (constant (at 2) 9)) (block (commands ((evaluate (call (at 2) (Global (codes "put_dec")) (trees ((binary (at 2) Div false (local (at 2) 0) (constant (at 2) 10)) ∷ [])))) ∷ []))) absent) ∷
+    (if_else (binary (at 2) Gt false (local (at 2) 0) (constant (at 2) 9)) (block (typed_statements ((evaluate (call (at 2) (Global (codes "put_dec")) (typed_expressions ((binary (at 2) Div false (local (at 2) 0) (constant (at 2) 10)) ∷ [])))) ∷ []))) absent) ∷
     (evaluate (output (at_void 3) (binary (at 3) Add false (constant (at 3) 48) (binary (at 3) Rem false (local (at 3) 0) (constant (at 3) 10))))) ∷
     (returns (Some (constant (at 4) 0))) ∷
     []) ∷
     external (codes "put_hex") Long (Long ∷ []) 6 (
-    (if_else (binary (at 7) Gt false (local (at 7) 0) (constant (at 7) 15)) (block (commands ((evaluate (call (at 7) (Global (codes "put_hex")) (trees ((binary (at 7) Div false (local (at 7) 0) (constant (at 7) 16)) ∷ [])))) ∷ []))) absent) ∷
+    (if_else (binary (at 7) Gt false (local (at 7) 0) (constant (at 7) 15)) (block (typed_statements ((evaluate (call (at 7) (Global (codes "put_hex")) (typed_expressions ((binary (at 7) Div false (local (at 7) 0) (constant (at 7) 16)) ∷ [])))) ∷ []))) absent) ∷
     (evaluate (output (at_void 8) (conditional (at 8) (binary (at 8) Lt false (binary (at 8) Rem false (local (at 8) 0) (constant (at 8) 16)) (constant (at 8) 10)) (binary (at 8) Add false (constant (at 8) 48) (binary (at 8) Rem false (local (at 8) 0) (constant (at 8) 16))) (binary (at 8) Sub false (binary (at 8) Add false (constant (at 8) 97) (binary (at 8) Rem false (local (at 8) 0) (constant (at 8) 16))) (constant (at 8) 10))))) ∷
     (returns (Some (constant (at 9) 0))) ∷
     []) ∷

@@ -1,7 +1,7 @@
 -- Worked rows on numbers, arrays and input, computed from the definition.
 use Rattle.std.proofs.Common.{◌≡◌, true, false, [], ◌∷◌, Some, None, refl, codes}
-use Rattle.pw_tree.specs.Trees.{constant, local, variable, element, unary, binary, input, output}
-use Rattle.pw_tree.specs.Commands.{evaluate, set_local, returns}
+use Rattle.pw_tree.specs.TypedExpressions.{constant, local, variable, element, unary, binary, input, output}
+use Rattle.pw_tree.specs.TypedStatements.{evaluate, set_local, returns}
 use Rattle.pw_tree.specs.Names.{Project}
 use Rattle.pw_tree.specs.States.{index, division, checked}
 use Rattle.pw_tree.specs.Meaning.{meaning, exit, stopped}

@@ -1,7 +1,7 @@
 -- Worked rows on the order of evaluation and on pointers, computed from the definition.
 use Rattle.std.proofs.Common.{◌≡◌, true, false, [], ◌∷◌, Some, None, refl, codes}
-use Rattle.pw_tree.specs.Trees.{constant, local, variable, designator, element, unary, binary, conditional, call, call_pointer, output, trees}
-use Rattle.pw_tree.specs.Commands.{evaluate, set_element, returns}
+use Rattle.pw_tree.specs.TypedExpressions.{constant, local, variable, designator, element, unary, binary, conditional, call, call_pointer, output, typed_expressions}
+use Rattle.pw_tree.specs.TypedStatements.{evaluate, set_element, returns}
 use Rattle.pw_tree.specs.Names.{Project}
 use Rattle.pw_tree.specs.States.{index, null_call, checked}
 use Rattle.pw_tree.specs.Meaning.{meaning, exit, stopped}
@@ -22,7 +22,7 @@ null_callee = program (
     (returns (Some (local (at 1) 0))) ∷
     []) ∷
     external (codes "main") Long [] 3 (
-    (returns (Some (call_pointer (at 3) (variable (at_pointer 1 3) (Global (codes "p"))) (trees ((call (at 3) (Global (codes "w")) (trees ((constant (at 3) 65) ∷ []))) ∷ []))))) ∷
+    (returns (Some (call_pointer (at 3) (variable (at_pointer 1 3) (Global (codes "p"))) (typed_expressions ((call (at 3) (Global (codes "w")) (typed_expressions ((constant (at 3) 65) ∷ []))) ∷ []))))) ∷
     []) ∷
     []) (
     object_of true (codes "p") (Fn 1) None None ∷
@@ -42,11 +42,11 @@ callee_after_arguments = program (
     (returns (Some (local (at 1) 0))) ∷
     []) ∷
     external (codes "q") (Fn 1) [] 2 (
-    (evaluate (call (at 2) (Global (codes "w")) (trees ((constant (at 2) 66) ∷ [])))) ∷
+    (evaluate (call (at 2) (Global (codes "w")) (typed_expressions ((constant (at 2) 66) ∷ [])))) ∷
     (returns (Some (designator (at_pointer 1 2) (Global (codes "w"))))) ∷
     []) ∷
     external (codes "main") Long [] 3 (
-    (returns (Some (call_pointer (at 3) (call (at_pointer 1 3) (Global (codes "q")) (trees [])) (trees ((call (at 3) (Global (codes "w")) (trees ((constant (at 3) 65) ∷ []))) ∷ []))))) ∷
+    (returns (Some (call_pointer (at 3) (call (at_pointer 1 3) (Global (codes "q")) (typed_expressions [])) (typed_expressions ((call (at 3) (Global (codes "w")) (typed_expressions ((constant (at 3) 65) ∷ []))) ∷ []))))) ∷
     []) ∷
     []) []
 
@@ -63,7 +63,7 @@ two_operands = program (
     (returns (Some (local (at 1) 0))) ∷
     []) ∷
     external (codes "main") Long [] 2 (
-    (returns (Some (binary (at 2) Sub false (call (at 2) (Global (codes "w")) (trees ((constant (at 2) 65) ∷ []))) (call (at 2) (Global (codes "w")) (trees ((constant (at 2) 66) ∷ [])))))) ∷
+    (returns (Some (binary (at 2) Sub false (call (at 2) (Global (codes "w")) (typed_expressions ((constant (at 2) 65) ∷ []))) (call (at 2) (Global (codes "w")) (typed_expressions ((constant (at 2) 66) ∷ [])))))) ∷
     []) ∷
     []) []
 
@@ -84,7 +84,7 @@ three_arguments = program (
     (returns (Some (local (at 2) 2))) ∷
     []) ∷
     external (codes "main") Long [] 3 (
-    (returns (Some (call (at 3) (Global (codes "g")) (trees ((call (at 3) (Global (codes "w")) (trees ((constant (at 3) 65) ∷ []))) ∷ (call (at 3) (Global (codes "w")) (trees ((constant (at 3) 66) ∷ []))) ∷ (call (at 3) (Global (codes "w")) (trees ((constant (at 3) 67) ∷ []))) ∷ []))))) ∷
+    (returns (Some (call (at 3) (Global (codes "g")) (typed_expressions ((call (at 3) (Global (codes "w")) (typed_expressions ((constant (at 3) 65) ∷ []))) ∷ (call (at 3) (Global (codes "w")) (typed_expressions ((constant (at 3) 66) ∷ []))) ∷ (call (at 3) (Global (codes "w")) (typed_expressions ((constant (at 3) 67) ∷ []))) ∷ []))))) ∷
     []) ∷
     []) []
 
@@ -101,7 +101,7 @@ and_of_0 = program (
     (returns (Some (local (at 1) 0))) ∷
     []) ∷
     external (codes "main") Long [] 2 (
-    (returns (Some (binary (at 2) AndAnd false (constant (at 2) 0) (call (at 2) (Global (codes "w")) (trees ((constant (at 2) 65) ∷ [])))))) ∷
+    (returns (Some (binary (at 2) AndAnd false (constant (at 2) 0) (call (at 2) (Global (codes "w")) (typed_expressions ((constant (at 2) 65) ∷ [])))))) ∷
     []) ∷
     []) []
 
@@ -118,7 +118,7 @@ and_of_5 = program (
     (returns (Some (local (at 1) 0))) ∷
     []) ∷
     external (codes "main") Long [] 2 (
-    (returns (Some (binary (at 2) AndAnd false (constant (at 2) 5) (call (at 2) (Global (codes "w")) (trees ((constant (at 2) 65) ∷ [])))))) ∷
+    (returns (Some (binary (at 2) AndAnd false (constant (at 2) 5) (call (at 2) (Global (codes "w")) (typed_expressions ((constant (at 2) 65) ∷ [])))))) ∷
     []) ∷
     []) []
 
@@ -135,7 +135,7 @@ or_of_5 = program (
     (returns (Some (local (at 1) 0))) ∷
     []) ∷
     external (codes "main") Long [] 2 (
-    (returns (Some (binary (at 2) OrOr false (constant (at 2) 5) (call (at 2) (Global (codes "w")) (trees ((constant (at 2) 65) ∷ [])))))) ∷
+    (returns (Some (binary (at 2) OrOr false (constant (at 2) 5) (call (at 2) (Global (codes "w")) (typed_expressions ((constant (at 2) 65) ∷ [])))))) ∷
     []) ∷
     []) []
 
@@ -152,7 +152,7 @@ choice_of_two = program (
     (returns (Some (local (at 1) 0))) ∷
     []) ∷
     external (codes "main") Long [] 2 (
-    (returns (Some (conditional (at 2) (constant (at 2) 0) (call (at 2) (Global (codes "w")) (trees ((constant (at 2) 65) ∷ []))) (call (at 2) (Global (codes "w")) (trees ((constant (at 2) 66) ∷ [])))))) ∷
+    (returns (Some (conditional (at 2) (constant (at 2) 0) (call (at 2) (Global (codes "w")) (typed_expressions ((constant (at 2) 65) ∷ []))) (call (at 2) (Global (codes "w")) (typed_expressions ((constant (at 2) 66) ∷ [])))))) ∷
     []) ∷
     []) []
 
@@ -170,7 +170,7 @@ index_before_value = program (
     (returns (Some (local (at 2) 0))) ∷
     []) ∷
     external (codes "main") Long [] 3 (
-    (set_element (Global (codes "t")) 16 3 (constant (at 3) 16) (call (at 3) (Global (codes "w")) (trees ((constant (at 3) 65) ∷ [])))) ∷
+    (set_element (Global (codes "t")) 16 3 (constant (at 3) 16) (call (at 3) (Global (codes "w")) (typed_expressions ((constant (at 3) 65) ∷ [])))) ∷
     (returns (Some (constant (at 3) 0))) ∷
     []) ∷
     []) (
@@ -191,7 +191,7 @@ element_assigned = program (
     (returns (Some (local (at 2) 0))) ∷
     []) ∷
     external (codes "main") Long [] 3 (
-    (set_element (Global (codes "t")) 16 3 (call (at 3) (Global (codes "w")) (trees ((constant (at 3) 3) ∷ []))) (call (at 3) (Global (codes "w")) (trees ((constant (at 3) 65) ∷ [])))) ∷
+    (set_element (Global (codes "t")) 16 3 (call (at 3) (Global (codes "w")) (typed_expressions ((constant (at 3) 3) ∷ []))) (call (at 3) (Global (codes "w")) (typed_expressions ((constant (at 3) 65) ∷ [])))) ∷
     (returns (Some (binary (at 3) Add false (element (at 3) (Global (codes "t")) 16 (constant (at 3) 3)) (element (at 3) (Global (codes "t")) 16 (constant (at 3) 2))))) ∷
     []) ∷
     []) (

@@ -1,7 +1,7 @@
 -- Short forms, in which the programs of the worked rows are written out.
 use Rattle.std.proofs.Common.{ℕ, Bool, true, false, List, [], ◌∷◌, Option}
-use Rattle.pw_tree.specs.Trees.{Mark}
-use Rattle.pw_tree.specs.Commands.{Command, commands}
+use Rattle.pw_tree.specs.TypedExpressions.{Mark}
+use Rattle.pw_tree.specs.TypedStatements.{TypedStatement, typed_statements}
 use Rattle.pw_tree.specs.Units.{Function, TypedUnit}
 use Rattle.pw_tree.specs.Names.{Project, Definition}
 use Rattle.pw_tree.specs.Meaning.{Run, End}
@@ -24,7 +24,7 @@ abbrev pub at_void : ℕ → Mark
 at_void line = record { ty = Void; line = line }
 
 -- A function with external linkage, and one with internal linkage: its name, result, parameters, line and body.
-abbrev pub external : List ℕ → Ty → List Ty → ℕ → List Command → Function
+abbrev pub external : List ℕ → Ty → List Ty → ℕ → List TypedStatement → Function
 external name result params line body = record {
   name = name;
   global = true;
@@ -32,10 +32,10 @@ external name result params line body = record {
   line = line;
   locals = 0;
   held = 0;
-  body = commands body;
+  body = typed_statements body;
 }
 
-abbrev pub internal : List ℕ → Ty → List Ty → ℕ → List Command → Function
+abbrev pub internal : List ℕ → Ty → List Ty → ℕ → List TypedStatement → Function
 internal name result params line body = record (external name result params line body) { global = false }
 
 -- A variable: whether its linkage is external, its name, its type, an array's size, and its initialiser.

@@ -54,10 +54,10 @@ abbrev pub declarations_of : SourceUnit → List Declaration
 declarations_of unit = map declaration_of unit.decls
 
 -- A unit: its declarations in order, and the line of each of its tokens.
-pub record WrittenUnit : Type 0 where
+pub record UntypedUnit : Type 0 where
   pub declarations : List Declaration
   pub lines : List ℕ
 
 -- The plain unit.
-abbrev pub written_unit_of : SourceUnit → WrittenUnit
-written_unit_of unit = record { declarations = declarations_of unit; lines = unit.lines }
+abbrev pub untyped_unit_of : SourceUnit → UntypedUnit
+untyped_unit_of unit = record { declarations = declarations_of unit; lines = unit.lines }

@@ -1,14 +1,14 @@
 -- Which functions a function depends on: those that its body names, called or not.
 use Rattle.std.specs.Prelude.{◌≡◌, List, [], ◌∷◌, ◌++◌, Option, Some, None, Contains, codes}
-use Rattle.pw_tree.specs.Trees.{Tree, Trees, constant, local, variable, designator, element, unary, binary, conditional, call, call_pointer, input, output, nil, cons}
-use Rattle.pw_tree.specs.Commands.{Command, Commands, Maybe, evaluate, set_local, set_variable, set_element, block, if_else, while_loop, do_loop, for_loop, returns, breaks, continues, nil, cons, absent, present}
+use Rattle.pw_tree.specs.TypedExpressions.{TypedExpression, TypedExpressions, constant, local, variable, designator, element, unary, binary, conditional, call, call_pointer, input, output, nil, cons}
+use Rattle.pw_tree.specs.TypedStatements.{TypedStatement, TypedStatements, OptionalTypedStatement, evaluate, set_local, set_variable, set_element, block, if_else, while_loop, do_loop, for_loop, returns, breaks, continues, nil, cons, absent, present}
 use Rattle.pw_tree.specs.Names.{Project, Definition, function, definition_of, resolved}
 use Rattle.pw_tree.specs.Meaning.{callee_of}
 use Rattle.pw_tree.specs.declared.ty.Ref.{Ref}
 
 -- The names of functions and variables in an expression, in order of text, and in several.
 abbrev mutual
-  pub names_in : Tree → List Ref
+  pub names_in : TypedExpression → List Ref
   names_in (constant at value) = []
   names_in (local at i) = []
   names_in (variable at x) = x ∷ []
@@ -22,18 +22,18 @@ abbrev mutual
   names_in (input at) = []
   names_in (output at e) = names_in e
 
-  pub names_in_all : Trees → List Ref
+  pub names_in_all : TypedExpressions → List Ref
   names_in_all nil = []
   names_in_all (cons e es) = names_in e ++ names_in_all es
 
 -- The names in an expression that may be absent.
-abbrev pub names_in_option : Option Tree → List Ref
+abbrev pub names_in_option : Option TypedExpression → List Ref
 names_in_option None = []
 names_in_option (Some e) = names_in e
 
 -- The names of functions and variables in a statement, in order of text, in several, and in one that may be absent.
 abbrev mutual
-  pub names_of : Command → List Ref
+  pub names_of : TypedStatement → List Ref
   names_of (evaluate e) = names_in e
   names_of (set_local i e) = names_in_option e
   names_of (set_variable x e) = x ∷ names_in e
@@ -48,11 +48,11 @@ abbrev mutual
   names_of breaks = []
   names_of continues = []
 
-  pub names_of_all : Commands → List Ref
+  pub names_of_all : TypedStatements → List Ref
   names_of_all nil = []
   names_of_all (cons s ss) = names_of s ++ names_of_all ss
 
-  pub names_of_maybe : Maybe → List Ref
+  pub names_of_maybe : OptionalTypedStatement → List Ref
   names_of_maybe absent = []
   names_of_maybe (present s) = names_of s
 

@@ -2,7 +2,7 @@
 use Rattle.std.specs.Prelude.{ℕ, Bool, not, List, [], ◌∷◌, nat_eq, nat_lt, ◌-◌, ◌^◌}
 use Rattle.pw_tree.specs.Numbers.{truth, unary_result, binary_result}
 use Rattle.pw_tree.specs.Names.{Definition}
-use Rattle.pw_tree.specs.Trees.{Tree, Trees, constant, local, variable, designator, element, unary, binary, conditional, call, call_pointer, input, output, nil, cons}
+use Rattle.pw_tree.specs.TypedExpressions.{TypedExpression, TypedExpressions, constant, local, variable, designator, element, unary, binary, conditional, call, call_pointer, input, output, nil, cons}
 use Rattle.pw_tree.specs.States.{Value, number, pointer, holds, number_of, same_value, Locals, value_or_zero, State, with_input, with_output, Fault, index, division, null_call, checked, Outcome, gives, stops, and_then, choice}
 use Rattle.pw_tree.specs.declared.operator.Un.{Un}
 use Rattle.pw_tree.specs.declared.operator.Un.TheVariants.{Bang}
@@ -67,7 +67,7 @@ call_through x line arguments _ = fails x null_call line
 -- What an expression comes to, and what several come to, one after another; a callee that is evaluated comes after
 -- the arguments.
 abbrev mutual
-  pub eval : Context → Tree → Locals → State → Outcome Value
+  pub eval : Context → TypedExpression → Locals → State → Outcome Value
   eval x (constant at value) locals st = gives (number value) st
   eval x (local at i) locals st = gives (value_or_zero at.ty (locals i)) st
   eval x (variable at v) locals st = gives (st.variables (x.named v) 0) st
@@ -86,7 +86,7 @@ abbrev mutual
   eval x (output at e) locals st =
       and_then (eval x e locals st) (λ v st. gives (number 0) (with_output (number_of v) st))
 
-  pub eval_all : Context → Trees → Locals → State → Outcome (List Value)
+  pub eval_all : Context → TypedExpressions → Locals → State → Outcome (List Value)
   eval_all x nil locals st = gives [] st
   eval_all x (cons e es) locals st =
       and_then (eval x e locals st) (λ v st. and_then (eval_all x es locals st) (λ vs. gives (v ∷ vs)))

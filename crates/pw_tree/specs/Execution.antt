@@ -1,8 +1,8 @@
 -- What a typed statement does (C17, 6.8).
 use Rattle.std.specs.Prelude.{ℕ, zero, suc, Option, Some, None}
 use Rattle.pw_tree.specs.Names.{Definition}
-use Rattle.pw_tree.specs.Trees.{Tree}
-use Rattle.pw_tree.specs.Commands.{Command, Commands, Maybe, evaluate, set_local, set_variable, set_element, block, if_else, while_loop, do_loop, for_loop, returns, breaks, continues, nil, cons, absent, present}
+use Rattle.pw_tree.specs.TypedExpressions.{TypedExpression}
+use Rattle.pw_tree.specs.TypedStatements.{TypedStatement, TypedStatements, OptionalTypedStatement, evaluate, set_local, set_variable, set_element, block, if_else, while_loop, do_loop, for_loop, returns, breaks, continues, nil, cons, absent, present}
 use Rattle.pw_tree.specs.States.{Value, holds, Locals, with_local, State, with_element, spent, Outcome, gives, stops, and_then, choice, stepped}
 use Rattle.pw_tree.specs.Evaluation.{Context, eval, indexed}
 
@@ -35,7 +35,7 @@ abbrev pub runs : (Locals → State → Outcome Completion) → (Locals → Stat
 runs body next locals st = and_then (body locals st) (λ done. after_body done next)
 
 -- A part of a turn that tests the loop's condition, and then what follows; an absent condition holds.
-abbrev pub tests : Context → Option Tree → (Locals → State → Outcome Turn) → Locals → State → Outcome Turn
+abbrev pub tests : Context → Option TypedExpression → (Locals → State → Outcome Turn) → Locals → State → Outcome Turn
 tests x None next locals st = next locals st
 tests x (Some c) next locals st =
     and_then (eval x c locals st) (λ v. choice (holds v) (next locals) (gives (out (normal locals))))
@@ -57,7 +57,7 @@ turns turn (suc n) locals st =
     and_then (turn locals st) (λ t. after_turn t (λ locals. stepped (turns turn n locals)))
 
 -- The value of an expression that may be absent.
-abbrev pub eval_option : Context → Option Tree → Locals → State → Outcome (Option Value)
+abbrev pub eval_option : Context → Option TypedExpression → Locals → State → Outcome (Option Value)
 eval_option x None locals st = gives None st
 eval_option x (Some e) locals st = and_then (eval x e locals st) (λ v. gives (Some v))
 
@@ -68,7 +68,7 @@ assigned x i locals v st = gives (normal locals) (with_element x i v st)
 -- What a statement does, what several do one after another, and what one does that may be absent. An index is
 -- evaluated and tested before the value that is assigned; a declaration without initialiser sets 0 or null.
 abbrev mutual
-  pub exec : Context → Command → Locals → State → Outcome Completion
+  pub exec : Context → TypedStatement → Locals → State → Outcome Completion
   exec x (evaluate e) locals st = and_then (eval x e locals st) (λ v. gives (normal locals))
   exec x (set_local i e) locals st = and_then (eval_option x e locals st) (λ v. gives (normal (with_local locals i v)))
   exec x (set_variable v e) locals st = and_then (eval x e locals st) (assigned (x.named v) 0 locals)
@@ -86,10 +86,10 @@ abbrev mutual
   exec x breaks locals st = gives (broke locals) st
   exec x continues locals st = gives (continued locals) st
 
-  pub exec_all : Context → Commands → Locals → State → Outcome Completion
+  pub exec_all : Context → TypedStatements → Locals → State → Outcome Completion
   exec_all x nil locals st = gives (normal locals) st
   exec_all x (cons s ss) locals st = and_then (exec x s locals st) (λ done. followed done (exec_all x ss))
 
-  pub exec_maybe : Context → Maybe → Locals → State → Outcome Completion
+  pub exec_maybe : Context → OptionalTypedStatement → Locals → State → Outcome Completion
   exec_maybe x absent locals st = gives (normal locals) st
   exec_maybe x (present s) locals st = exec x s locals st

@@ -1,9 +1,9 @@
-pub mod Phrases
+pub mod Expressions
 pub mod Statements
 pub mod Declarations
 pub mod Placed
-pub mod Trees
-pub mod Commands
+pub mod TypedExpressions
+pub mod TypedStatements
 pub mod Units
 pub mod Numbers
 pub mod TypeTexts

@@ -1,10 +1,10 @@
 -- What a project means: what a call comes to, and with it the output and the end of a run.
 use Rattle.std.specs.Prelude.{ℕ, zero, suc, List, [], Option, Some, None, slice_get, unwrap_or, option_map, option_and_then, codes, false}
 use Rattle.std.specs.Option.{option_map_or}
-use Rattle.pw_tree.specs.Commands.{nil}
+use Rattle.pw_tree.specs.TypedStatements.{nil}
 use Rattle.pw_tree.specs.Units.{Function}
 use Rattle.pw_tree.specs.Names.{Project, Definition, Entity, function, object, resolved, function_at, variable_at}
-use Rattle.pw_tree.specs.States.{Value, number, pointer, zero_of, number_of, Locals, value_or_zero, State, depth, Stop, checked, spent, Outcome, gives, stops, and_then, stepped}
+use Rattle.pw_tree.specs.States.{Value, number, pointer, zero_of, number_of, Locals, value_or_zero, State, depth, StopReason, checked, spent, Outcome, gives, stops, and_then, stepped}
 use Rattle.pw_tree.specs.Evaluation.{Context}
 use Rattle.pw_tree.specs.Execution.{Completion, returned, exec_all}
 use Rattle.pw_tree.specs.declared.ty.Ty.{Ty}
@@ -95,7 +95,7 @@ initial_state project input bound = record {
 -- What a run ends with: the value of `main`, or why it stopped.
 pub data End : Type 0 where
   exit : ℕ → End
-  stopped : Stop → End
+  stopped : StopReason → End
 
 -- What a run gives: its output, the input that is left, and its end.
 pub record Run : Type 0 where
@@ -109,9 +109,9 @@ run_of (gives v st) = record { output = st.output; rest = st.input; end = exit (
 run_of (stops why st) = record { output = st.output; rest = st.input; end = stopped why }
 
 -- The function that a run calls first: the program's `main`.
-abbrev pub main_of : Project → Definition
-main_of project = named_in project 0 0 (Global (codes "main"))
+abbrev pub main_definition : Project → Definition
+main_definition project = named_in project 0 0 (Global (codes "main"))
 
 -- What a project means, given an input and a bound on the steps.
 abbrev pub meaning : Project → List ℕ → ℕ → Run
-meaning project input bound = run_of (call_of project bound (main_of project) [] (initial_state project input bound))
+meaning project input bound = run_of (call_of project bound (main_definition project) [] (initial_state project input bound))

@@ -5,37 +5,37 @@ use Rattle.pw_tree.specs.declared.ty.Ty.{Ty}
 use Rattle.pw_tree.specs.declared.ty.Ty.TheVariants.{Void, Long, Ulong, Fn}
 use Rattle.pw_tree.specs.declared.decl.Param.{Param}
 use Rattle.pw_tree.specs.declared.decl.InitItem.{InitItem}
-use Rattle.pw_tree.specs.Phrases.{Place, Phrase, Phrases, constant, word, unary, binary, conditional, call, index, input, output}
-use Rattle.pw_tree.specs.Phrases as phrase
-use Rattle.pw_tree.specs.Statements.{Statement, Statements, Maybe, empty, block, local, set, evaluate, if_else, while_loop, do_loop, for_loop, returns, breaks, continues, nil, cons, absent, present}
-use Rattle.pw_tree.specs.Declarations.{Declaration, DeclarationForm, prototype, definition, variable, WrittenUnit}
+use Rattle.pw_tree.specs.Expressions.{Span, Expression, Expressions, constant, word, unary, binary, conditional, call, index, input, output}
+use Rattle.pw_tree.specs.Expressions as phrase
+use Rattle.pw_tree.specs.Statements.{Statement, Statements, OptionalStatement, empty, block, local, set, evaluate, if_else, while_loop, do_loop, for_loop, returns, breaks, continues, nil, cons, absent, present}
+use Rattle.pw_tree.specs.Declarations.{Declaration, DeclarationForm, prototype, definition, variable, UntypedUnit}
 
 -- ---- expressions
 
-abbrev pub place_of : Phrase → Place
-place_of (constant at n unsigned) = at
-place_of (word at name) = at
-place_of (unary at op e) = at
-place_of (binary at op l r) = at
-place_of (conditional at c a b) = at
-place_of (call at f es) = at
-place_of (index at b i) = at
-place_of (input at) = at
-place_of (output at e) = at
+abbrev pub span_of : Expression → Span
+span_of (constant at n unsigned) = at
+span_of (word at name) = at
+span_of (unary at op e) = at
+span_of (binary at op l r) = at
+span_of (conditional at c a b) = at
+span_of (call at f es) = at
+span_of (index at b i) = at
+span_of (input at) = at
+span_of (output at e) = at
 
 -- a place among the tokens from `low` to `high`
-pub record IsWithin (low high : ℕ) (at : Place) : Type 0 where
+pub record IsWithin (low high : ℕ) (at : Span) : Type 0 where
   pub from : low ≤ at.first
   pub some : at.first ≤ at.last
   pub to : at.last ≤ high
 
 -- the token behind an expression
-abbrev pub behind : Phrase → ℕ
-behind e = suc (place_of e).last
+abbrev pub behind : Expression → ℕ
+behind e = suc (span_of e).last
 
 unfoldable mutual
   -- the expression stands among these tokens, and its parts in order within it
-  pub IsPlaced : ℕ → ℕ → Phrase → Type 0
+  pub IsPlaced : ℕ → ℕ → Expression → Type 0
   IsPlaced low high (constant at n unsigned) = IsWithin low high at
   IsPlaced low high (word at name) = IsWithin low high at
   IsPlaced low high (unary at op e) = IsWithin low high at × IsPlaced at.first at.last e
@@ -48,59 +48,59 @@ unfoldable mutual
   IsPlaced low high (output at e) = IsWithin low high at × IsPlaced at.first at.last e
 
   -- each stands behind the last
-  pub ArePlaced : ℕ → ℕ → Phrases → Type 0
+  pub ArePlaced : ℕ → ℕ → Expressions → Type 0
   ArePlaced low high phrase.nil = ⊤
   ArePlaced low high (phrase.cons e es) = IsPlaced low high e × ArePlaced (behind e) high es
 
-abbrev pub IsOptionPlaced : ℕ → ℕ → Option Phrase → Type 0
+abbrev pub IsOptionPlaced : ℕ → ℕ → Option Expression → Type 0
 IsOptionPlaced low high None = ⊤
 IsOptionPlaced low high (Some e) = IsPlaced low high e
 
 -- the token behind an expression, where there is one, or else this one
-abbrev pub behind_option : ℕ → Option Phrase → ℕ
+abbrev pub behind_option : ℕ → Option Expression → ℕ
 behind_option low None = low
 behind_option low (Some e) = behind e
 
 -- ---- statements
 
 -- the name of a local stands behind its type, which has one token, or two
-abbrev pub local_name_at : Place → Ty → ℕ
+abbrev pub local_name_at : Span → Ty → ℕ
 local_name_at at Ulong = at.first + 2
 local_name_at at Void = at.first + 1
 local_name_at at Long = at.first + 1
 local_name_at at (Fn k) = at.first + 1
 
 -- the `]` of `name[i]`: as many brackets stand round the index behind it as before it
-abbrev pub index_end : Place → Phrase → ℕ
-index_end at i = (place_of i).last + ((place_of i).first - (at.first + 2)) + 1
+abbrev pub index_end : Span → Expression → ℕ
+index_end at i = (span_of i).last + ((span_of i).first - (at.first + 2)) + 1
 
-abbrev pub statement_place : Statement → Place
-statement_place (empty at) = at
-statement_place (block at ss) = at
-statement_place (local at ty name e) = at
-statement_place (set at name i e) = at
-statement_place (evaluate at e) = at
-statement_place (if_else at c a b) = at
-statement_place (while_loop at c s) = at
-statement_place (do_loop at s c) = at
-statement_place (for_loop at first c last s) = at
-statement_place (returns at e) = at
-statement_place (breaks at) = at
-statement_place (continues at) = at
+abbrev pub statement_span : Statement → Span
+statement_span (empty at) = at
+statement_span (block at ss) = at
+statement_span (local at ty name e) = at
+statement_span (set at name i e) = at
+statement_span (evaluate at e) = at
+statement_span (if_else at c a b) = at
+statement_span (while_loop at c s) = at
+statement_span (do_loop at s c) = at
+statement_span (for_loop at first c last s) = at
+statement_span (returns at e) = at
+statement_span (breaks at) = at
+statement_span (continues at) = at
 
 abbrev pub behind_statement : Statement → ℕ
-behind_statement s = suc (statement_place s).last
+behind_statement s = suc (statement_span s).last
 
-abbrev pub behind_maybe : ℕ → Maybe → ℕ
+abbrev pub behind_maybe : ℕ → OptionalStatement → ℕ
 behind_maybe low absent = low
 behind_maybe low (present s) = behind_statement s
 
 -- the last token of an assignment: a part of a `for` has no `;` of its own
-abbrev pub set_end : Bool → Place → ℕ
+abbrev pub set_end : Bool → Span → ℕ
 set_end in_head at = if in_head then at.last else at.last - 1
 
 -- the value stands behind the name, or behind the `]` of the index
-abbrev pub IsSetPlaced : ℕ → Place → Option Phrase → Phrase → Type 0
+abbrev pub IsSetPlaced : ℕ → Span → Option Expression → Expression → Type 0
 IsSetPlaced end at None e = IsPlaced (at.first + 1) end e
 IsSetPlaced end at (Some i) e = IsPlaced (at.first + 2) end i × IsPlaced (suc (index_end at i)) end e
 
@@ -134,7 +134,7 @@ unfoldable mutual
   AreStatementsPlaced low high (cons s ss) =
       IsStatementPlaced false low high s × AreStatementsPlaced (behind_statement s) high ss
 
-  pub IsMaybePlaced : Bool → ℕ → ℕ → Maybe → Type 0
+  pub IsMaybePlaced : Bool → ℕ → ℕ → OptionalStatement → Type 0
   IsMaybePlaced in_head low high absent = ⊤
   IsMaybePlaced in_head low high (present s) = IsStatementPlaced in_head low high s
 
@@ -212,7 +212,7 @@ HaveTypes (d ∷ ds) = HasTypes d.form × HaveTypes ds
 -- ---- units
 
 -- The unit is one that was read: fewer than 2 to the 32nd tokens, in which it is placed, and types where they may stand.
-pub record IsWritten (unit : WrittenUnit) : Type 0 where
+pub record IsParsed (unit : UntypedUnit) : Type 0 where
   pub few : length unit.lines < 2 ^ 32
   pub placed : AreDeclarationsPlaced 0 (length unit.lines) unit.declarations
   pub types : HaveTypes unit.declarations

@@ -78,14 +78,14 @@ pub data Fault : Type 0 where
   depth : Fault
 
 -- Why a run stops before its end: a failed check, with the function and the line, or no step is left.
-pub data Stop : Type 0 where
-  checked : Fault → Definition → ℕ → Stop
-  spent : Stop
+pub data StopReason : Type 0 where
+  checked : Fault → Definition → ℕ → StopReason
+  spent : StopReason
 
 -- What an evaluation comes to: a result and the state, or a stop and the state.
 pub data Outcome (A : Type 0) : Type 0 where
   gives : A → State → Outcome A
-  stops : Stop → State → Outcome A
+  stops : StopReason → State → Outcome A
 
 -- One evaluation after another: a sequence point lies between them, also between operands and between arguments,
 -- which C leaves unsequenced (C17, 5.1.2.3).

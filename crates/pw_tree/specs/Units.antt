@@ -1,6 +1,6 @@
 -- Typed units, with plain trees for bodies.
 use Rattle.std.specs.Prelude.{ℕ, Bool, List, map}
-use Rattle.pw_tree.specs.Commands.{Commands, commands_of}
+use Rattle.pw_tree.specs.TypedStatements.{TypedStatements, typed_statements_of}
 use Rattle.pw_tree.specs.declared.ty.Sig.{Sig}
 use Rattle.pw_tree.specs.declared.tunit.TFun.{TFun}
 use Rattle.pw_tree.specs.declared.tunit.TVar.{TVar}
@@ -15,7 +15,7 @@ pub record Function : Type 0 where
   pub line : ℕ
   pub locals : ℕ
   pub held : ℕ
-  pub body : Commands
+  pub body : TypedStatements
 
 -- A unit: its functions and variables in order of definition, and the names with external linkage that it uses.
 pub record TypedUnit : Type 0 where
@@ -32,7 +32,7 @@ function_of f = record {
   line = f.line;
   locals = f.locals;
   held = f.held;
-  body = commands_of f.body;
+  body = typed_statements_of f.body;
 }
 
 -- The plain unit.

@@ -3,8 +3,8 @@ use Rattle.std.proofs.Common.{◌≡◌, ℕ, ◌-◌, ◌≤◌, ◌<◌, List,
 use Rattle.std.specs.Prelude.{Some, All}
 use Rattle.std.proofs.lemmas.List.Elements.{All-nil, All-cons}
 use Rattle.std.proofs.Math.Nat.{eq-zero-or-pos}
-use Rattle.pw_tree.specs.Declarations.{Declaration, WrittenUnit}
-use Rattle.pw_tree.specs.Placed.{AreDeclarationsPlaced, IsWritten}
+use Rattle.pw_tree.specs.Declarations.{Declaration, UntypedUnit}
+use Rattle.pw_tree.specs.Placed.{AreDeclarationsPlaced, IsParsed}
 use Rattle.pw_types.specs.declared.fault.Fault.{Fault}
 use Rattle.pw_types.specs.Faults.{first_of}
 use Rattle.pw_types.specs.Units.{files_behind, faults_of_declarations, faults_of}
@@ -15,10 +15,10 @@ use Rattle.pw_types.proofs.Standing as standing
 use Rattle.pw_types.proofs.Gathering.{walk_is_flat}
 use Rattle.pw_types.proofs.StandingUnits.{unit_faults, unit_stands}
 
-walk_is : (u : WrittenUnit) → map (λ (m : Nested). m.fault) (walk 0 (unit u)) ≡ faults_of u
+walk_is : (u : UntypedUnit) → map (λ (m : Nested). m.fault) (walk 0 (unit u)) ≡ faults_of u
 walk_is u = walk_is_flat 0 (unit u) ∙ unit_faults u
 
-orderly : (u : WrittenUnit) → IsWritten u → Orderly 0 0 (length u.lines - 1) (walk 0 (unit u))
+orderly : (u : UntypedUnit) → IsParsed u → Orderly 0 0 (length u.lines - 1) (walk 0 (unit u))
 orderly u w = walk_orderly 0 (unit_stands u w)
 
 pub faults_ascend : FaultsAscend
@@ -55,11 +55,11 @@ unfolding AreDeclarationsPlaced
 no_declarations [] n e p = refl
 no_declarations (d ∷ ds) n e p = absurd (omega (arith, e, p.0.to))
 
-no_faults : (u : WrittenUnit) → u.declarations ≡ [] → faults_of u ≡ []
+no_faults : (u : UntypedUnit) → u.declarations ≡ [] → faults_of u ≡ []
 unfolding faults_of_declarations files_behind
 no_faults u e = ap (λ ds. faults_of (record u { declarations = ds })) e
 
-within_or_none : (u : WrittenUnit) → IsWritten u → (length u.lines ≡ 0) ⊎ (0 < length u.lines) → All (λ f. f.at < length u.lines) (faults_of u)
+within_or_none : (u : UntypedUnit) → IsParsed u → (length u.lines ≡ 0) ⊎ (0 < length u.lines) → All (λ f. f.at < length u.lines) (faults_of u)
 within_or_none u w (inl e) =
     subst (All (λ f. f.at < length u.lines)) (sym (no_faults u (no_declarations u.declarations (length u.lines) e w.placed))) (All-nil _)
 within_or_none u w (inr some) =

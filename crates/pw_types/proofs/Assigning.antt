@@ -1,12 +1,12 @@
 -- What an assignment comes to.
 use Rattle.std.proofs.Common.{◌≡◌, ℕ, suc, ◌+◌, min, max, Bool, true, false, ◌&&◌, not, List, [], ◌∷◌, ◌++◌, Option, Some, None, is_some, is_none, option_map, refl, sym, ap, ◌∙◌, subst, append_assoc, arith, nat_lt, slice_index_or}
 use Rattle.std.proofs.lemmas.Bool.Decides.{nat_tests}
-use Rattle.pw_tree.specs.Phrases.{Place, Phrase}
-use Rattle.pw_tree.specs.Trees.{Tree, tree_of}
+use Rattle.pw_tree.specs.Expressions.{Span, Expression}
+use Rattle.pw_tree.specs.TypedExpressions.{TypedExpression, typed_expression_of}
 use Rattle.pw_tree.specs.Statements.{set}
 use Rattle.pw_tree.specs.Placed.{set_end, index_end}
-use Rattle.pw_tree.specs.Commands.{Command}
-use Rattle.pw_tree.specs.Commands as command
+use Rattle.pw_tree.specs.TypedStatements.{TypedStatement}
+use Rattle.pw_tree.specs.TypedStatements as command
 use Rattle.pw_tree.specs.declared.ty.Ty.{Ty}
 use Rattle.pw_tree.specs.declared.ty.Ref.{Ref}
 use Rattle.pw_tree.specs.declared.texpr.TExpr.{TExpr}
@@ -30,8 +30,8 @@ use Rattle.pw_types.specs.Typed as typed_trees
 use Rattle.pw_types.specs.Expressions.{has_type, faults}
 use Rattle.pw_types.specs.Blocks.{uses_by}
 use Rattle.pw_types.specs.Statements.{faults_of_target, faults_of_array, faults_by, type_of_target, type_of_kind, holds_too_many, element_holds_too_many, is_unknown_target, has_other_index, set_element_holds_too_many}
-use Rattle.pw_types.specs.Commands.{tree_in, command_of, assigned, element_assigned, bracket_line}
-use Rattle.pw_types.specs.CheckingStatements.{Outcome, block_of, outcome_at, judged_at, setting_of, Fails}
+use Rattle.pw_types.specs.TypedStatements.{typed_expression, typed_statement, assigned, element_assigned, bracket_line}
+use Rattle.pw_types.specs.CheckingStatements.{WalkResult, block_of, outcome_at, judged_at, setting_of, Fails}
 use Rattle.pw_types.specs.StatementValues.{Notes, IsValue}
 use Rattle.pw_types.specs.StatementTargets.{IsFile, IsLocal, IsArray, IsIndex, IsElementValue, faults_of_index, faults_of_element_value, holds_too_many_beside}
 use Rattle.pw_types.proofs.EnclosingStatements.{same, in_front, tree_is}
@@ -53,58 +53,58 @@ notes_behind us vs k a b c first second = record {
 }
 
 -- a statement that declares nothing, without faults
-pub comes_to : (f : List Fault) (c d : Command) (us vs : List ℕ) (old new : Walk)
+pub comes_to : (f : List Fault) (c d : TypedStatement) (us vs : List ℕ) (old new : Walk)
     → f ≡ [] → c ≡ d → us ≡ vs → Notes vs (held_by d) old new
-    → let w : Outcome = record { faults = f; command = c; used = old.used.items ++ us; held = max old.held (held_by c); block = block_of old } in
+    → let w : WalkResult = record { faults = f; command = c; used = old.used.items ++ us; held = max old.held (held_by c); block = block_of old } in
     w ≡ judged_at d new
 comes_to f c d us vs old new none is uses notes =
-    same none is (ap (λ (u : List ℕ). old.used.items ++ u) uses) (ap (λ (x : Command). max old.held (held_by x)) is) refl
+    same none is (ap (λ (u : List ℕ). old.used.items ++ u) uses) (ap (λ (x : TypedStatement). max old.held (held_by x)) is) refl
     ∙ noted d vs (held_by d) old new notes
 
 -- ---- a name
 
 -- the faults of the value that is assigned at a type
-abbrev faults_at : Scope → Option Ty → Phrase → ℕ → List Fault
+abbrev faults_at : Scope → Option Ty → Expression → ℕ → List Fault
 faults_at scope ty e end = faults scope (roles.Assigned ty) e ++ broken rules.TooDeep end (is_some ty && holds_too_many (typed scope e))
 
-pub sets_local : (x : Given) (old new : Walk) (at : Place) (name : List ℕ) (e : Phrase) (n : ℕ) (ty : Ty) (t : TExpr)
+pub sets_local : (x : Given) (old new : Walk) (at : Span) (name : List ℕ) (e : Expression) (n : ℕ) (ty : Ty) (t : TExpr)
     → faults_of_target old.scope name at.first ≡ [] → IsLocal old.scope name n ty
     → faults_at old.scope (Some ty) e (set_end x.in_head at) ≡ [] → IsValue e old new t
-    → outcome_at x old (set at name None e) ≡ judged_at (command.command_of (kinds.SetLocal n (Some t))) new
-unfolding faults_by command_of uses_by held_by
+    → outcome_at x old (set at name None e) ≡ judged_at (command.typed_statement_of (kinds.SetLocal n (Some t))) new
+unfolding faults_by typed_statement uses_by held_by
 sets_local x old new at name e n ty t free target none value =
-    let is = tree_is old.scope e (tree_of t) value.tree in
+    let is = tree_is old.scope e (typed_expression_of t) value.tree in
     let value_faults : faults_at old.scope (type_of_target (meaning old.scope name)) e (set_end x.in_head at) ≡ [] =
     ap (λ (m : Meaning). faults_at old.scope (type_of_target m) e (set_end x.in_head at)) target.means
     ∙ (ap (λ (u : Ty). faults_at old.scope (Some u) e (set_end x.in_head at)) (sym target.type_is) ∙ none) in
-    comes_to _ (assigned old.scope (meaning old.scope name) (tree_in old.scope e)) (command.set_local n (Some (tree_of t))) _ (uses old.scope e) old new
+    comes_to _ (assigned old.scope (meaning old.scope name) (typed_expression old.scope e)) (command.set_local n (Some (typed_expression_of t))) _ (uses old.scope e) old new
     (in_front free ∙ value_faults)
-    (ap (λ (m : Meaning). assigned old.scope m (tree_in old.scope e)) target.means
-    ∙ (ap (λ (k : ℕ). command.set_local k (Some (tree_in old.scope e))) (sym target.number) ∙ ap (λ (v : Tree). command.set_local n (Some v)) is))
+    (ap (λ (m : Meaning). assigned old.scope m (typed_expression old.scope e)) target.means
+    ∙ (ap (λ (k : ℕ). command.set_local k (Some (typed_expression old.scope e))) (sym target.number) ∙ ap (λ (v : TypedExpression). command.set_local n (Some v)) is))
     (ap (λ (m : Meaning). uses_of_meaning old.scope m ++ uses old.scope e) target.means)
     value.notes
-    ∙ ap (λ (c : Command). judged_at c new) (sym (command_of-SetLocal n (Some t)))
+    ∙ ap (λ (c : TypedStatement). judged_at c new) (sym (command_of-SetLocal n (Some t)))
 
-pub sets_variable : (x : Given) (old mid new : Walk) (at : Place) (name : List ℕ) (e : Phrase) (n : ℕ) (r : Ref) (ty : Ty) (t : TExpr)
+pub sets_variable : (x : Given) (old mid new : Walk) (at : Span) (name : List ℕ) (e : Expression) (n : ℕ) (r : Ref) (ty : Ty) (t : TExpr)
     → faults_of_target old.scope name at.first ≡ [] → IsFile old.scope name n r ty None → Notes (n ∷ []) 0 old mid
     → faults_at mid.scope (Some ty) e (set_end x.in_head at) ≡ [] → IsValue e mid new t
-    → outcome_at x old (set at name None e) ≡ judged_at (command.command_of (kinds.SetVar r t)) new
-unfolding faults_by command_of uses_by held_by
+    → outcome_at x old (set at name None e) ≡ judged_at (command.typed_statement_of (kinds.SetVar r t)) new
+unfolding faults_by typed_statement uses_by held_by
 sets_variable x old mid new at name e n r ty t free target note none value =
     let f = target.file in
-    let is = tree_is old.scope e (tree_of t) (ap (λ (s : Scope). typed s e) (sym note.scope) ∙ value.tree) in
+    let is = tree_is old.scope e (typed_expression_of t) (ap (λ (s : Scope). typed s e) (sym note.scope) ∙ value.tree) in
     let kind : type_of_target (meaning old.scope name) ≡ Some ty = ap type_of_target target.means ∙ ap type_of_kind target.kind in
     let value_faults : faults_at old.scope (type_of_target (meaning old.scope name)) e (set_end x.in_head at) ≡ [] =
     ap (λ (u : Option Ty). faults_at old.scope u e (set_end x.in_head at)) kind
     ∙ (ap (λ (s : Scope). faults_at s (Some ty) e (set_end x.in_head at)) (sym note.scope) ∙ none) in
-    comes_to _ (assigned old.scope (meaning old.scope name) (tree_in old.scope e)) (command.set_variable r (tree_of t)) _ ((n ∷ []) ++ uses mid.scope e) old new
+    comes_to _ (assigned old.scope (meaning old.scope name) (typed_expression old.scope e)) (command.set_variable r (typed_expression_of t)) _ ((n ∷ []) ++ uses mid.scope e) old new
     (in_front free ∙ value_faults)
-    (ap (λ (m : Meaning). assigned old.scope m (tree_in old.scope e)) target.means
-    ∙ (ap (λ (u : Ref). command.set_variable u (tree_in old.scope e)) (sym target.reference) ∙ ap (λ (v : Tree). command.set_variable r v) is))
+    (ap (λ (m : Meaning). assigned old.scope m (typed_expression old.scope e)) target.means
+    ∙ (ap (λ (u : Ref). command.set_variable u (typed_expression old.scope e)) (sym target.reference) ∙ ap (λ (v : TypedExpression). command.set_variable r v) is))
     (ap (λ (m : Meaning). uses_of_meaning old.scope m ++ uses old.scope e) target.means
     ∙ (ap (λ (k : ℕ). k ∷ uses old.scope e) (sym target.number) ∙ ap (λ (s : Scope). n ∷ uses s e) (sym note.scope)))
-    (notes_behind (n ∷ []) (uses mid.scope e) (held (tree_of t)) old mid new note value.notes)
-    ∙ ap (λ (c : Command). judged_at c new) (sym (command_of-SetVar r t))
+    (notes_behind (n ∷ []) (uses mid.scope e) (held (typed_expression_of t)) old mid new note value.notes)
+    ∙ ap (λ (c : TypedStatement). judged_at c new) (sym (command_of-SetVar r t))
 
 -- ---- an element
 
@@ -128,11 +128,11 @@ none_before [] ys none = refl
 none_before (f ∷ xs) ys none = cc
 
 -- what the assignment holds too many of, in one way and in the other
-same_too_many : (index value : Option Tree) (i : Tree) → index ≡ Some i
+same_too_many : (index value : Option TypedExpression) (i : TypedExpression) → index ≡ Some i
     → holds_too_many_beside (min (held i) 101) value ≡ element_holds_too_many index value
-same_too_many index value i index_is = of_value value ∙ ap (λ (o : Option Tree). element_holds_too_many o value) (sym index_is)
+same_too_many index value i index_is = of_value value ∙ ap (λ (o : Option TypedExpression). element_holds_too_many o value) (sym index_is)
   where
-    of_value : (o : Option Tree) → holds_too_many_beside (min (held i) 101) o ≡ element_holds_too_many (Some i) o
+    of_value : (o : Option TypedExpression) → holds_too_many_beside (min (held i) 101) o ≡ element_holds_too_many (Some i) o
     of_value None = refl
     of_value (Some v) = capped (held i) (held v)
 
@@ -146,34 +146,34 @@ array_is scope name n r ty size target =
 -- ---- its index
 
 -- the faults of the index of what has this name
-abbrev faults_of_index_of : Scope → Place → List ℕ → Phrase → List Fault
+abbrev faults_of_index_of : Scope → Span → List ℕ → Expression → List Fault
 faults_of_index_of scope at name i = faults scope roles.Value i ++ broken rules.Operands (index_end at i) (has_other_index scope name i)
 
 is_there : {A : Type 0} (at : ℕ) (o : Option A) → broken rules.NotArray at (is_none o) ≡ [] → is_some o ≡ true
 is_there at None none = cc
 is_there at (Some a) none = refl
 
-same_index : (scope : Scope) (at : Place) (name : List ℕ) (i : Phrase) → faults_of_array scope name at.first ≡ []
+same_index : (scope : Scope) (at : Span) (name : List ℕ) (i : Expression) → faults_of_array scope name at.first ≡ []
     → faults_of_index_of scope at name i ≡ faults_of_index scope at i
 same_index scope at name i free =
     ap (λ (b : Bool). faults scope roles.Value i ++ broken rules.Operands (index_end at i) (b && has_type (λ t. not (is_number t)) (typed scope i)))
     (is_there at.first (array_named scope name) (none_behind (broken_by rules.Unknown at.first name (is_unknown_target scope name)) _ free))
 
 -- the faults of the value that an element of an array of this name is assigned
-abbrev rest_of_faults : Scope → List ℕ → Phrase → Phrase → ℕ → List Fault
+abbrev rest_of_faults : Scope → List ℕ → Expression → Expression → ℕ → List Fault
 rest_of_faults scope name i e end =
     faults scope (roles.Assigned (option_map (λ (b : typed_trees.Array). b.ty) (array_named scope name))) e
     ++ broken rules.TooDeep end (set_element_holds_too_many scope name i e)
 
 -- what stands before the value in an assignment to an element, which is judged so far
-pub record IsPrepared (old noted mid : Walk) (at : Place) (name : List ℕ) (i : Phrase) (a : Array) (index : Typed) : Type 0 where
+pub record IsPrepared (old noted mid : Walk) (at : Span) (name : List ℕ) (i : Expression) (a : Array) (index : Typed) : Type 0 where
   pub free : faults_of_array old.scope name at.first ≡ []
   pub target : IsArray old.scope name a
   pub note : Notes (a.number ∷ []) 0 old noted
   pub index_free : faults_of_index noted.scope at i ≡ []
   pub index_is : IsIndex i noted mid index
 
-module _ (x : Given) (old noted mid : Walk) (at : Place) (name : List ℕ) (i e : Phrase) (a : Array) (index : Typed)
+module _ (x : Given) (old noted mid : Walk) (at : Span) (name : List ℕ) (i e : Expression) (a : Array) (index : Typed)
     (p : IsPrepared old noted mid at name i a index) where
   from : mid.scope ≡ old.scope
   from = p.index_is.notes.scope ∙ p.note.scope
@@ -181,7 +181,7 @@ module _ (x : Given) (old noted mid : Walk) (at : Place) (name : List ℕ) (i e 
   array : array_named old.scope name ≡ Some (record { reference = a.reference; ty = a.ty; size = a.size })
   array = array_is old.scope name a.number a.reference a.ty a.size p.target
 
-  index_tree : typed old.scope i ≡ Some (tree_of index.tree)
+  index_tree : typed old.scope i ≡ Some (typed_expression_of index.tree)
   index_tree = ap (λ (s : Scope). typed s i) (sym p.note.scope) ∙ p.index_is.tree
 
   value_faults : (end : ℕ) → faults_of_element_value mid.scope index.held a.ty e end ≡ rest_of_faults old.scope name i e end
@@ -191,7 +191,7 @@ module _ (x : Given) (old noted mid : Walk) (at : Place) (name : List ℕ) (i e 
       ++ broken rules.TooDeep end (is_some o && holds_too_many_beside index.held (typed old.scope e))) (sym array)
       ∙ ap (λ (b : Bool). faults old.scope (roles.Assigned (option_map (λ (b' : typed_trees.Array). b'.ty) (array_named old.scope name))) e
       ++ broken rules.TooDeep end (is_some (array_named old.scope name) && b))
-      (ap (λ (n : ℕ). holds_too_many_beside n (typed old.scope e)) p.index_is.held ∙ same_too_many (typed old.scope i) (typed old.scope e) (tree_of index.tree) index_tree))
+      (ap (λ (n : ℕ). holds_too_many_beside n (typed old.scope e)) p.index_is.held ∙ same_too_many (typed old.scope i) (typed old.scope e) (typed_expression_of index.tree) index_tree))
 
   pub all_faults : faults_by (setting_of x) (block_of old) (set at name (Some i) e) ≡ rest_of_faults old.scope name i e (set_end x.in_head at)
   unfolding faults_by
@@ -206,11 +206,11 @@ module _ (x : Given) (old noted mid : Walk) (at : Place) (name : List ℕ) (i e 
   pub sets_element : (new : Walk) (value : TExpr) (line : ℕ)
       → faults_of_element_value mid.scope index.held a.ty e (set_end x.in_head at) ≡ [] → IsElementValue index.held e mid new value
       → line ≡ slice_index_or x.lines.now (suc at.first) 0
-      → outcome_at x old (set at name (Some i) e) ≡ judged_at (command.command_of (kinds.SetElem a.reference a.size line index.tree value)) new
-  unfolding command_of uses_by held_by
+      → outcome_at x old (set at name (Some i) e) ≡ judged_at (command.typed_statement_of (kinds.SetElem a.reference a.size line index.tree value)) new
+  unfolding typed_statement uses_by held_by
   sets_element new value line value_none value_is line_is =
-      let it = tree_of index.tree in
-      let vt = tree_of value in
+      let it = typed_expression_of index.tree in
+      let vt = typed_expression_of value in
       let end = set_end x.in_head at in
       let value_tree : typed old.scope e ≡ Some vt = ap (λ (s : Scope). typed s e) (sym from) ∙ value_is.tree in
       let few : nat_lt 100 (max (min (held it) 101) (1 + held vt)) ≡ false =
@@ -219,14 +219,14 @@ module _ (x : Given) (old noted mid : Walk) (at : Place) (name : List ℕ) (i e 
       ∙ not_broken end _ (none_behind (faults mid.scope (roles.Assigned (Some a.ty)) e) _ value_none)) in
       let most : max index.held (1 + held vt) ≡ held_element it vt =
       ap (λ (n : ℕ). max n (1 + held vt)) p.index_is.held ∙ exact (held it) (held vt) (sym (capped (held it) (held vt)) ∙ few) in
-      comes_to _ (element_assigned (array_named old.scope name) (bracket_line (setting_of x) at) (tree_in old.scope i) (tree_in old.scope e))
+      comes_to _ (element_assigned (array_named old.scope name) (bracket_line (setting_of x) at) (typed_expression old.scope i) (typed_expression old.scope e))
       (command.set_element a.reference a.size line it vt)
       _ ((a.number ∷ []) ++ (uses noted.scope i ++ uses mid.scope e)) old new
       (all_faults ∙ (sym (value_faults end) ∙ value_none))
-      (ap (λ (o : Option typed_trees.Array). element_assigned o (bracket_line (setting_of x) at) (tree_in old.scope i) (tree_in old.scope e)) array
-      ∙ (ap (λ (l : ℕ). command.set_element a.reference a.size l (tree_in old.scope i) (tree_in old.scope e)) (sym line_is)
-      ∙ (ap (λ (v : Tree). command.set_element a.reference a.size line v (tree_in old.scope e)) (tree_is old.scope i it index_tree)
-      ∙ ap (λ (v : Tree). command.set_element a.reference a.size line it v) (tree_is old.scope e vt value_tree))))
+      (ap (λ (o : Option typed_trees.Array). element_assigned o (bracket_line (setting_of x) at) (typed_expression old.scope i) (typed_expression old.scope e)) array
+      ∙ (ap (λ (l : ℕ). command.set_element a.reference a.size l (typed_expression old.scope i) (typed_expression old.scope e)) (sym line_is)
+      ∙ (ap (λ (v : TypedExpression). command.set_element a.reference a.size line v (typed_expression old.scope e)) (tree_is old.scope i it index_tree)
+      ∙ ap (λ (v : TypedExpression). command.set_element a.reference a.size line it v) (tree_is old.scope e vt value_tree))))
       (ap (λ (m : Meaning). uses_of_meaning old.scope m ++ (uses old.scope i ++ uses old.scope e)) p.target.means
       ∙ (ap (λ (k : ℕ). k ∷ (uses old.scope i ++ uses old.scope e)) (sym p.target.number)
       ∙ (ap (λ (s : Scope). a.number ∷ (uses s i ++ uses old.scope e)) (sym p.note.scope)
@@ -234,9 +234,9 @@ module _ (x : Given) (old noted mid : Walk) (at : Place) (name : List ℕ) (i e 
       (notes_behind (a.number ∷ []) (uses noted.scope i ++ uses mid.scope e) (held_element it vt) old noted new p.note
       (notes_behind (uses noted.scope i) (uses mid.scope e) (held_element it vt) noted mid new p.index_is.notes
       (subst (λ (n : ℕ). Notes (uses mid.scope e) n mid new) most value_is.notes)))
-      ∙ ap (λ (c : Command). judged_at c new) (sym (command_of-SetElem a.reference a.size line index.tree value))
+      ∙ ap (λ (c : TypedStatement). judged_at c new) (sym (command_of-SetElem a.reference a.size line index.tree value))
 
-pub index_fails : (x : Given) (old noted : Walk) (at : Place) (name : List ℕ) (i e : Phrase) (us : List ℕ) (stop : Stop)
+pub index_fails : (x : Given) (old noted : Walk) (at : Span) (name : List ℕ) (i e : Expression) (us : List ℕ) (stop : Stop)
     → faults_of_array old.scope name at.first ≡ [] → Notes us 0 old noted → Fails (faults_of_index noted.scope at i) stop
     → Fails (faults_by (setting_of x) (block_of old) (set at name (Some i) e)) stop
 unfolding faults_by

@@ -1,11 +1,11 @@
 -- What a local's declaration comes to.
 use Rattle.std.proofs.Common.{◌≡◌, ℕ, suc, max, List, [], Option, Some, option_map, sym, ap, ◌∙◌}
-use Rattle.pw_tree.specs.Phrases.{Place, Phrase}
-use Rattle.pw_tree.specs.Trees.{Tree}
+use Rattle.pw_tree.specs.Expressions.{Span, Expression}
+use Rattle.pw_tree.specs.TypedExpressions.{TypedExpression}
 use Rattle.pw_tree.specs.Statements.{local}
 use Rattle.pw_tree.specs.Placed.{local_name_at}
-use Rattle.pw_tree.specs.Commands.{Command}
-use Rattle.pw_tree.specs.Commands as command
+use Rattle.pw_tree.specs.TypedStatements.{TypedStatement}
+use Rattle.pw_tree.specs.TypedStatements as command
 use Rattle.pw_tree.specs.declared.ty.Ty.{Ty}
 use Rattle.pw_tree.specs.declared.texpr.TExpr.{TExpr}
 use Rattle.pw_tree.specs.declared.tstmt.TStmt.TheVariants as kinds
@@ -16,7 +16,7 @@ use Rattle.pw_types.specs.declared.statement_step.Setting.{Setting as Given}
 use Rattle.pw_types.specs.Held.{held_option, held_by}
 use Rattle.pw_types.specs.Blocks.{with_local, declaring, uses_by}
 use Rattle.pw_types.specs.Statements.{faults_of_name, faults_of_option, faults_by}
-use Rattle.pw_types.specs.Commands.{tree_in, command_of}
+use Rattle.pw_types.specs.TypedStatements.{typed_expression, typed_statement}
 use Rattle.pw_types.specs.CheckingStatements.{block_of, outcome_at, judged_at}
 use Rattle.pw_types.specs.StatementValues.{IsMaybeValue, Declares}
 use Rattle.pw_types.proofs.EnclosingStatements.{same, in_front}
@@ -31,19 +31,19 @@ behind_value : (name : List ℕ) (ty : Ty) (old mid : Walk) → mid.scope ≡ ol
 behind_value name ty old mid scope start count =
     let same_blocks : block_of old ≡ block_of mid = cc in ap (declaring name ty) same_blocks
 
-pub declares_local : (x : Given) (old mid new : Walk) (at : Place) (ty : Ty) (name : List ℕ) (e : Option Phrase) (t : Option TExpr) (n : ℕ)
+pub declares_local : (x : Given) (old mid new : Walk) (at : Span) (ty : Ty) (name : List ℕ) (e : Option Expression) (t : Option TExpr) (n : ℕ)
     → faults_of_name (block_of old) name (local_name_at at ty) ≡ [] → faults_of_option old.scope (roles.Assigned (Some ty)) e ≡ []
     → IsMaybeValue e old mid t → Declares name ty mid new n
-    → outcome_at x old (local at ty name e) ≡ judged_at (command.command_of (kinds.SetLocal n t)) new
-unfolding faults_by command_of uses_by held_by
+    → outcome_at x old (local at ty name e) ≡ judged_at (command.typed_statement_of (kinds.SetLocal n t)) new
+unfolding faults_by typed_statement uses_by held_by
 declares_local x old mid new at ty name e t n free none value declared =
     let number : old.count ≡ n = sym (declared.number ∙ value.notes.count) in
     let ends : declaring name ty (block_of old) ≡ block_of new =
     behind_value name ty old mid value.notes.scope value.notes.start value.notes.count
     ∙ same_block mid new name ty declared.scope declared.start declared.count in
     same (in_front free ∙ none)
-    (ap (λ (m : ℕ). command.set_local m (option_map (tree_in old.scope) e)) number
-    ∙ (ap (λ (v : Option Tree). command.set_local n v) value.tree ∙ sym (command_of-SetLocal n t)))
+    (ap (λ (m : ℕ). command.set_local m (option_map (typed_expression old.scope) e)) number
+    ∙ (ap (λ (v : Option TypedExpression). command.set_local n v) value.tree ∙ sym (command_of-SetLocal n t)))
     (sym (declared.used ∙ value.notes.used))
-    (ap (λ (v : Option Tree). max old.held (held_option v)) value.tree ∙ sym (declared.held ∙ value.notes.held))
+    (ap (λ (v : Option TypedExpression). max old.held (held_option v)) value.tree ∙ sym (declared.held ∙ value.notes.held))
     ends

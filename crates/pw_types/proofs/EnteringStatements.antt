@@ -2,11 +2,11 @@
 use Rattle.std.proofs.Common.{◌≡◌, ℕ, true, false, ◌-◌, ◌<◌, ◌≤◌, max, List, [], ◌∷◌, ◌++◌, length, take, drop, get_or, Option, Some, None, option_map, Err, refl, sym, ap, ◌∙◌, arith}
 use Rattle.std.specs.Borrow.{Bor}
 use Rattle.std.proofs.lemmas.Grind.{common_steps}
-use Rattle.pw_tree.specs.Phrases.{Place, Phrase, phrase_of}
-use Rattle.pw_tree.specs.Trees.{tree_of}
-use Rattle.pw_tree.specs.Statements.{Statement, Statements, Maybe, block, if_else, while_loop, do_loop, for_loop, nil, cons, absent, present, maybe, statement_of, statements_of}
-use Rattle.pw_tree.specs.Commands.{Command}
-use Rattle.pw_tree.specs.Commands as command
+use Rattle.pw_tree.specs.Expressions.{Span, Expression, expression_of}
+use Rattle.pw_tree.specs.TypedExpressions.{typed_expression_of}
+use Rattle.pw_tree.specs.Statements.{Statement, Statements, OptionalStatement, block, if_else, while_loop, do_loop, for_loop, nil, cons, absent, present, optional_statement, statement_of, statements_of}
+use Rattle.pw_tree.specs.TypedStatements.{TypedStatement}
+use Rattle.pw_tree.specs.TypedStatements as command
 use Rattle.pw_tree.specs.declared.expr.Expr.{Expr}
 use Rattle.pw_tree.specs.declared.stmt.Stmt.{Stmt}
 use Rattle.pw_tree.specs.declared.texpr.TExpr.{TExpr}
@@ -23,18 +23,18 @@ use Rattle.pw_types.specs.declared.statement_step.Form.{Form}
 use Rattle.pw_types.specs.declared.statement_step.Form.TheVariants as forms
 use Rattle.pw_types.specs.Blocks.{Setting, body, head, Block}
 use Rattle.pw_types.specs.Statements.{faults_of_whole, faults_of_option, faults_by}
-use Rattle.pw_types.specs.CheckingStatements.{Outcome, outcome, block_of, outer_at, outcome_at, judged_at, setting_of, resumed_at, Fails, leave, behind_first_at, typed_maybe, block_at}
+use Rattle.pw_types.specs.CheckingStatements.{WalkResult, outcome, block_of, outer_at, outcome_at, judged_at, setting_of, resumed_at, Fails, leave, behind_first_at, typed_maybe, block_at}
 use Rattle.pw_types.specs.StatementValues.{Notes, IsValue, IsMaybeValue, JudgesValue, JudgesMaybeValue}
 use Rattle.pw_types.proofs.EnclosingStatements.{tree_is, block_begins, block_of_none, if_begins, while_begins, do_begins, for_begins, for_begins_bare, for_goes_on, for_has_no_last}
 use Rattle.pw_types.proofs.Failing.{fails_of, fails_in_front}
 
 -- ---- values
 
-pub value_fails : (role : Role) (e : Phrase) (old new : Walk) (stop : Stop) → JudgesValue role e old new (Err stop)
+pub value_fails : (role : Role) (e : Expression) (old new : Walk) (stop : Stop) → JudgesValue role e old new (Err stop)
     → Fails (faults_of_whole old.scope role e) stop
 value_fails role e old new stop is = fails_of {A = TExpr} (faults_of_whole old.scope role e) (IsValue e old new) stop is
 
-pub maybe_value_fails : (role : Role) (e : Option Phrase) (old new : Walk) (stop : Stop) → JudgesMaybeValue role e old new (Err stop)
+pub maybe_value_fails : (role : Role) (e : Option Expression) (old new : Walk) (stop : Stop) → JudgesMaybeValue role e old new (Err stop)
     → Fails (faults_of_option old.scope role e) stop
 maybe_value_fails role e old new stop is = fails_of {A = Option TExpr} (faults_of_option old.scope role e) (IsMaybeValue e old new) stop is
 
@@ -66,27 +66,27 @@ entered form o x x' y us k old new s notes o_is x_is =
     ∙ (ap (λ (p : Outer). resumed_at p form (outcome_at y new s)) (noted_outer x us k old new notes ∙ sym o_is)
     ∙ ap (λ (z : Given). resumed_at o form (outcome_at z new s)) (sym x_is))
 
-pub enters_if : (x x' : Given) (o : Outer) (old new : Walk) (at : Place) (c : Phrase) (a : Stmt) (d : Bor (Option Stmt)) (t : TExpr)
+pub enters_if : (x x' : Given) (o : Outer) (old new : Walk) (at : Span) (c : Expression) (a : Stmt) (d : Bor (Option Stmt)) (t : TExpr)
     → faults_of_whole old.scope roles.Value c ≡ [] → IsValue c old new t → o ≡ outer_at x new → x' ≡ record x { in_head = false }
-    → outcome_at x old (if_else at c (statement_of a) (maybe (option_map statement_of d.now)))
+    → outcome_at x old (if_else at c (statement_of a) (optional_statement (option_map statement_of d.now)))
     ≡ resumed_at o (forms.Then t d) (outcome_at x' new (statement_of a))
 enters_if x x' o old new at c a d t none value o_is x_is =
-    if_begins (setting_of x) (block_of old) old.used.items old.held at c (statement_of a) _ (tree_of t) none (tree_is old.scope c (tree_of t) value.tree)
+    if_begins (setting_of x) (block_of old) old.used.items old.held at c (statement_of a) _ (typed_expression_of t) none (tree_is old.scope c (typed_expression_of t) value.tree)
     ∙ entered (forms.Then t d) o x x' (record x { in_head = false }) _ _ old new (statement_of a) value.notes o_is x_is
 
-pub enters_while : (x x' : Given) (o : Outer) (old new : Walk) (at : Place) (c : Phrase) (s : Stmt) (t : TExpr)
+pub enters_while : (x x' : Given) (o : Outer) (old new : Walk) (at : Span) (c : Expression) (s : Stmt) (t : TExpr)
     → faults_of_whole old.scope roles.Value c ≡ [] → IsValue c old new t → o ≡ outer_at x new → x' ≡ record x { in_loop = true; in_head = false }
     → outcome_at x old (while_loop at c (statement_of s)) ≡ resumed_at o (forms.While t) (outcome_at x' new (statement_of s))
 enters_while x x' o old new at c s t none value o_is x_is =
-    while_begins (setting_of x) (block_of old) old.used.items old.held at c (statement_of s) (tree_of t) none (tree_is old.scope c (tree_of t) value.tree)
+    while_begins (setting_of x) (block_of old) old.used.items old.held at c (statement_of s) (typed_expression_of t) none (tree_is old.scope c (typed_expression_of t) value.tree)
     ∙ entered (forms.While t) o x x' (record x { in_loop = true; in_head = false }) _ _ old new (statement_of s) value.notes o_is x_is
 
-pub if_fails : (x : Given) (old new : Walk) (at : Place) (c : Phrase) (a : Statement) (d : Maybe) (stop : Stop) → JudgesValue roles.Value c old new (Err stop)
+pub if_fails : (x : Given) (old new : Walk) (at : Span) (c : Expression) (a : Statement) (d : OptionalStatement) (stop : Stop) → JudgesValue roles.Value c old new (Err stop)
     → Fails (faults_by (setting_of x) (block_of old) (if_else at c a d)) stop
 unfolding faults_by
 if_fails x old new at c a d stop is = fails_in_front _ _ stop (value_fails roles.Value c old new stop is)
 
-pub while_fails : (x : Given) (old new : Walk) (at : Place) (c : Phrase) (s : Statement) (stop : Stop) → JudgesValue roles.Value c old new (Err stop)
+pub while_fails : (x : Given) (old new : Walk) (at : Span) (c : Expression) (s : Statement) (stop : Stop) → JudgesValue roles.Value c old new (Err stop)
     → Fails (faults_by (setting_of x) (block_of old) (while_loop at c s)) stop
 unfolding faults_by
 while_fails x old new at c s stop is = fails_in_front _ _ stop (value_fails roles.Value c old new stop is)
@@ -98,11 +98,11 @@ entered_at_once form o x x' y old new s o_is x_is =
     ap (λ (p : Outer). resumed_at p form (outcome_at y new s)) (sym o_is)
     ∙ ap (λ (z : Given). resumed_at o form (outcome_at z new s)) (sym x_is)
 
-pub enters_do : (x x' : Given) (o : Outer) (old : Walk) (at : Place) (c : Bor Expr) (s : Stmt)
+pub enters_do : (x x' : Given) (o : Outer) (old : Walk) (at : Span) (c : Bor Expr) (s : Stmt)
     → o ≡ outer_at x old → x' ≡ record x { in_loop = true; in_head = false }
-    → outcome_at x old (do_loop at (statement_of s) (phrase_of c.now)) ≡ resumed_at o (forms.Do c) (outcome_at x' old (statement_of s))
+    → outcome_at x old (do_loop at (statement_of s) (expression_of c.now)) ≡ resumed_at o (forms.Do c) (outcome_at x' old (statement_of s))
 enters_do x x' o old at c s o_is x_is =
-    do_begins (setting_of x) (block_of old) old.used.items old.held at (phrase_of c.now) (statement_of s)
+    do_begins (setting_of x) (block_of old) old.used.items old.held at (expression_of c.now) (statement_of s)
     ∙ entered_at_once (forms.Do c) o x x' (record x { in_loop = true; in_head = false }) old old (statement_of s) o_is x_is
 
 -- ---- blocks
@@ -119,7 +119,7 @@ pub none_left : (xs : List Stmt) → length xs < 1 → statements_of xs ≡ nil
 none_left [] few = refl
 none_left (x ∷ xs) few = absurd (omega arith)
 
-pub enters_block : (x x' : Given) (o : Outer) (old : Walk) (at : Place) (ss : Statements) (s : Stmt) (rest : List Stmt) (done : List TStmt)
+pub enters_block : (x x' : Given) (o : Outer) (old : Walk) (at : Span) (ss : Statements) (s : Stmt) (rest : List Stmt) (done : List TStmt)
     → ss ≡ cons (statement_of s) (statements_of rest) → done ≡ [] → o ≡ outer_at x old → x' ≡ record x { in_head = false }
     → outcome_at x old (block at ss) ≡ block_at done rest o (outcome_at x' (record old { start = o.visible }) (statement_of s))
 enters_block x x' o old at ss s rest done ss_is done_is o_is x_is =
@@ -131,62 +131,62 @@ enters_block x x' o old at ss s rest done ss_is done_is o_is x_is =
     ∙ (ap (λ (z : Given). block_at [] rest o (outcome_at z (record old { start = o.visible }) (statement_of s))) (sym x_is)
     ∙ ap (λ (ts : List TStmt). block_at ts rest o (outcome_at x' (record old { start = o.visible }) (statement_of s))) (sym done_is)))))
 
-pub enters_no_block : (x : Given) (old : Walk) (at : Place) (ss : Statements) (done : List TStmt) → ss ≡ nil → done ≡ []
-    → outcome_at x old (block at ss) ≡ judged_at (command.command_of (kinds.Block done)) old
+pub enters_no_block : (x : Given) (old : Walk) (at : Span) (ss : Statements) (done : List TStmt) → ss ≡ nil → done ≡ []
+    → outcome_at x old (block at ss) ≡ judged_at (command.typed_statement_of (kinds.Block done)) old
 enters_no_block x old at ss done ss_is done_is =
     ap (λ (ts : Statements). outcome_at x old (block at ts)) ss_is
     ∙ (block_of_none (setting_of x) (block_of old) old.used.items old.held at
-    ∙ ap (λ (c : Command). judged_at c old) (sym (command_of-Block []) ∙ ap (λ (ts : List TStmt). command.command_of (kinds.Block ts)) (sym done_is)))
+    ∙ ap (λ (c : TypedStatement). judged_at c old) (sym (command_of-Block []) ∙ ap (λ (ts : List TStmt). command.typed_statement_of (kinds.Block ts)) (sym done_is)))
 
 -- ---- `for`
 
 -- the statement that an optional one is
-pub is_present : (m : Option Stmt) (s t : Stmt) → m ≡ Some s → t ≡ s → maybe (option_map statement_of m) ≡ present (statement_of t)
-is_present m s t m_is t_is = ap (λ (o : Option Stmt). maybe (option_map statement_of o)) m_is ∙ ap (λ (u : Stmt). present (statement_of u)) (sym t_is)
+pub is_present : (m : Option Stmt) (s t : Stmt) → m ≡ Some s → t ≡ s → optional_statement (option_map statement_of m) ≡ present (statement_of t)
+is_present m s t m_is t_is = ap (λ (o : Option Stmt). optional_statement (option_map statement_of o)) m_is ∙ ap (λ (u : Stmt). present (statement_of u)) (sym t_is)
 
-pub is_absent : (m : Option Stmt) → m ≡ None → maybe (option_map statement_of m) ≡ absent
-is_absent m m_is = ap (λ (o : Option Stmt). maybe (option_map statement_of o)) m_is
+pub is_absent : (m : Option Stmt) → m ≡ None → optional_statement (option_map statement_of m) ≡ absent
+is_absent m m_is = ap (λ (o : Option Stmt). optional_statement (option_map statement_of o)) m_is
 
-pub enters_for : (x x' : Given) (o : Outer) (old : Walk) (at : Place) (m : Maybe) (first : Stmt) (c : Bor (Option Expr)) (last : Bor (Option Stmt)) (s : Bor Stmt)
+pub enters_for : (x x' : Given) (o : Outer) (old : Walk) (at : Span) (m : OptionalStatement) (first : Stmt) (c : Bor (Option Expr)) (last : Bor (Option Stmt)) (s : Bor Stmt)
     → m ≡ present (statement_of first) → o ≡ outer_at x old → x' ≡ record x { in_head = true }
-    → outcome_at x old (for_loop at m (option_map phrase_of c.now) (maybe (option_map statement_of last.now)) (statement_of s.now))
+    → outcome_at x old (for_loop at m (option_map expression_of c.now) (optional_statement (option_map statement_of last.now)) (statement_of s.now))
     ≡ resumed_at o (forms.First c last s) (outcome_at x' (record old { start = o.visible }) (statement_of first))
 enters_for x x' o old at m first c last s m_is o_is x_is =
-    ap (λ (l : Maybe). outcome_at x old (for_loop at l (option_map phrase_of c.now) (maybe (option_map statement_of last.now)) (statement_of s.now))) m_is
+    ap (λ (l : OptionalStatement). outcome_at x old (for_loop at l (option_map expression_of c.now) (optional_statement (option_map statement_of last.now)) (statement_of s.now))) m_is
     ∙ (for_begins (setting_of x) (block_of old) old.used.items old.held at (statement_of first) _ _ (statement_of s.now)
     ∙ (ap (λ (n : ℕ). resumed_at (outer_at x old) (forms.First c last s) (outcome_at (record x { in_head = true }) (record old { start = n }) (statement_of first)))
     (sym (ap (λ (p : Outer). p.visible) o_is))
     ∙ entered_at_once (forms.First c last s) o x x' (record x { in_head = true }) old (record old { start = o.visible }) (statement_of first) o_is x_is))
 
-pub enters_bare_for : (x : Given) (o : Outer) (old : Walk) (at : Place) (m : Maybe) (c : Option Phrase) (last : Maybe) (s : Statement) → m ≡ absent → o ≡ outer_at x old
+pub enters_bare_for : (x : Given) (o : Outer) (old : Walk) (at : Span) (m : OptionalStatement) (c : Option Expression) (last : OptionalStatement) (s : Statement) → m ≡ absent → o ≡ outer_at x old
     → outcome_at x old (for_loop at m c last s) ≡ behind_first_at o command.absent c last s (record old { start = o.visible })
 enters_bare_for x o old at m c last s m_is o_is =
-    ap (λ (l : Maybe). outcome_at x old (for_loop at l c last s)) m_is
+    ap (λ (l : OptionalStatement). outcome_at x old (for_loop at l c last s)) m_is
     ∙ (for_begins_bare (setting_of x) (block_of old) old.used.items old.held at c last s (command.block command.nil)
     ∙ ap (λ (p : Outer). behind_first_at p command.absent c last s (record old { start = p.visible })) (sym o_is))
 
-pub goes_to_last : (o : Outer) (x' : Given) (old new : Walk) (first : Option TStmt) (c : Option Phrase) (m : Maybe) (last : Stmt) (s : Bor Stmt) (t : Option TExpr)
+pub goes_to_last : (o : Outer) (x' : Given) (old new : Walk) (first : Option TStmt) (c : Option Expression) (m : OptionalStatement) (last : Stmt) (s : Bor Stmt) (t : Option TExpr)
     → m ≡ present (statement_of last) → faults_of_option old.scope roles.Value c ≡ [] → IsMaybeValue c old new t → x' ≡ record o.setting { in_head = true }
     → behind_first_at o (typed_maybe first) c m (statement_of s.now) old
     ≡ resumed_at o (forms.Last first t s) (outcome_at x' new (statement_of last))
 goes_to_last o x' old new first c m last s t m_is none value x_is =
-    ap (λ (l : Maybe). behind_first_at o (typed_maybe first) c l (statement_of s.now) old) m_is
+    ap (λ (l : OptionalStatement). behind_first_at o (typed_maybe first) c l (statement_of s.now) old) m_is
     ∙ (for_goes_on (setting_of o.setting) (leave o.start o.visible) (typed_maybe first) c (statement_of last) (statement_of s.now) (command.block command.nil)
-    (block_of old) old.used.items old.held (option_map tree_of t) none value.tree
+    (block_of old) old.used.items old.held (option_map typed_expression_of t) none value.tree
     ∙ (ap (resumed_at o (forms.Last first t s)) (noted_part (head (setting_of o.setting)) _ _ old new (statement_of last) value.notes)
     ∙ ap (λ (z : Given). resumed_at o (forms.Last first t s) (outcome_at z new (statement_of last))) (sym x_is)))
 
-pub goes_to_body : (o : Outer) (x' : Given) (old new : Walk) (first : Option TStmt) (c : Option Phrase) (m : Maybe) (s : Stmt) (t : Option TExpr)
+pub goes_to_body : (o : Outer) (x' : Given) (old new : Walk) (first : Option TStmt) (c : Option Expression) (m : OptionalStatement) (s : Stmt) (t : Option TExpr)
     → m ≡ absent → faults_of_option old.scope roles.Value c ≡ [] → IsMaybeValue c old new t → x' ≡ record o.setting { in_loop = true; in_head = false }
     → behind_first_at o (typed_maybe first) c m (statement_of s) old
     ≡ resumed_at o (forms.For first t None) (outcome_at x' new (statement_of s))
 goes_to_body o x' old new first c m s t m_is none value x_is =
-    ap (λ (l : Maybe). behind_first_at o (typed_maybe first) c l (statement_of s) old) m_is
+    ap (λ (l : OptionalStatement). behind_first_at o (typed_maybe first) c l (statement_of s) old) m_is
     ∙ (for_has_no_last (setting_of o.setting) (leave o.start o.visible) (typed_maybe first) c (statement_of s) (command.block command.nil)
-    (block_of old) old.used.items old.held (option_map tree_of t) none value.tree
+    (block_of old) old.used.items old.held (option_map typed_expression_of t) none value.tree
     ∙ (ap (resumed_at o (forms.For first t None)) (noted_part (body (setting_of o.setting)) _ _ old new (statement_of s) value.notes)
     ∙ ap (λ (z : Given). resumed_at o (forms.For first t None) (outcome_at z new (statement_of s))) (sym x_is)))
 
-pub for_fails : (o : Outer) (old new : Walk) (first : command.Maybe) (c : Option Phrase) (last : Maybe) (s : Statement) (stop : Stop) → JudgesMaybeValue roles.Value c old new (Err stop)
-    → let w : Outcome = behind_first_at o first c last s old in Fails w.faults stop
+pub for_fails : (o : Outer) (old new : Walk) (first : command.OptionalTypedStatement) (c : Option Expression) (last : OptionalStatement) (s : Statement) (stop : Stop) → JudgesMaybeValue roles.Value c old new (Err stop)
+    → let w : WalkResult = behind_first_at o first c last s old in Fails w.faults stop
 for_fails o old new first c last s stop is = fails_in_front _ _ stop (maybe_value_fails roles.Value c old new stop is)

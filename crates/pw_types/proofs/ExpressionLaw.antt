@@ -2,9 +2,9 @@
 use Rattle.std.proofs.Common.{◌≡◌, ℕ, Bool, true, false, ◌&&◌, not, List, [], ◌∷◌, ◌++◌, replicate, Option, Some, None, is_some, refl, sym, ◌∙◌, ap, subst, append_assoc}
 use Rattle.pw_tree.specs.declared.ty.Ty.{Ty}
 use Rattle.pw_tree.specs.declared.ty.Ty.TheVariants.{Void, Long, Ulong, Fn}
-use Rattle.pw_tree.specs.Phrases.{Place, Phrase, Phrases, constant, word, unary, binary, conditional, call, index, input, output, nil, cons}
-use Rattle.pw_tree.specs.Trees.{Tree, Trees}
-use Rattle.pw_tree.specs.Trees as tree
+use Rattle.pw_tree.specs.Expressions.{Span, Expression, Expressions, constant, word, unary, binary, conditional, call, index, input, output, nil, cons}
+use Rattle.pw_tree.specs.TypedExpressions.{TypedExpression, TypedExpressions}
+use Rattle.pw_tree.specs.TypedExpressions as tree
 use Rattle.pw_types.specs.declared.rule.Rule.TheVariants as rules
 use Rattle.pw_types.specs.declared.role.Role.{Role}
 use Rattle.pw_types.specs.declared.role.Role.TheVariants.{Value, Callee, Base, Written}
@@ -30,7 +30,7 @@ no_base h = cc
 
 -- ---- elements
 
-index_by : (scope : Scope) (role : Role) (at : Place) (b i : Phrase) (o : Option Array) → array_of scope b ≡ o
+index_by : (scope : Scope) (role : Role) (at : Span) (b i : Expression) (o : Option Array) → array_of scope b ≡ o
     → ((array_of scope b ≡ None) → Told Base (faults scope Base b) (typed scope b) (uses scope b) (checked scope Base b))
     → Told Value (faults scope Value i) (typed scope i) (uses scope i) (checked scope Value i)
     → Told role (faults scope Base b ++ (faults scope Value i ++ own scope role (index at b i))) (typed scope (index at b i)) (uses scope b ++ uses scope i)
@@ -39,7 +39,7 @@ unfolding typed
 index_by scope role at b i None is base told =
     refused_base role (faults scope Value i ++ own scope role (index at b i)) (typed scope (index at b i)) (uses scope b ++ uses scope i) (base is)
 index_by scope role at b i (Some a) is base told =
-    let e : Phrase = index at b i in
+    let e : Expression = index at b i in
     let rest : Told role (faults scope Value i ++ own scope role e) (typed scope e) (uses scope i) (checked scope Value i >>= element_value (head role at) a) =
     no_more (bind role (own scope role e) (typed scope e) [] (element_value (head role at) a) told
     (λ v number _. by_rules scope role e (element_told role at (array_of scope b) (typed scope i) a v is number))) in
@@ -49,24 +49,24 @@ index_by scope role at b i (Some a) is base told =
 
 -- ---- calls
 
-regrouped : {t : Option Tree} {us : List ℕ} {p : Judge Valued} (role : Role) (first rest own : List Fault) {others : List Fault} → others ≡ rest
+regrouped : {t : Option TypedExpression} {us : List ℕ} {p : Judge Valued} (role : Role) (first rest own : List Fault) {others : List Fault} → others ≡ rest
     → Told role (first ++ (rest ++ own)) t us p → Told role ((first ++ others) ++ own) t us p
 regrouped {t} {us} {p} role first rest own {others} same h =
     subst (λ fs. Told role fs t us p) (sym (ap (λ l. (first ++ l) ++ own) same ∙ append_assoc first rest own)) h
 
 -- arguments have types where the first has one and the others have
-some_both : (t : Tree) (o : Option Trees) → is_some (with_both both_trees (Some t) o) ≡ is_some o
+some_both : (t : TypedExpression) (o : Option TypedExpressions) → is_some (with_both both_trees (Some t) o) ≡ is_some o
 some_both t None = refl
 some_both t (Some es) = refl
 
 -- a call of what is called, where its arguments are judged
-abbrev Behind : Scope → Role → Place → Phrases → Aim → List Ty → Type 0
+abbrev Behind : Scope → Role → Span → Expressions → Aim → List Ty → Type 0
 Behind scope role at es aim params =
     Told role (faults_of_arguments scope (Some params) es ++ rules_of role at.last (call_of role at aim [] (typed_all scope es)) false (is_some (typed_all scope es) && is_other_count params es))
     (call_of role at aim [] (typed_all scope es)) (uses_of_all scope es) (checked_arguments scope (calling (head role at) aim params es) none_taken params es)
 
 -- through a pointer
-through_by : (scope : Scope) (role : Role) (at : Place) (f : Phrase) (es : Phrases) (v : Tree) (ty : Ty) → type_of v ≡ ty
+through_by : (scope : Scope) (role : Role) (at : Span) (f : Expression) (es : Expressions) (v : TypedExpression) (ty : Ty) → type_of v ≡ ty
     → function_of scope f ≡ None → typed scope f ≡ Some v → ((not (is_pointer ty)) ≡ false)
     → ((aim : Aim) → ((w : Valued) → aim ≡ through w → w ≡ full w.tree) → (params : List Ty) → Behind scope role at es aim params)
     → Told role (faults_of_arguments scope (parameters_of (callee_in scope f)) es ++ own scope role (call at f es)) (typed scope (call at f es)) (uses_of_all scope es)
@@ -83,7 +83,7 @@ through_by scope role at f es v Void is direct value fit arguments = cc
 through_by scope role at f es v Long is direct value fit arguments = cc
 through_by scope role at f es v Ulong is direct value fit arguments = cc
 
-call_by : (scope : Scope) (role : Role) (at : Place) (f : Phrase) (es : Phrases) (o : Option Designated) → function_of scope f ≡ o
+call_by : (scope : Scope) (role : Role) (at : Span) (f : Expression) (es : Expressions) (o : Option Designated) → function_of scope f ≡ o
     → Told Callee (faults scope Callee f) (typed scope f) (uses scope f) (checked scope Callee f)
     → ((aim : Aim) → ((w : Valued) → aim ≡ through w → w ≡ full w.tree) → (params : List Ty) → Behind scope role at es aim params)
     → Told role (unless_direct o (faults scope Callee f) ++ (faults_of_arguments scope (parameters_of (callee_in scope f)) es ++ own scope role (call at f es)))
@@ -105,7 +105,7 @@ call_by scope role at f es (Some d) is told arguments =
 mutual
   unfolding faults typed uses checked held
 
-  pub told : (scope : Scope) (role : Role) (e : Phrase) → (is_base role ≡ true → array_of scope e ≡ None)
+  pub told : (scope : Scope) (role : Role) (e : Expression) → (is_base role ≡ true → array_of scope e ≡ None)
       → Told role (faults scope role e) (typed scope e) (uses scope e) (checked scope role e)
   told scope role (constant at value unsigned) h =
       by_rules scope role (constant at value unsigned) (leaf_told role at (tree.constant (mark (constant_type unsigned) at) value) refl)
@@ -121,7 +121,7 @@ mutual
       (binary_value (head role at) op (full a)) (told scope Value r no_base)
       (λ b right _. by_rules scope role (binary at op l r) (binary_told role at op (typed scope l) (typed scope r) a b left right))))
   told scope role (conditional at c a b) h =
-      let e : Phrase = conditional at c a b in
+      let e : Expression = conditional at c a b in
       bind role (faults scope Value a ++ (faults scope Value b ++ own scope role e)) (typed scope e) (uses scope a ++ uses scope b)
       (λ x. checked scope Value a >>= (λ y. checked scope Value b >>= choice_value (head role at) x y)) (told scope Value c no_base)
       (λ x test _. bind role (faults scope Value b ++ own scope role e) (typed scope e) (uses scope b)
@@ -140,8 +140,8 @@ mutual
       (λ v is _. by_rules scope role (output at e) (output_told role at (typed scope e) v is)))
 
   -- arguments, behind those that were judged, and the call
-  arguments_told : (scope : Scope) (role : Role) (at : Place) (aim : Aim) (other_count : Bool)
-      → ((v : Valued) → aim ≡ through v → v ≡ full v.tree) → (params : List Ty) (ts : List Tree) (es : Phrases)
+  arguments_told : (scope : Scope) (role : Role) (at : Span) (aim : Aim) (other_count : Bool)
+      → ((v : Valued) → aim ≡ through v → v ≡ full v.tree) → (params : List Ty) (ts : List TypedExpression) (es : Expressions)
       → Told role (faults_of_arguments scope (Some params) es ++ rules_of role at.last (call_of role at aim ts (typed_all scope es)) false (is_some (typed_all scope es) && other_count))
       (call_of role at aim ts (typed_all scope es)) (uses_of_all scope es)
       (checked_arguments scope (record { head = head role at; aim = aim; other_count = other_count }) (taken ts) params es)
@@ -149,8 +149,8 @@ mutual
   arguments_told scope role at aim other_count is params ts (cons e es) =
       let c : Calling = record { head = head role at; aim = aim; other_count = other_count } in
       let rest : List Ty = others_wanted params in
-      let whole : Option Tree → Option Tree = λ t. call_of role at aim ts (with_both both_trees t (typed_all scope es)) in
-      let counted : Option Tree → Bool = λ t. is_some (with_both both_trees t (typed_all scope es)) && other_count in
+      let whole : Option TypedExpression → Option TypedExpression = λ t. call_of role at aim ts (with_both both_trees t (typed_all scope es)) in
+      let counted : Option TypedExpression → Bool = λ t. is_some (with_both both_trees t (typed_all scope es)) && other_count in
       let own : List Fault = rules_of role at.last (whole (typed scope e)) false (counted (typed scope e)) in
       let first = told scope (first_wanted params) e no_base in
       regrouped role (faults scope (first_wanted params) e) (faults_of_arguments scope (Some rest) es) own
@@ -158,7 +158,7 @@ mutual
       (bind role (faults_of_arguments scope (Some rest) es ++ own) (whole (typed scope e)) (uses_of_all scope es)
       (λ v. checked_arguments scope c (taking (taken ts) v) rest es) first
       (λ v is' _.
-      let P : Option Tree → Bool → Taken → Type 0 = λ t b k. Told role (faults_of_arguments scope (Some rest) es ++ rules_of role at.last t false b) t
+      let P : Option TypedExpression → Bool → Taken → Type 0 = λ t b k. Told role (faults_of_arguments scope (Some rest) es ++ rules_of role at.last t false b) t
       (uses_of_all scope es) (checked_arguments scope c k rest es) in
       let same : (is_some (typed_all scope es) && other_count) ≡ counted (typed scope e) =
       ap (λ b. b && other_count) (sym (some_both v (typed_all scope es))) ∙ ap counted (sym is') in

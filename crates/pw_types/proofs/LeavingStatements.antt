@@ -3,7 +3,7 @@ use Rattle.std.proofs.Common.{◌≡◌, ℕ, ◌+◌, ◌≤◌, List, [], ◌�
 use Rattle.std.proofs.lemmas.List.{take-append-le, length-append}
 use Rattle.std.proofs.Math.Seq.{take-length}
 use Rattle.pw_tree.specs.declared.ty.Ty.{Ty}
-use Rattle.pw_tree.specs.Statements.{Statement, Statements, Maybe, empty, block, local, set, evaluate, if_else, while_loop, do_loop, for_loop, returns, breaks, continues, nil, cons, absent, present}
+use Rattle.pw_tree.specs.Statements.{Statement, Statements, OptionalStatement, empty, block, local, set, evaluate, if_else, while_loop, do_loop, for_loop, returns, breaks, continues, nil, cons, absent, present}
 use Rattle.pw_types.specs.declared.names.Local.{Local}
 use Rattle.pw_types.specs.Scopes.{Scope}
 use Rattle.pw_types.specs.Blocks.{Block, inner, declaring, locals_in, locals_in_all, locals_in_maybe, past, behind, behind_maybe}
@@ -59,7 +59,7 @@ keeps n (returns at e) b within = stays n b within
 keeps n (breaks at) b within = stays n b within
 keeps n (continues at) b within = stays n b within
 
-pub keeps_maybe : (n : ℕ) (s : Maybe) (b : Block) → n ≤ length b.scope.locals → Keeps n b (locals_in_maybe s) (behind_maybe s b)
+pub keeps_maybe : (n : ℕ) (s : OptionalStatement) (b : Block) → n ≤ length b.scope.locals → Keeps n b (locals_in_maybe s) (behind_maybe s b)
 unfolding locals_in_maybe
 keeps_maybe n absent b within = stays n b within
 keeps_maybe n (present s) b within = keeps n s b within

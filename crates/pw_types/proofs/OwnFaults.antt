@@ -3,7 +3,7 @@ use Rattle.std.proofs.Common.{◌≡◌, ℕ, ◌≤◌, ◌<◌, Bool, true, fa
 use Rattle.std.specs.Prelude.{◌||◌, Option, Some, None}
 use Rattle.pw_tree.specs.declared.ty.Ty.{Ty}
 use Rattle.pw_tree.specs.declared.decl.InitItem.{InitItem}
-use Rattle.pw_tree.specs.Phrases.{Phrase}
+use Rattle.pw_tree.specs.Expressions.{Expression}
 use Rattle.pw_types.specs.declared.rule.Rule.{Rule}
 use Rattle.pw_types.specs.declared.rule.Rule.TheVariants as rules
 use Rattle.pw_types.specs.declared.role.Role.{Role}
@@ -50,7 +50,7 @@ rises_broken_by low rule at name false h = ends (omega arith)
 
 -- ---- phrases
 
-pub rises_own : (scope : Scope) (role : Role) (e : Phrase) → Rises (end_of e) 0 11 (own scope role e)
+pub rises_own : (scope : Scope) (role : Role) (e : Expression) → Rises (end_of e) 0 11 (own scope role e)
 unfolding own
 rises_own scope role e =
     rises_append (rises_broken_by 0 rules.Unknown (end_of e) (word_of e) (is_unknown scope e) (omega arith))

@@ -4,8 +4,8 @@ use Rattle.std.proofs.lemmas.List.{append-nil}
 use Rattle.std.proofs.Math.Bool.{or-false}
 use Rattle.std.specs.Option.{option_map}
 use Rattle.pw_tree.specs.declared.ty.Ty.{Ty}
-use Rattle.pw_tree.specs.Phrases.{Place, Phrase}
-use Rattle.pw_tree.specs.Trees.{Tree}
+use Rattle.pw_tree.specs.Expressions.{Span, Expression}
+use Rattle.pw_tree.specs.TypedExpressions.{TypedExpression}
 use Rattle.pw_types.specs.declared.rule.Rule.{Rule}
 use Rattle.pw_types.specs.declared.rule.Rule.TheVariants as rules
 use Rattle.pw_types.specs.declared.expression_step.Head.{Head}
@@ -24,11 +24,11 @@ use Rattle.pw_types.proofs.Told.{full, Told, faulty, fits, rule_then}
 
 -- ---- the list of own faults
 
-abbrev does_not_convert : Bool → Option Tree → Option Ty → Bool
+abbrev does_not_convert : Bool → Option TypedExpression → Option Ty → Bool
 does_not_convert word t None = false
 does_not_convert word t (Some to) = (is_some t || word) && not (has_type (λ u. converts u to) t)
 
-abbrev has_other_argument : Role → Bool → Option Tree → Bool
+abbrev has_other_argument : Role → Bool → Option TypedExpression → Bool
 has_other_argument (Argument want) word t = does_not_convert word t want
 has_other_argument Written word t = has_type is_pointer t
 has_other_argument Statement word t = false
@@ -37,7 +37,7 @@ has_other_argument Callee word t = false
 has_other_argument Base word t = false
 has_other_argument (Assigned want) word t = false
 
-abbrev does_not_fit : Role → Bool → Option Tree → Bool
+abbrev does_not_fit : Role → Bool → Option TypedExpression → Bool
 does_not_fit (Assigned want) word t = does_not_convert word t want
 does_not_fit Statement word t = false
 does_not_fit Value word t = false
@@ -47,7 +47,7 @@ does_not_fit (Argument want) word t = false
 does_not_fit Written word t = false
 
 -- the own faults of an expression, by its name, if it is one, by what the name means, and by its typed tree
-abbrev pub rules_by : Role → ℕ → List ℕ → Bool → Bool → Option Designated → Option Array → Option Tree → Bool → Bool → List Fault
+abbrev pub rules_by : Role → ℕ → List ℕ → Bool → Bool → Option Designated → Option Array → Option TypedExpression → Bool → Bool → List Fault
 rules_by role at name word unknown function array t other_operands other_count =
     broken_by rules.Unknown at name unknown
     ++ (broken rules.NotValue at ((needs_value role && has_type is_void t) || ((not (is_base role) && is_some function) && is_none t))
@@ -59,7 +59,7 @@ rules_by role at name word unknown function array t other_operands other_count =
     ++ (broken rules.NeedsIndex at (not (is_base role) && is_some array)
     ++ broken rules.AssignType at (does_not_fit role word t))))))))
 
-pub own_rules : (scope : Scope) (role : Role) (e : Phrase)
+pub own_rules : (scope : Scope) (role : Role) (e : Expression)
     → rules_by role (end_of e) (word_of e) (is_word e) (is_unknown scope e) (function_of scope e) (array_of scope e) (typed scope e)
     (has_other_operands scope e) (has_other_count scope e) ≡ own scope role e
 unfolding own
@@ -73,14 +73,14 @@ own_rules scope Written e = refl
 own_rules scope (Assigned None) e = refl
 own_rules scope (Assigned (Some to)) e = refl
 
-pub by_rules : {t : Option Tree} {us : List ℕ} {p : Judge Valued} (scope : Scope) (role : Role) (e : Phrase)
+pub by_rules : {t : Option TypedExpression} {us : List ℕ} {p : Judge Valued} (scope : Scope) (role : Role) (e : Expression)
     → Told role (rules_by role (end_of e) (word_of e) (is_word e) (is_unknown scope e) (function_of scope e) (array_of scope e) (typed scope e)
     (has_other_operands scope e) (has_other_count scope e)) t us p
     → Told role (own scope role e) t us p
 by_rules {t} {us} {p} scope role e h = subst (λ fs. Told role fs t us p) (own_rules scope role e) h
 
 -- those of an expression that is no name
-abbrev pub rules_of : Role → ℕ → Option Tree → Bool → Bool → List Fault
+abbrev pub rules_of : Role → ℕ → Option TypedExpression → Bool → Bool → List Fault
 rules_of role at t other_operands other_count = rules_by role at [] false false None None t other_operands other_count
 
 -- those of one with a type
@@ -93,7 +93,7 @@ rules_of_type role at ty other_count =
     ++ (broken rules.NotArray at (is_base role)
     ++ (broken rules.AssignType at (is_other_value role ty) ++ [])))))
 
-same_rules : (role : Role) (at : ℕ) (v : Tree) (other_count : Bool)
+same_rules : (role : Role) (at : ℕ) (v : TypedExpression) (other_count : Bool)
     → rules_of_type role at (type_of v) other_count ≡ rules_of role at (Some v) false other_count
 same_rules Statement at v other_count = simp append-nil
 same_rules Value at v other_count = simp (or-false, append-nil)
@@ -107,7 +107,7 @@ same_rules (Assigned (Some to)) at v other_count = simp (or-false, append-nil)
 
 -- ---- what judging makes of it
 
-finished_told : (role : Role) (at : Place) (v : Tree) (other_count : Bool)
+finished_told : (role : Role) (at : Span) (v : TypedExpression) (other_count : Bool)
     → Told role (rules_of_type role at.last (type_of v) other_count) (Some v) [] (finished_by (head role at) other_count (full v))
 finished_told role at v other_count =
     let h : Head = head role at in
@@ -131,7 +131,7 @@ finished_told role at v other_count =
     rule_then {fs = []} h rules.AssignType (is_other_value role ty) None p (λ _. fits role v (record { pointer = pointer; no_base = no_base })))))))
 
 -- an expression with a type
-pub typed_told : (role : Role) (at : Place) (v : Tree) (other_count : Bool) (n : ℕ) → n ≡ capped (held v)
+pub typed_told : (role : Role) (at : Span) (v : TypedExpression) (other_count : Bool) (n : ℕ) → n ≡ capped (held v)
     → Told role (rules_of role at.last (Some v) false other_count) (Some v) [] (finished_by (head role at) other_count (record { tree = v; held = n }))
 typed_told role at v other_count n holds =
     let P : List Fault → Type 0 = λ fs. Told role fs (Some v) [] (finished_by (head role at) other_count (full v)) in
@@ -139,7 +139,7 @@ typed_told role at v other_count n holds =
     subst Q (sym holds) (subst P (same_rules role at.last v other_count) (finished_told role at v other_count))
 
 -- one whose operands have other types
-other_operands_first : (role : Role) (at : Place) (other_count : Bool)
+other_operands_first : (role : Role) (at : Span) (other_count : Bool)
     → first_of (rules_of role at.last None true other_count) ≡ Some (fault_under (head role at) rules.Operands)
 other_operands_first Statement at other_count = refl
 other_operands_first Value at other_count = refl
@@ -150,7 +150,7 @@ other_operands_first Written at other_count = refl
 other_operands_first (Assigned want) at other_count = refl
 
 -- an operator, by the type that its operands give it
-pub of_type_told : {A : Type 0} (role : Role) (at : Place) (o : Option A) (tree : A → Tree) (v : A → Valued)
+pub of_type_told : {A : Type 0} (role : Role) (at : Span) (o : Option A) (tree : A → TypedExpression) (v : A → Valued)
     → ((a : A) → v a ≡ full (tree a))
     → Told role (rules_of role at.last (option_map tree o) (is_none o) false) (option_map tree o) [] (of_type (head role at) o v)
 of_type_told role at None tree v is = faulty (fault_under (head role at) rules.Operands) (other_operands_first role at false) (λ used. refl)

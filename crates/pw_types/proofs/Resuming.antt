@@ -2,8 +2,8 @@
 use Rattle.std.proofs.Common.{◌≡◌, ℕ, ◌+◌, ◌<◌, true, List, [], ◌∷◌, ◌++◌, Some, None, Result, Ok, Err, refl, sym, ◌∙◌, ap, subst, arith, add_assoc, min}
 use Rattle.std.specs.Borrow.{Bor}
 use Rattle.pw_tree.specs.declared.expr.Expr.{Expr}
-use Rattle.pw_tree.specs.Phrases.{Phrase, phrase_of}
-use Rattle.pw_tree.specs.Trees.{tree_of}
+use Rattle.pw_tree.specs.Expressions.{Expression, expression_of}
+use Rattle.pw_tree.specs.TypedExpressions.{typed_expression_of}
 use Rattle.pw_types.specs.declared.role.Role.{Role}
 use Rattle.pw_types.specs.declared.role.Role.TheVariants.{Statement, Value, Callee, Base, Argument, Written, Assigned}
 use Rattle.pw_types.specs.declared.fault.Fault.{Fault}
@@ -20,7 +20,7 @@ use Rattle.pw_types.specs.Typed.{array_of, typed}
 use Rattle.pw_types.specs.Uses.{uses}
 use Rattle.pw_types.specs.Expressions.{is_base, faults}
 use Rattle.pw_types.specs.Judged.{JudgesExpression}
-use Rattle.pw_types.specs.Judging.{Outcome, Judge, and_then}
+use Rattle.pw_types.specs.Judging.{JudgeResult, Judge, and_then}
 use Rattle.pw_types.specs.CheckingExpressions.{Valued, checked}
 use Rattle.pw_types.specs.ResumingExpressions.{valued, resumed, resume, continued, GivesWith, Continues, ContinuesWith, size, frame_size, step_size, frames_size}
 use Rattle.pw_types.proofs.Told.{full, Told, sound, faulty}
@@ -29,7 +29,7 @@ use Rattle.pw_types.proofs.ExpressionLaw.{told}
 -- ---- frames
 
 -- the innermost frame goes on first
-pub resume_last : (scope : Scope) (fs : List Frame) (f : Frame) (o : Outcome Valued)
+pub resume_last : (scope : Scope) (fs : List Frame) (f : Frame) (o : JudgeResult Valued)
     → resume scope (fs ++ f ∷ []) o ≡ resume scope fs (and_then o (resumed scope f))
 unfolding resume
 resume_last scope [] f o = refl
@@ -49,20 +49,20 @@ size_last (g ∷ fs) f = ap (λ n. frame_size g + n) (size_last fs f) ∙ sym (a
 -- ---- turns of the loop
 
 -- w is the outcome of the whole: a part is judged behind one frame more
-pub at_part : {w : Outcome Valued} (scope : Scope) (fs gs : List Frame) (step : Step) (used : List ℕ) (f : Frame) (role : Role) (e : Bor Expr)
+pub at_part : {w : JudgeResult Valued} (scope : Scope) (fs gs : List Frame) (step : Step) (used : List ℕ) (f : Frame) (role : Role) (e : Bor Expr)
     → w ≡ resume scope fs (continued scope step used) → step ≡ Part f role e → gs ≡ fs ++ f ∷ []
-    → w ≡ resume scope gs (checked scope role (phrase_of e.now) used)
+    → w ≡ resume scope gs (checked scope role (expression_of e.now) used)
 at_part scope fs gs step used f role e h is more =
     h ∙ ap (λ s. resume scope fs (continued scope s used)) is
-    ∙ sym (ap (λ l. resume scope l (checked scope role (phrase_of e.now) used)) more ∙ resume_last scope fs f (checked scope role (phrase_of e.now) used))
+    ∙ sym (ap (λ l. resume scope l (checked scope role (expression_of e.now) used)) more ∙ resume_last scope fs f (checked scope role (expression_of e.now) used))
 
 -- another expression is judged instead
-pub at_instead : {w : Outcome Valued} (scope : Scope) (fs : List Frame) (step : Step) (used : List ℕ) (role : Role) (e : Bor Expr)
-    → w ≡ resume scope fs (continued scope step used) → step ≡ Instead role e → w ≡ resume scope fs (checked scope role (phrase_of e.now) used)
+pub at_instead : {w : JudgeResult Valued} (scope : Scope) (fs : List Frame) (step : Step) (used : List ℕ) (role : Role) (e : Bor Expr)
+    → w ≡ resume scope fs (continued scope step used) → step ≡ Instead role e → w ≡ resume scope fs (checked scope role (expression_of e.now) used)
 at_instead scope fs step used role e h is = h ∙ ap (λ s. resume scope fs (continued scope s used)) is
 
 -- the innermost frame goes on
-pub at_done : {w : Outcome Valued} (scope : Scope) (fs gs : List Frame) (step : Step) (used : List ℕ) (f : Frame) (t : Typed)
+pub at_done : {w : JudgeResult Valued} (scope : Scope) (fs gs : List Frame) (step : Step) (used : List ℕ) (f : Frame) (t : Typed)
     → w ≡ resume scope fs (continued scope step used) → step ≡ Done t → fs ≡ gs ++ f ∷ []
     → w ≡ resume scope gs (resumed scope f (valued t) used)
 at_done scope fs gs step used f t h is less =
@@ -70,13 +70,13 @@ at_done scope fs gs step used f t h is less =
     ∙ resume_last scope gs f (Ok (valued t, used))
 
 -- no frame is left
-pub at_end : {w : Outcome Valued} (scope : Scope) (fs : List Frame) (step : Step) (used : List ℕ) (t : Typed)
+pub at_end : {w : JudgeResult Valued} (scope : Scope) (fs : List Frame) (step : Step) (used : List ℕ) (t : Typed)
     → w ≡ resume scope fs (continued scope step used) → step ≡ Done t → fs ≡ [] → w ≡ Ok (valued t, used)
 unfolding resume
 at_end scope fs step used t h is none =
     h ∙ ap (λ s. resume scope fs (continued scope s used)) is ∙ ap (λ l. resume scope l (Ok (valued t, used))) none
 
-pub goes_on : {w : Outcome Valued} (scope : Scope) (fs : List Frame) (p : Judge Valued) (old new : List ℕ) (step : Step)
+pub goes_on : {w : JudgeResult Valued} (scope : Scope) (fs : List Frame) (p : Judge Valued) (old new : List ℕ) (step : Step)
     → w ≡ resume scope fs (p old) → ContinuesWith scope p old new (Ok step) → w ≡ resume scope fs (continued scope step new)
 goes_on scope fs p old new step h on = h ∙ ap (resume scope fs) on
 
@@ -95,9 +95,9 @@ as_used scope p used (Err (stop.Fault f)) h = ap (λ r. r used) h
 as_used scope p used (Err stop.NoMemory) h = h
 
 pub part_smaller : (fs gs : List Frame) (step next : Step) (f : Frame) (role : Role) (e : Bor Expr) → step ≡ Part f role e → gs ≡ fs ++ f ∷ []
-    → step_size next < size (phrase_of e.now) → frames_size gs + step_size next < frames_size fs + step_size step
+    → step_size next < size (expression_of e.now) → frames_size gs + step_size next < frames_size fs + step_size step
 part_smaller fs gs step next f role e is more less =
-    let now : step_size step ≡ frame_size f + size (phrase_of e.now) = ap step_size is in
+    let now : step_size step ≡ frame_size f + size (expression_of e.now) = ap step_size is in
     let sum : frames_size gs ≡ frames_size fs + frame_size f = ap frames_size more ∙ size_last fs f in
     omega (arith, now, sum, less)
 
@@ -110,15 +110,15 @@ done_smaller fs gs step next f t is last less =
 
 -- ---- the whole
 
-ok_value : {a b : Valued} {us vs : List ℕ} → ◌≡◌ {A = Outcome Valued} (Ok (a, us)) (Ok (b, vs)) → (a ≡ b) × (us ≡ vs)
+ok_value : {a b : Valued} {us vs : List ℕ} → ◌≡◌ {A = JudgeResult Valued} (Ok (a, us)) (Ok (b, vs)) → (a ≡ b) × (us ≡ vs)
 ok_value {a} {b} {us} {vs} h = let e : ◌≡◌ {A = Valued × List ℕ} (a, us) (b, vs) = cc in (ap (λ p. p.0) e, ap (λ p. p.1) e)
 
-meant : (scope : Scope) (role : Role) (e : Phrase) (old new : List ℕ) (t : Typed)
+meant : (scope : Scope) (role : Role) (e : Expression) (old new : List ℕ) (t : Typed)
     → Told role (faults scope role e) (typed scope e) (uses scope e) (checked scope role e)
     → checked scope role e old ≡ Ok (valued t, new) → JudgesExpression scope role e old new (Ok t)
 meant scope role e old new t (sound v none tree fit is) h =
     let same = ok_value (sym (is old) ∙ h) in
-    let tree_is : v ≡ tree_of t.tree = ap (λ w. w.tree) same.0 in (
+    let tree_is : v ≡ typed_expression_of t.tree = ap (λ w. w.tree) same.0 in (
       none,
       record {
         tree = tree ∙ ap (λ w. Some w) tree_is;
@@ -127,19 +127,19 @@ meant scope role e old new t (sound v none tree fit is) h =
       },
     )
 meant scope role e old new t (faulty f first is) h =
-    let clash : ◌≡◌ {A = Outcome Valued} (Err f) (Ok (valued t, new)) = sym (is old) ∙ h in cc
+    let clash : ◌≡◌ {A = JudgeResult Valued} (Err f) (Ok (valued t, new)) = sym (is old) ∙ h in cc
 
-blamed : (scope : Scope) (role : Role) (e : Phrase) (old : List ℕ) (f : Fault)
+blamed : (scope : Scope) (role : Role) (e : Expression) (old : List ℕ) (f : Fault)
     → Told role (faults scope role e) (typed scope e) (uses scope e) (checked scope role e)
     → checked scope role e old ≡ Err f → first_of (faults scope role e) ≡ Some f
 blamed scope role e old f (sound v none tree fit is) h =
-    let clash : ◌≡◌ {A = Outcome Valued} (Ok (full v, old ++ uses scope e)) (Err f) = sym (is old) ∙ h in cc
+    let clash : ◌≡◌ {A = JudgeResult Valued} (Ok (full v, old ++ uses scope e)) (Err f) = sym (is old) ∙ h in cc
 blamed scope role e old f (faulty g first is) h =
-    let same : ◌≡◌ {A = Outcome Valued} (Err g) (Err f) = sym (is old) ∙ h in
+    let same : ◌≡◌ {A = JudgeResult Valued} (Err g) (Err f) = sym (is old) ∙ h in
     let is_f : g ≡ f = cc in first ∙ ap (λ x. Some x) is_f
 
 -- what judging from left to right gives is the typed tree, or the first fault
-pub judged : (scope : Scope) (role : Role) (e : Phrase) (old new : List ℕ) (result : Result Typed Stop)
+pub judged : (scope : Scope) (role : Role) (e : Expression) (old new : List ℕ) (result : Result Typed Stop)
     → (is_base role ≡ true → array_of scope e ≡ None) → GivesWith (checked scope role e) old new result → JudgesExpression scope role e old new result
 judged scope role e old new (Ok t) base h = meant scope role e old new t (told scope role e base) h
 judged scope role e old new (Err (stop.Fault f)) base h = blamed scope role e old f (told scope role e base) h

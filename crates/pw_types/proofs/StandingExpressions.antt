@@ -1,8 +1,8 @@
 -- Expressions as phrases: their faults are those of the list, and they stand where they are placed.
 use Rattle.std.proofs.Common.{◌≡◌, ℕ, suc, ◌≤◌, List, ◌++◌, arith, Option, Some, None, refl, sym, ◌∙◌, append_assoc}
 use Rattle.pw_tree.specs.declared.ty.Ty.{Ty}
-use Rattle.pw_tree.specs.Phrases.{Phrase, Phrases, constant, word, unary, binary, conditional, call, index, input, output, nil, cons}
-use Rattle.pw_tree.specs.Placed.{place_of, IsWithin, IsPlaced, ArePlaced, IsOptionPlaced, behind_option}
+use Rattle.pw_tree.specs.Expressions.{Expression, Expressions, constant, word, unary, binary, conditional, call, index, input, output, nil, cons}
+use Rattle.pw_tree.specs.Placed.{span_of, IsWithin, IsPlaced, ArePlaced, IsOptionPlaced, behind_option}
 use Rattle.pw_types.specs.declared.rule.Rule.TheVariants as rules
 use Rattle.pw_types.specs.declared.role.Role.{Role}
 use Rattle.pw_types.specs.declared.role.Role.TheVariants.{Value, Callee, Base, Argument, Written}
@@ -28,7 +28,7 @@ gather_unless (Some g) f fs others ns own e h = h
 mutual
   unfolding flat parts faults
 
-  pub expression_faults : (scope : Scope) (role : Role) (e : Phrase) → flat (expression scope role e) ≡ faults scope role e
+  pub expression_faults : (scope : Scope) (role : Role) (e : Expression) → flat (expression scope role e) ≡ faults scope role e
   expression_faults scope role (constant at v unsigned) = refl
   expression_faults scope role (word at name) = refl
   expression_faults scope role (unary at op e) = both (expression_faults scope Value e) refl
@@ -46,20 +46,20 @@ mutual
   expression_faults scope role (input at) = refl
   expression_faults scope role (output at e) = both (expression_faults scope Written e) refl
 
-  arguments_faults : (scope : Scope) (params : Option (List Ty)) (es : Phrases) (others : List Fault) →
+  arguments_faults : (scope : Scope) (params : Option (List Ty)) (es : Expressions) (others : List Fault) →
       gather (arguments scope params es) others ≡ faults_of_arguments scope params es ++ others
   arguments_faults scope params nil others = refl
   arguments_faults scope params (cons e es) others =
       both (expression_faults scope (Argument (first_parameter params)) e) (arguments_faults scope (other_parameters params) es others)
       ∙ sym (append_assoc (faults scope (Argument (first_parameter params)) e) (faults_of_arguments scope (other_parameters params) es) others)
 
-pub whole_faults : (scope : Scope) (role : Role) (e : Phrase) → flat (whole scope role e) ≡ faults_of_whole scope role e
+pub whole_faults : (scope : Scope) (role : Role) (e : Expression) → flat (whole scope role e) ≡ faults_of_whole scope role e
 unfolding flat
 whole_faults scope role e =
     gather_append (parts scope e) (own scope role e) (broken rules.TooDeep (end_of e) (holds_too_many (typed scope e)))
     ∙ both (expression_faults scope role e) refl
 
-pub option_faults : (scope : Scope) (role : Role) (e : Option Phrase) (ns : Nests) (own : List Fault) →
+pub option_faults : (scope : Scope) (role : Role) (e : Option Expression) (ns : Nests) (own : List Fault) →
     gather (option scope role e ns) own ≡ faults_of_option scope role e ++ gather ns own
 unfolding flat
 option_faults scope role None ns own = refl
@@ -68,7 +68,7 @@ option_faults scope role (Some e) ns own = both (whole_faults scope role e) refl
 -- ---- where they stand
 
 -- A placed expression stands among the tokens where it is placed.
-pub placed_within : {low high : ℕ} (e : Phrase) → IsPlaced low high e → IsWithin low high (place_of e)
+pub placed_within : {low high : ℕ} (e : Expression) → IsPlaced low high e → IsWithin low high (span_of e)
 unfolding IsPlaced
 placed_within (constant at v unsigned) p = p
 placed_within (word at name) p = p
@@ -86,14 +86,14 @@ stand_unless {middle = middle} None n h k ns = one_more middle n k ns
 stand_unless {low = low} (Some g) n h k ns = all_from low (omega arith) ns
 
 -- an expression stands where it is placed, where its parts stand within it
-from_parts : (scope : Scope) (role : Role) (e : Phrase) (low high : ℕ) → IsPlaced low high e →
-    AllStand (place_of e).first (end_of e) (parts scope e) → Stands low (end_of e) (expression scope role e)
+from_parts : (scope : Scope) (role : Role) (e : Expression) (low high : ℕ) → IsPlaced low high e →
+    AllStand (span_of e).first (end_of e) (parts scope e) → Stands low (end_of e) (expression scope role e)
 from_parts scope role e low high p ns =
     let e_in = placed_within e p in
     stands (end_of e) (omega arith) (omega arith) (all_from low e_in.from ns) (rises_own scope role e)
 
-before : (scope : Scope) (role : Role) (e : Phrase) (low high : ℕ) {ns : Nests} → IsPlaced low high e →
-    AllStand (place_of e).first (end_of e) (parts scope e) → AllStand (suc (end_of e)) high ns →
+before : (scope : Scope) (role : Role) (e : Expression) (low high : ℕ) {ns : Nests} → IsPlaced low high e →
+    AllStand (span_of e).first (end_of e) (parts scope e) → AllStand (suc (end_of e)) high ns →
     AllStand low high (more (expression scope role e) ns)
 before scope role e low high p ns others =
     one_more (end_of e) (from_parts scope role e low high p ns) (placed_within e p).to others
@@ -101,7 +101,7 @@ before scope role e low high p ns others =
 mutual
   unfolding parts IsPlaced
 
-  parts_stand : (scope : Scope) (e : Phrase) (low high : ℕ) → IsPlaced low high e → AllStand (place_of e).first (end_of e) (parts scope e)
+  parts_stand : (scope : Scope) (e : Expression) (low high : ℕ) → IsPlaced low high e → AllStand (span_of e).first (end_of e) (parts scope e)
   parts_stand scope (constant at v unsigned) low high p = no_more
   parts_stand scope (word at name) low high p = no_more
   parts_stand scope (unary at op e) low high p = before scope Value e _ _ p.1 (parts_stand scope e _ _ p.1) no_more
@@ -119,23 +119,23 @@ mutual
   parts_stand scope (input at) low high p = no_more
   parts_stand scope (output at e) low high p = before scope Written e _ _ p.1 (parts_stand scope e _ _ p.1) no_more
 
-  arguments_stand : (scope : Scope) (params : Option (List Ty)) (es : Phrases) (low high : ℕ) → ArePlaced low high es →
+  arguments_stand : (scope : Scope) (params : Option (List Ty)) (es : Expressions) (low high : ℕ) → ArePlaced low high es →
       AllStand low high (arguments scope params es)
   arguments_stand scope params nil low high p = no_more
   arguments_stand scope params (cons e es) low high p =
       before scope (Argument (first_parameter params)) e _ _ p.0 (parts_stand scope e _ _ p.0)
       (arguments_stand scope (other_parameters params) es _ _ p.1)
 
-pub expression_stands : (scope : Scope) (role : Role) (e : Phrase) (low high : ℕ) → IsPlaced low high e → Stands low (end_of e) (expression scope role e)
+pub expression_stands : (scope : Scope) (role : Role) (e : Expression) (low high : ℕ) → IsPlaced low high e → Stands low (end_of e) (expression scope role e)
 expression_stands scope role e low high p = from_parts scope role e low high p (parts_stand scope e low high p)
 
-pub whole_stands : (scope : Scope) (role : Role) (e : Phrase) (low high : ℕ) → IsPlaced low high e → Stands low (end_of e) (whole scope role e)
+pub whole_stands : (scope : Scope) (role : Role) (e : Expression) (low high : ℕ) → IsPlaced low high e → Stands low (end_of e) (whole scope role e)
 whole_stands scope role e low high p =
     let e_in = placed_within e p in
     stands (end_of e) (omega arith) (omega arith) (all_from low e_in.from (parts_stand scope e low high p))
     (rises_append (rises_own scope role e) (rises_broken 11 rules.TooDeep (end_of e) (holds_too_many (typed scope e)) (omega arith)))
 
-pub option_stands : (scope : Scope) (role : Role) (e : Option Phrase) (low high : ℕ) (ns : Nests) → IsOptionPlaced low high e →
+pub option_stands : (scope : Scope) (role : Role) (e : Option Expression) (low high : ℕ) (ns : Nests) → IsOptionPlaced low high e →
     AllStand (behind_option low e) high ns → AllStand low high (option scope role e ns)
 option_stands scope role None low high ns p others = others
 option_stands scope role (Some e) low high ns p others =

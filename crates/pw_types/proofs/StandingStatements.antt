@@ -3,9 +3,9 @@ use Rattle.std.proofs.Common.{◌≡◌, ℕ, suc, ◌≤◌, Bool, true, false,
 use Rattle.std.specs.Prelude.{Option, Some, None, option_map}
 use Rattle.pw_tree.specs.declared.ty.Ty.TheVariants.{Void, Long, Ulong, Fn}
 use Rattle.pw_tree.specs.declared.ty.Ty.{Ty}
-use Rattle.pw_tree.specs.Phrases.{Place, Phrase}
-use Rattle.pw_tree.specs.Statements.{Statement, Statements, Maybe, empty, block, local, set, evaluate, if_else, while_loop, do_loop, for_loop, returns, breaks, continues, nil, cons, absent, present}
-use Rattle.pw_tree.specs.Placed.{IsWithin, IsPlaced, local_name_at, index_end, statement_place, behind_maybe as token_behind, set_end, IsSetPlaced, IsStatementPlaced, AreStatementsPlaced, IsMaybePlaced}
+use Rattle.pw_tree.specs.Expressions.{Span, Expression}
+use Rattle.pw_tree.specs.Statements.{Statement, Statements, OptionalStatement, empty, block, local, set, evaluate, if_else, while_loop, do_loop, for_loop, returns, breaks, continues, nil, cons, absent, present}
+use Rattle.pw_tree.specs.Placed.{IsWithin, IsPlaced, local_name_at, index_end, statement_span, behind_maybe as token_behind, set_end, IsSetPlaced, IsStatementPlaced, AreStatementsPlaced, IsMaybePlaced}
 use Rattle.pw_types.specs.declared.rule.Rule.TheVariants as rules
 use Rattle.pw_types.specs.declared.role.Role.{Role}
 use Rattle.pw_types.specs.declared.role.Role.TheVariants as roles
@@ -24,7 +24,7 @@ use Rattle.pw_types.proofs.StandingExpressions.{placed_within, expression_faults
 
 -- ---- their faults
 
-set_faults : (x : Setting) (scope : Scope) (at : Place) (name : List ℕ) (i : Option Phrase) (e : Phrase) →
+set_faults : (x : Setting) (scope : Scope) (at : Span) (name : List ℕ) (i : Option Expression) (e : Expression) →
     flat (assignment x scope at name i e) ≡ faults_of_set x scope at name i e
 unfolding flat
 set_faults x scope at name None e =
@@ -75,14 +75,14 @@ mutual
   statements_faults x b nil = refl
   statements_faults x b (cons s ss) = both (statement_faults x b s) (statements_faults x (behind s b) ss)
 
-  maybe_faults : (x : Setting) (b : Block) (s : Maybe) (ns : Nests) (own : List Fault) →
+  maybe_faults : (x : Setting) (b : Block) (s : OptionalStatement) (ns : Nests) (own : List Fault) →
       gather (maybe x b s ns) own ≡ faults_by_maybe x b s ++ gather ns own
   maybe_faults x b absent ns own = refl
   maybe_faults x b (present s) ns own = both (statement_faults x b s) refl
 
 -- ---- where they stand
 
-pub name_behind : (at : Place) (ty : Ty) → at.first ≤ local_name_at at ty
+pub name_behind : (at : Span) (ty : Ty) → at.first ≤ local_name_at at ty
 name_behind at Void = omega arith
 name_behind at Long = omega arith
 name_behind at Ulong = omega arith
@@ -96,11 +96,11 @@ leaf_stands {at = at} low h own = stands at h (omega arith) no_more own
 pub outer_stands : (low high : ℕ) (ns : Nests) → low ≤ high → AllStand low high ns → Stands low high (nest ns [])
 outer_stands low high ns h all = stands high h (omega arith) all (ends {at = high} {low = 0} {high = 0} (omega arith))
 
-set_ends : (in_head : Bool) (at : Place) → set_end in_head at ≤ at.last
+set_ends : (in_head : Bool) (at : Span) → set_end in_head at ≤ at.last
 set_ends true at = omega arith
 set_ends false at = omega arith
 
-set_stands : (x : Setting) (scope : Scope) (at : Place) (name : List ℕ) (i : Option Phrase) (e : Phrase) (low : ℕ) →
+set_stands : (x : Setting) (scope : Scope) (at : Span) (name : List ℕ) (i : Option Expression) (e : Expression) (low : ℕ) →
     low ≤ at.first → IsSetPlaced (set_end x.in_head at) at i e → Stands low at.last (assignment x scope at name i e)
 set_stands x scope at name None e low h p =
     let e_in = placed_within e p in
@@ -126,7 +126,7 @@ set_stands x scope at name (Some i) e low h p =
     (rises_broken 0 rules.TooDeep (set_end x.in_head at) (set_element_holds_too_many scope name i e) (omega arith))
 
 pub statement_within : {low high : ℕ} (in_head : Bool) (s : Statement) → IsStatementPlaced in_head low high s →
-    IsWithin low high (statement_place s)
+    IsWithin low high (statement_span s)
 unfolding IsStatementPlaced
 statement_within in_head (empty at) p = p
 statement_within in_head (block at ss) p = p.0
@@ -141,7 +141,7 @@ statement_within in_head (returns at e) p = p.0
 statement_within in_head (breaks at) p = p
 statement_within in_head (continues at) p = p
 
-whole_before : (scope : Scope) (role : Role) (e : Phrase) (low high : ℕ) (ns : Nests) → IsPlaced low high e →
+whole_before : (scope : Scope) (role : Role) (e : Expression) (low high : ℕ) (ns : Nests) → IsPlaced low high e →
     AllStand (suc (end_of e)) high ns → AllStand low high (more (whole scope role e) ns)
 whole_before scope role e low high ns p others =
     one_more (end_of e) (whole_stands scope role e low high p) (placed_within e p).to others
@@ -150,7 +150,7 @@ mutual
   unfolding statement IsStatementPlaced
 
   pub statement_stands : (x : Setting) (b : Block) (s : Statement) (low high : ℕ) → IsStatementPlaced x.in_head low high s →
-      Stands low (statement_place s).last (statement x b s)
+      Stands low (statement_span s).last (statement x b s)
   statement_stands x b (empty at) low high p = outer_stands low at.last none (omega (arith, p.from, p.some)) no_more
   statement_stands x b (block at ss) low high p =
       outer_stands low at.last _ (omega (arith, p.0.from, p.0.some)) (all_from low p.0.from (statements_stand (part x) (inner b) ss _ _ refl p.1))
@@ -166,16 +166,16 @@ mutual
       let a_in = statement_within false a p.2 in
       outer_stands low at.last _ (omega (arith, p.0.from, p.0.some)) (all_from low p.0.from
       (whole_before b.scope roles.Value c _ _ _ p.1
-      (one_more (statement_place a).last (statement_stands (part x) b a _ _ p.2) a_in.to
+      (one_more (statement_span a).last (statement_stands (part x) b a _ _ p.2) a_in.to
       (maybe_stands (part x) (behind a b) d _ _ none p.3 no_more))))
   statement_stands x b (while_loop at c s) low high p =
       let s_in = statement_within false s p.2 in
       outer_stands low at.last _ (omega (arith, p.0.from, p.0.some)) (all_from low p.0.from
-      (whole_before b.scope roles.Value c _ _ _ p.1 (one_more (statement_place s).last (statement_stands (body x) b s _ _ p.2) s_in.to no_more)))
+      (whole_before b.scope roles.Value c _ _ _ p.1 (one_more (statement_span s).last (statement_stands (body x) b s _ _ p.2) s_in.to no_more)))
   statement_stands x b (do_loop at s c) low high p =
       let s_in = statement_within false s p.1 in
       outer_stands low at.last _ (omega (arith, p.0.from, p.0.some)) (all_from low p.0.from
-      (one_more (statement_place s).last (statement_stands (body x) b s _ _ p.1) s_in.to
+      (one_more (statement_span s).last (statement_stands (body x) b s _ _ p.1) s_in.to
       (whole_before b.scope roles.Value c _ _ none p.2 no_more)))
   statement_stands x b (for_loop at first c last s) low high p =
       let s_in = statement_within false s p.4 in
@@ -184,7 +184,7 @@ mutual
       (maybe_stands (head x) (inner b) first _ _ _ p.1
       (option_stands (behind_maybe first (inner b)).scope roles.Value c _ _ _ p.2
       (maybe_stands (head x) (behind_maybe first (inner b)) last _ _ _ p.3
-      (one_more (statement_place s).last (statement_stands (body x) in_body s _ _ p.4) s_in.to no_more)))))
+      (one_more (statement_span s).last (statement_stands (body x) in_body s _ _ p.4) s_in.to no_more)))))
   statement_stands x b (returns at e) low high p =
       stands at.last (omega (arith, p.0.from, p.0.some)) (omega arith)
       (all_from low p.0.from (option_stands b.scope roles.Value e _ _ none p.1 no_more))
@@ -199,12 +199,12 @@ mutual
   statements_stand x b nil low high e p = no_more
   statements_stand x b (cons s ss) low high e p =
       let s_in = statement_within false s p.0 in
-      one_more (statement_place s).last
+      one_more (statement_span s).last
       (statement_stands x b s low high (subst (λ in_head. IsStatementPlaced in_head low high s) (sym e) p.0)) s_in.to
       (statements_stand x (behind s b) ss _ _ e p.1)
 
-  maybe_stands : (x : Setting) (b : Block) (s : Maybe) (low high : ℕ) (ns : Nests) → IsMaybePlaced x.in_head low high s →
+  maybe_stands : (x : Setting) (b : Block) (s : OptionalStatement) (low high : ℕ) (ns : Nests) → IsMaybePlaced x.in_head low high s →
       AllStand (token_behind low s) high ns → AllStand low high (maybe x b s ns)
   maybe_stands x b absent low high ns p others = others
   maybe_stands x b (present s) low high ns p others =
-      one_more (statement_place s).last (statement_stands x b s low high p) (statement_within x.in_head s p).to others
+      one_more (statement_span s).last (statement_stands x b s low high p) (statement_within x.in_head s p).to others

@@ -4,8 +4,8 @@ use Rattle.std.specs.Prelude.{Some, None, find}
 use Rattle.pw_tree.specs.declared.ty.Ty.{Ty}
 use Rattle.pw_tree.specs.declared.decl.Param.{Param}
 use Rattle.pw_tree.specs.declared.decl.InitItem.{InitItem}
-use Rattle.pw_tree.specs.Declarations.{Declaration, DeclarationForm, prototype, definition, variable, WrittenUnit}
-use Rattle.pw_tree.specs.Placed.{AreParametersPlaced, AreElementsPlaced, IsFormPlaced, IsDeclarationPlaced, AreDeclarationsPlaced, IsWritten}
+use Rattle.pw_tree.specs.Declarations.{Declaration, DeclarationForm, prototype, definition, variable, UntypedUnit}
+use Rattle.pw_tree.specs.Placed.{AreParametersPlaced, AreElementsPlaced, IsFormPlaced, IsDeclarationPlaced, AreDeclarationsPlaced, IsParsed}
 use Rattle.pw_types.specs.declared.rule.Rule.TheVariants as rules
 use Rattle.pw_types.specs.declared.names.File.{File}
 use Rattle.pw_types.specs.declared.names.Local.{Local}
@@ -142,13 +142,13 @@ declarations_stand w files before (d ∷ ds) low high p =
 
 -- ---- units
 
-pub unit_faults : (u : WrittenUnit) → flat (unit u) ≡ faults_of u
+pub unit_faults : (u : UntypedUnit) → flat (unit u) ≡ faults_of u
 unfolding flat
 unit_faults u =
     declarations_faults (whole_of u) [] 0 u.declarations
     (faults_of_lacking (length u.lines - 1) (find lacks_definition (files_behind [] u.declarations)))
 
-pub unit_stands : (u : WrittenUnit) → IsWritten u → Stands 0 (length u.lines - 1) (unit u)
+pub unit_stands : (u : UntypedUnit) → IsParsed u → Stands 0 (length u.lines - 1) (unit u)
 unit_stands u w =
     stands (length u.lines - 1) (omega arith) (omega arith)
     (declarations_stand (whole_of u) [] 0 u.declarations 0 (length u.lines) w.placed)

@@ -1,7 +1,7 @@
 -- Which form a statement has, and what entering it answers.
 use Rattle.std.proofs.Common.{◌≡◌, ℕ, ◌<◌, List, Option, option_map, Result, Ok, Err, IfOk, sym, ap, ◌∙◌, subst}
-use Rattle.pw_tree.specs.Phrases.{Place, phrase_of}
-use Rattle.pw_tree.specs.Statements.{Statement, empty, block, local, set, evaluate, if_else, while_loop, do_loop, for_loop, returns, breaks, continues, maybe, statement_of, statement_form_of, statements_of}
+use Rattle.pw_tree.specs.Expressions.{Span, expression_of}
+use Rattle.pw_tree.specs.Statements.{Statement, empty, block, local, set, evaluate, if_else, while_loop, do_loop, for_loop, returns, breaks, continues, optional_statement, statement_of, statement_form_of, statements_of}
 use Rattle.pw_tree.specs.declared.ty.Ty.{Ty}
 use Rattle.pw_tree.specs.declared.expr.Expr.{Expr}
 use Rattle.pw_tree.specs.declared.stmt.Stmt.{Stmt, out-Stmt}
@@ -13,16 +13,16 @@ use Rattle.pw_types.specs.declared.fault.Stop.{Stop}
 use Rattle.pw_types.specs.declared.statement_walk.Walk.{Walk}
 use Rattle.pw_types.specs.declared.statement_step.Setting.{Setting as Given}
 use Rattle.pw_types.specs.declared.statement_step.Step.{Step}
-use Rattle.pw_types.specs.CheckingStatements.{Outcome, outcome_at, Finishes, Leads, Steps, done}
+use Rattle.pw_types.specs.CheckingStatements.{WalkResult, outcome_at, Finishes, Leads, Steps, done}
 use Rattle.pw_types.specs.StatementWeights.{weight, weight_of_step}
 
-abbrev pub place_at : Stmt → Place
+abbrev pub place_at : Stmt → Span
 place_at s = record { first = (out-Stmt s).first; last = (out-Stmt s).last; line = (out-Stmt s).line }
 
-of_kind : (s : Stmt) (k : StmtKind) (f : Place → Statement) → (out-Stmt s).kind ≡ k → statement_form_of k ≡ f → statement_of s ≡ f (place_at s)
+of_kind : (s : Stmt) (k : StmtKind) (f : Span → Statement) → (out-Stmt s).kind ≡ k → statement_form_of k ≡ f → statement_of s ≡ f (place_at s)
 of_kind s k f is form =
     statement_of-out s
-    ∙ (ap (λ (l : StmtKind). statement_form_of l (place_at s)) is ∙ ap (λ (g : Place → Statement). g (place_at s)) form)
+    ∙ (ap (λ (l : StmtKind). statement_form_of l (place_at s)) is ∙ ap (λ (g : Span → Statement). g (place_at s)) form)
 
 pub is_empty : (s : Stmt) → (out-Stmt s).kind ≡ kinds.Empty → statement_of s ≡ empty (place_at s)
 is_empty s is = of_kind s _ _ is statement_form_of-Empty
@@ -32,40 +32,40 @@ is_block s body given is given_is =
     of_kind s _ _ is (statement_form_of-Block body) ∙ ap (λ (ss : List Stmt). block (place_at s) (statements_of ss)) (sym given_is)
 
 pub is_local : (s : Stmt) (ty : Ty) (name : List ℕ) (e : Option Expr) → (out-Stmt s).kind ≡ kinds.Local ty name e
-    → statement_of s ≡ local (place_at s) ty name (option_map phrase_of e)
+    → statement_of s ≡ local (place_at s) ty name (option_map expression_of e)
 is_local s ty name e is = of_kind s _ _ is (statement_form_of-Local ty name e)
 
 pub is_set : (s : Stmt) (name : List ℕ) (i : Option Expr) (e : Expr) → (out-Stmt s).kind ≡ kinds.Set name i e
-    → statement_of s ≡ set (place_at s) name (option_map phrase_of i) (phrase_of e)
+    → statement_of s ≡ set (place_at s) name (option_map expression_of i) (expression_of e)
 is_set s name i e is = of_kind s _ _ is (statement_form_of-Set name i e)
 
-pub is_evaluate : (s : Stmt) (e : Expr) → (out-Stmt s).kind ≡ kinds.Eval e → statement_of s ≡ evaluate (place_at s) (phrase_of e)
+pub is_evaluate : (s : Stmt) (e : Expr) → (out-Stmt s).kind ≡ kinds.Eval e → statement_of s ≡ evaluate (place_at s) (expression_of e)
 is_evaluate s e is = of_kind s _ _ is (statement_form_of-Eval e)
 
 pub is_if : (s : Stmt) (c : Expr) (a given : Stmt) (b : Option Stmt) → (out-Stmt s).kind ≡ kinds.If c a b → given ≡ a
-    → statement_of s ≡ if_else (place_at s) (phrase_of c) (statement_of given) (maybe (option_map statement_of b))
+    → statement_of s ≡ if_else (place_at s) (expression_of c) (statement_of given) (optional_statement (option_map statement_of b))
 is_if s c a given b is given_is =
     of_kind s _ _ is (statement_form_of-If c a b)
-    ∙ ap (λ (u : Stmt). if_else (place_at s) (phrase_of c) (statement_of u) (maybe (option_map statement_of b))) (sym given_is)
+    ∙ ap (λ (u : Stmt). if_else (place_at s) (expression_of c) (statement_of u) (optional_statement (option_map statement_of b))) (sym given_is)
 
 pub is_while : (s : Stmt) (c : Expr) (body given : Stmt) → (out-Stmt s).kind ≡ kinds.While c body → given ≡ body
-    → statement_of s ≡ while_loop (place_at s) (phrase_of c) (statement_of given)
+    → statement_of s ≡ while_loop (place_at s) (expression_of c) (statement_of given)
 is_while s c body given is given_is =
-    of_kind s _ _ is (statement_form_of-While c body) ∙ ap (λ (u : Stmt). while_loop (place_at s) (phrase_of c) (statement_of u)) (sym given_is)
+    of_kind s _ _ is (statement_form_of-While c body) ∙ ap (λ (u : Stmt). while_loop (place_at s) (expression_of c) (statement_of u)) (sym given_is)
 
 pub is_do : (s : Stmt) (body given : Stmt) (c : Expr) → (out-Stmt s).kind ≡ kinds.Do body c → given ≡ body
-    → statement_of s ≡ do_loop (place_at s) (statement_of given) (phrase_of c)
+    → statement_of s ≡ do_loop (place_at s) (statement_of given) (expression_of c)
 is_do s body given c is given_is =
-    of_kind s _ _ is (statement_form_of-Do body c) ∙ ap (λ (u : Stmt). do_loop (place_at s) (statement_of u) (phrase_of c)) (sym given_is)
+    of_kind s _ _ is (statement_form_of-Do body c) ∙ ap (λ (u : Stmt). do_loop (place_at s) (statement_of u) (expression_of c)) (sym given_is)
 
 pub is_for : (s : Stmt) (first : Option Stmt) (c : Option Expr) (last : Option Stmt) (body given : Stmt) → (out-Stmt s).kind ≡ kinds.For first c last body
     → given ≡ body
-    → statement_of s ≡ for_loop (place_at s) (maybe (option_map statement_of first)) (option_map phrase_of c) (maybe (option_map statement_of last)) (statement_of given)
+    → statement_of s ≡ for_loop (place_at s) (optional_statement (option_map statement_of first)) (option_map expression_of c) (optional_statement (option_map statement_of last)) (statement_of given)
 is_for s first c last body given is given_is =
     of_kind s _ _ is (statement_form_of-For first c last body)
-    ∙ ap (λ (u : Stmt). for_loop (place_at s) (maybe (option_map statement_of first)) (option_map phrase_of c) (maybe (option_map statement_of last)) (statement_of u)) (sym given_is)
+    ∙ ap (λ (u : Stmt). for_loop (place_at s) (optional_statement (option_map statement_of first)) (option_map expression_of c) (optional_statement (option_map statement_of last)) (statement_of u)) (sym given_is)
 
-pub is_return : (s : Stmt) (e : Option Expr) → (out-Stmt s).kind ≡ kinds.Return e → statement_of s ≡ returns (place_at s) (option_map phrase_of e)
+pub is_return : (s : Stmt) (e : Option Expr) → (out-Stmt s).kind ≡ kinds.Return e → statement_of s ≡ returns (place_at s) (option_map expression_of e)
 is_return s e is = of_kind s _ _ is (statement_form_of-Return e)
 
 pub is_break : (s : Stmt) → (out-Stmt s).kind ≡ kinds.Break → statement_of s ≡ breaks (place_at s)
@@ -76,7 +76,7 @@ is_continue s is = of_kind s _ _ is statement_form_of-Continue
 
 -- ---- what is said of a form is said of the statement
 
-pub finished_steps : (w : Outcome) (new : Walk) (r : Result TStmt Stop) → Finishes w new r → Steps w new (done r)
+pub finished_steps : (w : WalkResult) (new : Walk) (r : Result TStmt Stop) → Finishes w new r → Steps w new (done r)
 finished_steps w new (Ok t) told = told
 finished_steps w new (Err stop) told = told
 

@@ -3,7 +3,7 @@ use Rattle.std.proofs.Common.{◌≡◌, ◌+◌, ◌<◌, List, [], ◌∷◌, 
 use Rattle.std.specs.Borrow.{Bor}
 use Rattle.std.proofs.lemmas.List.{reverse-append}
 use Rattle.pw_tree.specs.Statements.{statement_of}
-use Rattle.pw_tree.specs.Commands as command
+use Rattle.pw_tree.specs.TypedStatements as command
 use Rattle.pw_tree.specs.declared.stmt.Stmt.{Stmt}
 use Rattle.pw_tree.specs.declared.tstmt.TStmt.{TStmt}
 use Rattle.pw_types.specs.declared.fault.Stop.{Stop}
@@ -15,7 +15,7 @@ use Rattle.pw_types.specs.declared.statement_step.Form.TheVariants as forms
 use Rattle.pw_types.specs.declared.statement_step.Step.{Step}
 use Rattle.pw_types.specs.declared.statement_step.Step.TheVariants as steps
 use Rattle.pw_types.specs.Blocks.{Setting, Block}
-use Rattle.pw_types.specs.CheckingStatements.{Outcome, outcome_at, judged_at, of_step, Leads, resume, resumed, resumed_form, setting_of, leave, Fails}
+use Rattle.pw_types.specs.CheckingStatements.{WalkResult, outcome_at, judged_at, of_step, Leads, resume, resumed, resumed_form, setting_of, leave, Fails}
 use Rattle.pw_types.specs.StatementWeights.{weight, weight_of_form, weight_of_frames, weight_of_step}
 use Rattle.pw_types.proofs.Failing.{fails_in_front, fails_as}
 
@@ -25,14 +25,14 @@ weight_of_more [] f = omega arith
 weight_of_more (g ∷ fs) f = omega (arith, weight_of_more fs f)
 
 -- the one that waits last is resumed first
-pub resume_last : (fs : List Frame) (f : Frame) (w : Outcome) → resume (reverse (fs ++ f ∷ [])) w ≡ resume (reverse fs) (resumed f w)
+pub resume_last : (fs : List Frame) (f : Frame) (w : WalkResult) → resume (reverse (fs ++ f ∷ [])) w ≡ resume (reverse fs) (resumed f w)
 unfolding resume
 resume_last fs f w = ap (λ (gs : List Frame). resume gs w) (reverse-append fs (f ∷ []))
 
 -- ---- a part that stops
 
-form_fails : (x : Setting) (out : Block → Block) (form : Form) (w : Outcome) (stop : Stop) → Fails w.faults stop
-    → let v : Outcome = resumed_form x out form w in Fails v.faults stop
+form_fails : (x : Setting) (out : Block → Block) (form : Form) (w : WalkResult) (stop : Stop) → Fails w.faults stop
+    → let v : WalkResult = resumed_form x out form w in Fails v.faults stop
 form_fails x out (forms.Block done rest) w stop is = fails_in_front _ _ stop is
 form_fails x out (forms.Then c d) w stop is = fails_in_front _ _ stop is
 form_fails x out (forms.Else c a) w stop is = is
@@ -42,55 +42,55 @@ form_fails x out (forms.First c last s) w stop is = fails_in_front _ _ stop is
 form_fails x out (forms.Last first c s) w stop is = fails_in_front _ _ stop is
 form_fails x out (forms.For first c last) w stop is = is
 
-frame_fails : (f : Frame) (w : Outcome) (stop : Stop) → Fails w.faults stop → let v : Outcome = resumed f w in Fails v.faults stop
+frame_fails : (f : Frame) (w : WalkResult) (stop : Stop) → Fails w.faults stop → let v : WalkResult = resumed f w in Fails v.faults stop
 frame_fails f w stop is = form_fails (setting_of f.outer.setting) (leave f.outer.start f.outer.visible) f.form w stop is
 
-pub frames_fail : (fs : List Frame) (w : Outcome) (stop : Stop) → Fails w.faults stop → let v : Outcome = resume fs w in Fails v.faults stop
+pub frames_fail : (fs : List Frame) (w : WalkResult) (stop : Stop) → Fails w.faults stop → let v : WalkResult = resume fs w in Fails v.faults stop
 unfolding resume
 frames_fail [] w stop is = is
 frames_fail (f ∷ fs) w stop is = frames_fail fs (resumed f w) stop (frame_fails f w stop is)
 
 -- ---- each turn
 
-pub part_leads : (whole : Outcome) (fs fs' : List Frame) (f : Frame) (x : Given) (s : Bor Stmt) (old new : Walk) (step : Step)
+pub part_leads : (whole : WalkResult) (fs fs' : List Frame) (f : Frame) (x : Given) (s : Bor Stmt) (old new : Walk) (step : Step)
     → whole ≡ resume (reverse fs) (of_step (steps.Part f x s) old) → fs' ≡ fs ++ f ∷ [] → Leads (outcome_at x old (statement_of s.now)) new step
     → whole ≡ resume (reverse fs') (of_step step new)
 part_leads whole fs fs' f x s old new step is more leads =
-    is ∙ (ap (λ (w : Outcome). resume (reverse fs) (resumed f w)) leads
+    is ∙ (ap (λ (w : WalkResult). resume (reverse fs) (resumed f w)) leads
     ∙ (sym (resume_last fs f (of_step step new)) ∙ ap (λ (gs : List Frame). resume (reverse gs) (of_step step new)) (sym more)))
 
-pub part_stops : (whole : Outcome) (fs : List Frame) (f : Frame) (x : Given) (s : Bor Stmt) (old : Walk) (stop : Stop)
-    → whole ≡ resume (reverse fs) (of_step (steps.Part f x s) old) → (let w : Outcome = outcome_at x old (statement_of s.now) in Fails w.faults stop)
+pub part_stops : (whole : WalkResult) (fs : List Frame) (f : Frame) (x : Given) (s : Bor Stmt) (old : Walk) (stop : Stop)
+    → whole ≡ resume (reverse fs) (of_step (steps.Part f x s) old) → (let w : WalkResult = outcome_at x old (statement_of s.now) in Fails w.faults stop)
     → Fails whole.faults stop
 part_stops whole fs f x s old stop is fails =
-    fails_as _ _ stop (sym (ap (λ (w : Outcome). w.faults) is))
+    fails_as _ _ stop (sym (ap (λ (w : WalkResult). w.faults) is))
     (frames_fail (reverse fs) (resumed f (outcome_at x old (statement_of s.now))) stop (frame_fails f (outcome_at x old (statement_of s.now)) stop fails))
 
-pub done_leads : (whole : Outcome) (fs fs' : List Frame) (f : Frame) (t : TStmt) (old new : Walk) (step : Step)
-    → whole ≡ resume (reverse fs) (judged_at (command.command_of t) old) → fs ≡ fs' ++ f ∷ [] → Leads (resumed f (judged_at (command.command_of t) old)) new step
+pub done_leads : (whole : WalkResult) (fs fs' : List Frame) (f : Frame) (t : TStmt) (old new : Walk) (step : Step)
+    → whole ≡ resume (reverse fs) (judged_at (command.typed_statement_of t) old) → fs ≡ fs' ++ f ∷ [] → Leads (resumed f (judged_at (command.typed_statement_of t) old)) new step
     → whole ≡ resume (reverse fs') (of_step step new)
 done_leads whole fs fs' f t old new step is more leads =
-    is ∙ (ap (λ (gs : List Frame). resume (reverse gs) (judged_at (command.command_of t) old)) more
-    ∙ (resume_last fs' f (judged_at (command.command_of t) old) ∙ ap (resume (reverse fs')) leads))
+    is ∙ (ap (λ (gs : List Frame). resume (reverse gs) (judged_at (command.typed_statement_of t) old)) more
+    ∙ (resume_last fs' f (judged_at (command.typed_statement_of t) old) ∙ ap (resume (reverse fs')) leads))
 
-pub done_stops : (whole : Outcome) (fs fs' : List Frame) (f : Frame) (t : TStmt) (old : Walk) (stop : Stop)
-    → whole ≡ resume (reverse fs) (judged_at (command.command_of t) old) → fs ≡ fs' ++ f ∷ []
-    → (let w : Outcome = resumed f (judged_at (command.command_of t) old) in Fails w.faults stop) → Fails whole.faults stop
+pub done_stops : (whole : WalkResult) (fs fs' : List Frame) (f : Frame) (t : TStmt) (old : Walk) (stop : Stop)
+    → whole ≡ resume (reverse fs) (judged_at (command.typed_statement_of t) old) → fs ≡ fs' ++ f ∷ []
+    → (let w : WalkResult = resumed f (judged_at (command.typed_statement_of t) old) in Fails w.faults stop) → Fails whole.faults stop
 done_stops whole fs fs' f t old stop is more fails =
     fails_as _ _ stop
-    (sym (ap (λ (w : Outcome). w.faults)
-    (is ∙ (ap (λ (gs : List Frame). resume (reverse gs) (judged_at (command.command_of t) old)) more ∙ resume_last fs' f (judged_at (command.command_of t) old)))))
-    (frames_fail (reverse fs') (resumed f (judged_at (command.command_of t) old)) stop fails)
+    (sym (ap (λ (w : WalkResult). w.faults)
+    (is ∙ (ap (λ (gs : List Frame). resume (reverse gs) (judged_at (command.typed_statement_of t) old)) more ∙ resume_last fs' f (judged_at (command.typed_statement_of t) old)))))
+    (frames_fail (reverse fs') (resumed f (judged_at (command.typed_statement_of t) old)) stop fails)
 
-pub all_done : (whole : Outcome) (fs : List Frame) (w : Outcome) → whole ≡ resume (reverse fs) w → fs ≡ [] → whole ≡ w
+pub all_done : (whole : WalkResult) (fs : List Frame) (w : WalkResult) → whole ≡ resume (reverse fs) w → fs ≡ [] → whole ≡ w
 unfolding resume
 all_done whole fs w is none = is ∙ ap (λ (gs : List Frame). resume (reverse gs) w) none
 
-pub none_wait : (whole : Outcome) (fs : List Frame) (w : Outcome) → whole ≡ w → fs ≡ [] → whole ≡ resume (reverse fs) w
+pub none_wait : (whole : WalkResult) (fs : List Frame) (w : WalkResult) → whole ≡ w → fs ≡ [] → whole ≡ resume (reverse fs) w
 unfolding resume
 none_wait whole fs w is none = is ∙ ap (λ (gs : List Frame). resume (reverse gs) w) (sym none)
 
-pub at_step : (whole : Outcome) (fs : List Frame) (w : Walk) (step step' : Step) → whole ≡ resume (reverse fs) (of_step step w) → step ≡ step'
+pub at_step : (whole : WalkResult) (fs : List Frame) (w : Walk) (step step' : Step) → whole ≡ resume (reverse fs) (of_step step w) → step ≡ step'
     → whole ≡ resume (reverse fs) (of_step step' w)
 at_step whole fs w step step' is step_is = is ∙ ap (λ (s : Step). resume (reverse fs) (of_step s w)) step_is
 

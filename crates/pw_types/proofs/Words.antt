@@ -1,6 +1,6 @@
 -- What an expression that is a name designates.
 use Rattle.std.proofs.Common.{◌≡◌, ℕ, List, Option, Some, subst}
-use Rattle.pw_tree.specs.Phrases.{Place, Phrase, constant, word, unary, binary, conditional, call, index, input, output}
+use Rattle.pw_tree.specs.Expressions.{Span, Expression, constant, word, unary, binary, conditional, call, index, input, output}
 use Rattle.pw_types.specs.declared.expression_word.NamedFunction.{NamedFunction}
 use Rattle.pw_types.specs.declared.expression_word.NamedArray.{NamedArray}
 use Rattle.pw_types.specs.Scopes.{Scope}
@@ -8,7 +8,7 @@ use Rattle.pw_types.specs.Typed.{array_named, array_of, function_named, function
 use Rattle.pw_types.specs.Uses.{uses, uses_of_name}
 use Rattle.pw_types.specs.Words.{word_in, IsFunction, IsArray}
 
-of_word : (P : Phrase → Type 0) (p : Phrase) (name : List ℕ) → word_in p ≡ Some name → ((at : Place) → P (word at name)) → P p
+of_word : (P : Expression → Type 0) (p : Expression) (name : List ℕ) → word_in p ≡ Some name → ((at : Span) → P (word at name)) → P p
 of_word P (word at n) name h found = let e : name ≡ n = cc in subst (λ m. P (word at m)) e (found at)
 of_word P (constant at value unsigned) name h found = cc
 of_word P (unary at op e) name h found = cc
@@ -19,12 +19,12 @@ of_word P (index at b i) name h found = cc
 of_word P (input at) name h found = cc
 of_word P (output at e) name h found = cc
 
-pub function_by_word : (scope : Scope) (p : Phrase) (name : List ℕ) (r : Option NamedFunction) → word_in p ≡ Some name
+pub function_by_word : (scope : Scope) (p : Expression) (name : List ℕ) (r : Option NamedFunction) → word_in p ≡ Some name
     → IsFunction scope (function_named scope name) (uses_of_name scope name) r → IsFunction scope (function_of scope p) (uses scope p) r
 unfolding uses
 function_by_word scope p name r is found = of_word (λ q. IsFunction scope (function_of scope q) (uses scope q) r) p name is (λ at. found)
 
-pub array_by_word : (scope : Scope) (p : Phrase) (name : List ℕ) (r : Option NamedArray) → word_in p ≡ Some name
+pub array_by_word : (scope : Scope) (p : Expression) (name : List ℕ) (r : Option NamedArray) → word_in p ≡ Some name
     → IsArray scope (array_named scope name) (uses_of_name scope name) r → IsArray scope (array_of scope p) (uses scope p) r
 unfolding uses
 array_by_word scope p name r is found = of_word (λ q. IsArray scope (array_of scope q) (uses scope q) r) p name is (λ at. found)

@@ -1,8 +1,8 @@
 -- Where a statement stands: what is visible, and how blocks and declarations change it (C17, 6.2.1).
 use Rattle.std.specs.Prelude.{ℕ, suc, ◌+◌, Bool, false, true, List, [], ◌∷◌, ◌++◌, length, drop, Option, Some, None, is_some}
 use Rattle.pw_tree.specs.declared.ty.Ty.{Ty}
-use Rattle.pw_tree.specs.Phrases.{Phrase}
-use Rattle.pw_tree.specs.Statements.{Statement, Statements, Maybe, empty, block, local, set, evaluate, if_else, while_loop, do_loop, for_loop, returns, breaks, continues, nil, cons, absent, present}
+use Rattle.pw_tree.specs.Expressions.{Expression}
+use Rattle.pw_tree.specs.Statements.{Statement, Statements, OptionalStatement, empty, block, local, set, evaluate, if_else, while_loop, do_loop, for_loop, returns, breaks, continues, nil, cons, absent, present}
 use Rattle.pw_types.specs.Scopes.{Scope, local_named}
 use Rattle.pw_types.specs.Uses.{uses, uses_of_name}
 
@@ -68,7 +68,7 @@ unfoldable mutual
   locals_in_all nil = 0
   locals_in_all (cons s ss) = locals_in s + locals_in_all ss
 
-  pub locals_in_maybe : Maybe → ℕ
+  pub locals_in_maybe : OptionalStatement → ℕ
   locals_in_maybe absent = 0
   locals_in_maybe (present s) = locals_in s
 
@@ -91,13 +91,13 @@ behind (returns at e) b = b
 behind (breaks at) b = b
 behind (continues at) b = b
 
-abbrev pub behind_maybe : Maybe → Block → Block
+abbrev pub behind_maybe : OptionalStatement → Block → Block
 behind_maybe absent b = b
 behind_maybe (present s) b = behind s b
 
 -- ---- the names at file level that statements use
 
-abbrev pub uses_of_option : Scope → Option Phrase → List ℕ
+abbrev pub uses_of_option : Scope → Option Expression → List ℕ
 uses_of_option scope None = []
 uses_of_option scope (Some e) = uses scope e
 
@@ -124,6 +124,6 @@ unfoldable mutual
   uses_by_all b nil = []
   uses_by_all b (cons s ss) = uses_by b s ++ uses_by_all (behind s b) ss
 
-  pub uses_by_maybe : Block → Maybe → List ℕ
+  pub uses_by_maybe : Block → OptionalStatement → List ℕ
   uses_by_maybe b absent = []
   uses_by_maybe b (present s) = uses_by b s

@@ -8,7 +8,7 @@ use Rattle.pw_tree.specs.declared.decl.Param.{Param}
 use Rattle.pw_tree.specs.declared.decl.InitItem.{InitItem}
 use Rattle.pw_tree.specs.declared.decl.InitKind.{InitKind}
 use Rattle.pw_tree.specs.Declarations.{Declaration, DeclarationForm, prototype, definition, variable}
-use Rattle.pw_tree.specs.Commands.{commands_of}
+use Rattle.pw_tree.specs.TypedStatements.{typed_statements_of}
 use Rattle.pw_tree.specs.Units.{Function, function_of}
 use Rattle.pw_types.specs.declared.rule.Rule.TheVariants as rules
 use Rattle.pw_types.specs.declared.fault.Fault.{Fault}
@@ -109,7 +109,7 @@ function_with d sig body = record {
   line = d.line;
   locals = body.count;
   held = body.held;
-  body = commands_of body.statements;
+  body = typed_statements_of body.statements;
 }
 
 -- the variable that a declaration defines, with this type, size and initialiser

@@ -5,9 +5,9 @@ use Rattle.pw_tree.specs.declared.ty.Ty.TheVariants.{Void, Long, Ulong, Fn}
 use Rattle.pw_tree.specs.declared.ty.Ref.{Ref}
 use Rattle.pw_tree.specs.declared.operator.Un.{Un}
 use Rattle.pw_tree.specs.declared.operator.Bin.{Bin}
-use Rattle.pw_tree.specs.Phrases.{Place, Phrase, Phrases, constant, word, unary, binary, conditional, call, index, input, output, nil, cons}
-use Rattle.pw_tree.specs.Trees.{Mark, Tree, Trees, trees}
-use Rattle.pw_tree.specs.Trees as tree
+use Rattle.pw_tree.specs.Expressions.{Span, Expression, Expressions, constant, word, unary, binary, conditional, call, index, input, output, nil, cons}
+use Rattle.pw_tree.specs.TypedExpressions.{Mark, TypedExpression, TypedExpressions, typed_expressions}
+use Rattle.pw_tree.specs.TypedExpressions as tree
 use Rattle.pw_types.specs.declared.rule.Rule.{Rule}
 use Rattle.pw_types.specs.declared.rule.Rule.TheVariants as rules
 use Rattle.pw_types.specs.declared.role.Role.{Role}
@@ -29,14 +29,14 @@ use Rattle.pw_types.specs.Judging.{Judge, ◌>>=◌, pure, refuse, noting, on_op
 
 -- A typed tree, and how many values it holds at a time, or 101 where these are more.
 pub record Valued : Type 0 where
-  pub tree : Tree
+  pub tree : TypedExpression
   pub held : ℕ
 
 abbrev pub capped : ℕ → ℕ
 capped n = min n 101
 
 -- what is known of an expression in its role
-abbrev pub head : Role → Place → Head
+abbrev pub head : Role → Span → Head
 head role at = record { role = role; last = at.last; line = at.line }
 
 abbrev pub mark_under : Head → Ty → Mark
@@ -108,7 +108,7 @@ array_rule (Assigned want) = rules.NeedsIndex
 abbrev pub function_rule : Role → Rule
 function_rule role = if is_base role then rules.NotArray else rules.NotValue
 
-abbrev pub leaf : Head → Tree → Judge Valued
+abbrev pub leaf : Head → TypedExpression → Judge Valued
 leaf h t = finished h (record { tree = t; held = 0 })
 
 abbrev pub function_value : Scope → Head → File → Option Ty → Judge Valued
@@ -188,20 +188,20 @@ pub record Calling : Type 0 where
 
 -- Arguments that were judged, and how many values they hold at a time.
 pub record Taken : Type 0 where
-  pub trees : List Tree
+  pub typed_expressions : List TypedExpression
   pub held : ℕ
 
 abbrev pub none_taken : Taken
-none_taken = record { trees = []; held = 0 }
+none_taken = record { typed_expressions = []; held = 0 }
 
 -- arguments are held as they come, and a call holds them all
 abbrev pub taking : Taken → Valued → Taken
 taking taken v = record {
-  trees = taken.trees ++ v.tree ∷ [];
+  typed_expressions = taken.trees ++ v.tree ∷ [];
   held = max taken.held (capped (length taken.trees + max v.held 1));
 }
 
-abbrev pub call_tree : Head → Aim → Trees → Tree
+abbrev pub call_tree : Head → Aim → TypedExpressions → TypedExpression
 call_tree h (named f ty) es = tree.call (mark_under h ty) f es
 call_tree h (through v) es = tree.call_pointer (mark_under h Long) v.tree es
 
@@ -210,12 +210,12 @@ call_held (named f ty) taken = taken.held
 call_held (through v) taken = max taken.held (capped (length taken.trees + v.held))
 
 abbrev pub called : Aim → Head → Taken → Valued
-called aim h taken = record { tree = call_tree h aim (trees taken.trees); held = call_held aim taken }
+called aim h taken = record { tree = call_tree h aim (typed_expressions taken.trees); held = call_held aim taken }
 
 abbrev pub call_value : Calling → Taken → Judge Valued
 call_value c taken = finished_by c.head c.other_count (called c.aim c.head taken)
 
-abbrev pub calling : Head → Aim → List Ty → Phrases → Calling
+abbrev pub calling : Head → Aim → List Ty → Expressions → Calling
 calling h aim params es = record { head = h; aim = aim; other_count = not (nat_eq (length params) (how_many es)) }
 
 -- the number of parameters of a pointer
@@ -229,10 +229,10 @@ pointer_parameters Ulong = None
 abbrev pub Behind : Type 0
 Behind = Calling → List Ty → Judge Valued
 
-abbrev pub direct_call : Head → Phrases → Behind → Designated → Judge Valued
+abbrev pub direct_call : Head → Expressions → Behind → Designated → Judge Valued
 direct_call h es behind d = behind (calling h (named d.reference d.sig.result) d.sig.params es) d.sig.params
 
-abbrev pub pointer_call : Head → Phrases → Behind → Valued → Judge Valued
+abbrev pub pointer_call : Head → Expressions → Behind → Valued → Judge Valued
 pointer_call h es behind v = on_option (pointer_parameters (type_of v.tree)) (refuse (fault_under h rules.NotCallable))
     (λ k. behind (calling h (through v) (replicate k Long) es) (replicate k Long))
 
@@ -247,7 +247,7 @@ others_wanted (ty ∷ tys) = tys
 
 unfoldable mutual
   -- an expression in its role
-  pub checked : Scope → Role → Phrase → Judge Valued
+  pub checked : Scope → Role → Expression → Judge Valued
   checked scope role (constant at value unsigned) = constant_value (head role at) value unsigned
   checked scope role (word at name) = named_value scope (head role at) name (meaning scope name)
   checked scope role (unary at op e) = checked scope Value e >>= unary_value (head role at) op
@@ -264,7 +264,7 @@ unfoldable mutual
   checked scope role (output at e) = checked scope Written e >>= output_value (head role at)
 
   -- the arguments of a call that are left, and the call
-  pub checked_arguments : Scope → Calling → Taken → List Ty → Phrases → Judge Valued
+  pub checked_arguments : Scope → Calling → Taken → List Ty → Expressions → Judge Valued
   checked_arguments scope c taken params nil = call_value c taken
   checked_arguments scope c taken params (cons e es) =
       checked scope (first_wanted params) e

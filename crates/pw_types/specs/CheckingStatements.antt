@@ -1,10 +1,10 @@
 -- Judging a statement: what it comes to, and how frames say what is still to be done when a part of it is judged.
 use Rattle.std.specs.Prelude.{◌≡◌, ℕ, ◌+◌, max, List, [], ◌∷◌, ◌++◌, length, map, take, Option, Some, option_map, Result, Ok, Err, ⊤}
-use Rattle.pw_tree.specs.Phrases.{Place, Phrase, phrase_of}
-use Rattle.pw_tree.specs.Trees.{Tree, tree_of}
-use Rattle.pw_tree.specs.Statements.{Statement, Statements, Maybe, nil, cons, maybe, statement_of, statements_of}
-use Rattle.pw_tree.specs.Commands.{Command, Commands}
-use Rattle.pw_tree.specs.Commands as command
+use Rattle.pw_tree.specs.Expressions.{Span, Expression, expression_of}
+use Rattle.pw_tree.specs.TypedExpressions.{TypedExpression, typed_expression_of}
+use Rattle.pw_tree.specs.Statements.{Statement, Statements, OptionalStatement, nil, cons, optional_statement, statement_of, statements_of}
+use Rattle.pw_tree.specs.TypedStatements.{TypedStatement, TypedStatements}
+use Rattle.pw_tree.specs.TypedStatements as command
 use Rattle.pw_tree.specs.declared.stmt.Stmt.{Stmt}
 use Rattle.pw_tree.specs.declared.tstmt.TStmt.{TStmt}
 use Rattle.pw_types.specs.declared.role.Role.TheVariants as roles
@@ -25,31 +25,31 @@ use Rattle.pw_types.specs.Held.{held, held_option, held_by, held_by_all, held_by
 use Rattle.pw_types.specs.Uses.{uses}
 use Rattle.pw_types.specs.Blocks.{Setting, part, body, head, Block, behind, behind_maybe, locals_in_all, uses_of_option, uses_by, uses_by_all, uses_by_maybe}
 use Rattle.pw_types.specs.Statements.{faults_of_whole, faults_of_option, faults_by, faults_by_all, faults_by_maybe}
-use Rattle.pw_types.specs.Commands.{tree_in, command_of, commands_of, maybe_of}
+use Rattle.pw_types.specs.TypedStatements.{typed_expression, typed_statement, typed_statements, optional_typed_statement}
 
 -- ---- what a statement comes to
 
 -- All faults that judging meets, and what it gives where it meets none: the typed statement, the names that were used so
 -- far, the greatest number of values held so far, and the block behind it.
-pub record Outcome : Type 0 where
+pub record WalkResult : Type 0 where
   pub faults : List Fault
-  pub command : Command
+  pub command : TypedStatement
   pub used : List ℕ
   pub held : ℕ
   pub block : Block
 
 -- a statement, where so many names were used and so many values held before it
-abbrev pub outcome : Setting → Block → List ℕ → ℕ → Statement → Outcome
+abbrev pub outcome : Setting → Block → List ℕ → ℕ → Statement → WalkResult
 outcome x b used most s = record {
   faults = faults_by x b s;
-  command = command_of x b s;
+  command = typed_statement x b s;
   used = used ++ uses_by b s;
-  held = max most (held_by (command_of x b s));
+  held = max most (held_by (typed_statement x b s));
   block = behind s b;
 }
 
 -- one that is judged without fault
-abbrev pub judged : Command → Block → List ℕ → ℕ → Outcome
+abbrev pub judged : TypedStatement → Block → List ℕ → ℕ → WalkResult
 judged c b used most = record { faults = []; command = c; used = used; held = most; block = b }
 
 -- ---- what is still to be done
@@ -63,131 +63,131 @@ behind_all nil b = b
 behind_all (cons s ss) b = behind_all ss (behind s b)
 
 -- typed statements before others
-unfoldable pub before : List Command → Commands → Commands
+unfoldable pub before : List TypedStatement → TypedStatements → TypedStatements
 before [] more = more
 before (c ∷ cs) more = command.cons c (before cs more)
 
 -- a block, of which these statements are judged and this one comes to `w`
-abbrev pub rest_of_block : Setting → (Block → Block) → List Command → Statements → Outcome → Outcome
+abbrev pub rest_of_block : Setting → (Block → Block) → List TypedStatement → Statements → WalkResult → WalkResult
 rest_of_block x out done rest w = record {
   faults = w.faults ++ faults_by_all (part x) w.block rest;
-  command = command.block (before done (command.cons w.command (commands_of (part x) w.block rest)));
+  command = command.block (before done (command.cons w.command (typed_statements (part x) w.block rest)));
   used = w.used ++ uses_by_all w.block rest;
-  held = max w.held (held_by_all (commands_of (part x) w.block rest));
+  held = max w.held (held_by_all (typed_statements (part x) w.block rest));
   block = out (behind_all rest w.block);
 }
 
 -- an `if`, whose condition is judged, and whose first part comes to `w`
-abbrev pub rest_of_if : Setting → (Block → Block) → Tree → Maybe → Outcome → Outcome
+abbrev pub rest_of_if : Setting → (Block → Block) → TypedExpression → OptionalStatement → WalkResult → WalkResult
 rest_of_if x out c d w = record {
   faults = w.faults ++ faults_by_maybe (part x) w.block d;
-  command = command.if_else c w.command (maybe_of (part x) w.block d);
+  command = command.if_else c w.command (optional_typed_statement (part x) w.block d);
   used = w.used ++ uses_by_maybe w.block d;
-  held = max w.held (held_by_maybe (maybe_of (part x) w.block d));
+  held = max w.held (held_by_maybe (optional_typed_statement (part x) w.block d));
   block = out (behind_maybe d w.block);
 }
 
 -- a `do`, whose body comes to `w`
-abbrev pub rest_of_do : (Block → Block) → Phrase → Outcome → Outcome
+abbrev pub rest_of_do : (Block → Block) → Expression → WalkResult → WalkResult
 rest_of_do out c w = record {
   faults = w.faults ++ faults_of_whole (out w.block).scope roles.Value c;
-  command = command.do_loop w.command (tree_in (out w.block).scope c);
+  command = command.do_loop w.command (typed_expression (out w.block).scope c);
   used = w.used ++ uses (out w.block).scope c;
-  held = max w.held (held (tree_in (out w.block).scope c));
+  held = max w.held (held (typed_expression (out w.block).scope c));
   block = out w.block;
 }
 
 -- a `for`, whose first part is judged, and behind whose last part stands `w`
-abbrev pub rest_of_for : Setting → (Block → Block) → command.Maybe → Option Tree → command.Maybe → Statement → Outcome → Outcome
+abbrev pub rest_of_for : Setting → (Block → Block) → command.OptionalTypedStatement → Option TypedExpression → command.OptionalTypedStatement → Statement → WalkResult → WalkResult
 rest_of_for x out first c last s w = record {
   faults = w.faults ++ faults_by (body x) w.block s;
-  command = command.for_loop first c last (command_of (body x) w.block s);
+  command = command.for_loop first c last (typed_statement (body x) w.block s);
   used = w.used ++ uses_by w.block s;
-  held = max w.held (held_by (command_of (body x) w.block s));
+  held = max w.held (held_by (typed_statement (body x) w.block s));
   block = out (behind s w.block);
 }
 
 -- a `for`, behind whose first part stands `w`
-abbrev pub behind_first : Setting → (Block → Block) → command.Maybe → Option Phrase → Maybe → Statement → Outcome → Outcome
+abbrev pub behind_first : Setting → (Block → Block) → command.OptionalTypedStatement → Option Expression → OptionalStatement → Statement → WalkResult → WalkResult
 behind_first x out first c last s w = record {
   faults = w.faults
       ++ (faults_of_option w.block.scope roles.Value c
       ++ (faults_by_maybe (head x) w.block last ++ faults_by (body x) (behind_maybe last w.block) s));
-  command = command.for_loop first (option_map (tree_in w.block.scope) c) (maybe_of (head x) w.block last)
-      (command_of (body x) (behind_maybe last w.block) s);
+  command = command.for_loop first (option_map (typed_expression w.block.scope) c) (optional_typed_statement (head x) w.block last)
+      (typed_statement (body x) (behind_maybe last w.block) s);
   used = w.used ++ (uses_of_option w.block.scope c ++ (uses_by_maybe w.block last ++ uses_by (behind_maybe last w.block) s));
   held = max w.held
-      (max (held_option (option_map (tree_in w.block.scope) c))
-      (max (held_by_maybe (maybe_of (head x) w.block last)) (held_by (command_of (body x) (behind_maybe last w.block) s))));
+      (max (held_option (option_map (typed_expression w.block.scope) c))
+      (max (held_by_maybe (optional_typed_statement (head x) w.block last)) (held_by (typed_statement (body x) (behind_maybe last w.block) s))));
   block = out (behind s (behind_maybe last w.block));
 }
 
 -- a statement of which only this is left: to be this typed statement
-abbrev pub closed : (Block → Block) → Command → Outcome → Outcome
+abbrev pub closed : (Block → Block) → TypedStatement → WalkResult → WalkResult
 closed out c w = record w { command = c; block = out w.block }
 
 -- ---- frames
 
 -- the typed statement that an optional one is
-abbrev pub typed_maybe : Option TStmt → command.Maybe
-typed_maybe t = command.maybe (option_map command.command_of t)
+abbrev pub typed_maybe : Option TStmt → command.OptionalTypedStatement
+typed_maybe t = command.optional_typed_statement (option_map command.typed_statement_of t)
 
 -- what a statement comes to whose part, for which it waits, comes to `w`
-abbrev pub resumed_form : Setting → (Block → Block) → Form → Outcome → Outcome
-resumed_form x out (forms.Block done rest) w = rest_of_block x out (map command.command_of done) (statements_of rest.now) w
-resumed_form x out (forms.Then c d) w = rest_of_if x out (tree_of c) (maybe (option_map statement_of d.now)) w
+abbrev pub resumed_form : Setting → (Block → Block) → Form → WalkResult → WalkResult
+resumed_form x out (forms.Block done rest) w = rest_of_block x out (map command.typed_statement_of done) (statements_of rest.now) w
+resumed_form x out (forms.Then c d) w = rest_of_if x out (typed_expression_of c) (optional_statement (option_map statement_of d.now)) w
 resumed_form x out (forms.Else c a) w =
-    closed out (command.if_else (tree_of c) (command.command_of a) (command.present w.command)) w
-resumed_form x out (forms.While c) w = closed out (command.while_loop (tree_of c) w.command) w
-resumed_form x out (forms.Do c) w = rest_of_do out (phrase_of c.now) w
+    closed out (command.if_else (typed_expression_of c) (command.typed_statement_of a) (command.present w.command)) w
+resumed_form x out (forms.While c) w = closed out (command.while_loop (typed_expression_of c) w.command) w
+resumed_form x out (forms.Do c) w = rest_of_do out (expression_of c.now) w
 resumed_form x out (forms.First c last s) w =
-    behind_first x out (command.present w.command) (option_map phrase_of c.now) (maybe (option_map statement_of last.now))
+    behind_first x out (command.present w.command) (option_map expression_of c.now) (optional_statement (option_map statement_of last.now))
     (statement_of s.now) w
 resumed_form x out (forms.Last first c s) w =
-    rest_of_for x out (typed_maybe first) (option_map tree_of c) (command.present w.command) (statement_of s.now) w
+    rest_of_for x out (typed_maybe first) (option_map typed_expression_of c) (command.present w.command) (statement_of s.now) w
 resumed_form x out (forms.For first c last) w =
-    closed out (command.for_loop (typed_maybe first) (option_map tree_of c) (typed_maybe last) w.command) w
+    closed out (command.for_loop (typed_maybe first) (option_map typed_expression_of c) (typed_maybe last) w.command) w
 
 abbrev pub setting_of : Given → Setting
 setting_of x = record { result = x.result; lines = x.lines.now; in_loop = x.in_loop; in_head = x.in_head }
 
-abbrev pub resumed_at : Outer → Form → Outcome → Outcome
+abbrev pub resumed_at : Outer → Form → WalkResult → WalkResult
 resumed_at o form w = resumed_form (setting_of o.setting) (leave o.start o.visible) form w
 
-abbrev pub resumed : Frame → Outcome → Outcome
+abbrev pub resumed : Frame → WalkResult → WalkResult
 resumed f w = resumed_at f.outer f.form w
 
 -- the same for statements in one another, the innermost first
-unfoldable pub resume : List Frame → Outcome → Outcome
+unfoldable pub resume : List Frame → WalkResult → WalkResult
 resume [] w = w
 resume (f ∷ fs) w = resume fs (resumed f w)
 
 -- ---- what judging answers
 
-abbrev pub place_of : Span → Place
+abbrev pub place_of : Span → Span
 place_of at = record { first = at.first; last = at.last; line = at.line }
 
 abbrev pub block_of : Walk → Block
 block_of w = record { scope = w.scope; start = w.start; count = w.count }
 
 -- a statement, from this state on
-abbrev pub outcome_at : Given → Walk → Statement → Outcome
+abbrev pub outcome_at : Given → Walk → Statement → WalkResult
 outcome_at x w s = outcome (setting_of x) (block_of w) w.used.items w.held s
 
 -- where a statement stands, which is entered in this state
 abbrev pub outer_at : Given → Walk → Outer
 outer_at x w = record { setting = x; start = w.start; visible = length w.scope.locals }
 
-abbrev pub judged_at : Command → Walk → Outcome
+abbrev pub judged_at : TypedStatement → Walk → WalkResult
 judged_at c w = judged c (block_of w) w.used.items w.held
 
 -- a block, of which these statements are judged
-abbrev pub block_at : List TStmt → List Stmt → Outer → Outcome → Outcome
+abbrev pub block_at : List TStmt → List Stmt → Outer → WalkResult → WalkResult
 block_at done rest o w =
-    rest_of_block (setting_of o.setting) (leave o.start o.visible) (map command.command_of done) (statements_of rest) w
+    rest_of_block (setting_of o.setting) (leave o.start o.visible) (map command.typed_statement_of done) (statements_of rest) w
 
 -- a `for`, from behind its first part in this state
-abbrev pub behind_first_at : Outer → command.Maybe → Option Phrase → Maybe → Statement → Walk → Outcome
+abbrev pub behind_first_at : Outer → command.OptionalTypedStatement → Option Expression → OptionalStatement → Statement → Walk → WalkResult
 behind_first_at o first c last s w =
     behind_first (setting_of o.setting) (leave o.start o.visible) first c last s (judged_at (command.block command.nil) w)
 
@@ -203,20 +203,20 @@ Fails faults (stops.Fault f) = first_of faults ≡ Some f
 Fails faults stops.NoMemory = ⊤
 
 -- judged without fault, which leads to this state, or the first fault
-abbrev pub Finishes : Outcome → Walk → Result TStmt Stop → Type 0
-Finishes w new (Ok t) = w ≡ judged_at (command.command_of t) new
+abbrev pub Finishes : WalkResult → Walk → Result TStmt Stop → Type 0
+Finishes w new (Ok t) = w ≡ judged_at (command.typed_statement_of t) new
 Finishes w new (Err stop) = Fails w.faults stop
 
 -- what is still to be done comes to this
-abbrev pub of_step : Step → Walk → Outcome
+abbrev pub of_step : Step → Walk → WalkResult
 of_step (steps.Part f x s) w = resumed f (outcome_at x w (statement_of s.now))
-of_step (steps.Done t) w = judged_at (command.command_of t) w
+of_step (steps.Done t) w = judged_at (command.typed_statement_of t) w
 
-abbrev pub Leads : Outcome → Walk → Step → Type 0
+abbrev pub Leads : WalkResult → Walk → Step → Type 0
 Leads w new step = w ≡ of_step step new
 
 -- one step further, which leads to this state, or the first fault
-abbrev pub Steps : Outcome → Walk → Result Step Stop → Type 0
+abbrev pub Steps : WalkResult → Walk → Result Step Stop → Type 0
 Steps w new (Ok step) = Leads w new step
 Steps w new (Err stop) = Fails w.faults stop
 
@@ -231,22 +231,22 @@ done (Err stop) = Err stop
 -- were used, the greatest number of values held, and how many locals the function has behind them.
 pub record Sequence : Type 0 where
   pub faults : List Fault
-  pub commands : Commands
+  pub commands : TypedStatements
   pub used : List ℕ
   pub held : ℕ
   pub count : ℕ
 
-abbrev pub sequence : Setting → Block → List ℕ → ℕ → List Command → Statements → Sequence
+abbrev pub sequence : Setting → Block → List ℕ → ℕ → List TypedStatement → Statements → Sequence
 sequence x b used most done ss = record {
   faults = faults_by_all x b ss;
-  commands = before done (commands_of x b ss);
+  commands = before done (typed_statements x b ss);
   used = used ++ uses_by_all b ss;
-  held = max most (held_by_all (commands_of x b ss));
+  held = max most (held_by_all (typed_statements x b ss));
   count = b.count + locals_in_all ss;
 }
 
 abbrev pub sequence_at : Given → Walk → List TStmt → Statements → Sequence
-sequence_at x w done ss = sequence (setting_of x) (block_of w) w.used.items w.held (map command.command_of done) ss
+sequence_at x w done ss = sequence (setting_of x) (block_of w) w.used.items w.held (map command.typed_statement_of done) ss
 
 -- statements that are judged without fault, which leads to this state, or the first fault
 abbrev pub FinishesAll : Given → Statements → (old new : Walk) → Result (List TStmt) Stop → Type 0

@@ -3,9 +3,9 @@
 use Rattle.std.specs.Prelude.{ℕ, suc, Bool, true, false, ◌&&◌, ◌||◌, not, List, [], ◌∷◌, ◌++◌, length, Option, Some, None, is_some, is_none, nat_eq}
 use Rattle.std.specs.Option.{option_map_or}
 use Rattle.pw_tree.specs.declared.ty.Ty.{Ty}
-use Rattle.pw_tree.specs.Phrases.{Phrase, Phrases, constant, word, unary, binary, conditional, call, index, input, output, nil, cons}
-use Rattle.pw_tree.specs.Trees.{Tree}
-use Rattle.pw_tree.specs.Placed.{place_of}
+use Rattle.pw_tree.specs.Expressions.{Expression, Expressions, constant, word, unary, binary, conditional, call, index, input, output, nil, cons}
+use Rattle.pw_tree.specs.TypedExpressions.{TypedExpression}
+use Rattle.pw_tree.specs.Placed.{span_of}
 use Rattle.pw_types.specs.declared.rule.Rule.TheVariants as rules
 use Rattle.pw_types.specs.declared.role.Role.{Role}
 use Rattle.pw_types.specs.declared.role.Role.TheVariants.{Statement, Value, Callee, Base, Argument, Written, Assigned}
@@ -48,11 +48,11 @@ is_callee (Assigned want) = false
 -- ---- phrases
 
 -- its last token
-abbrev pub end_of : Phrase → ℕ
-end_of e = (place_of e).last
+abbrev pub end_of : Expression → ℕ
+end_of e = (span_of e).last
 
 -- a name has no parts, so each rule that its place breaks is judged
-abbrev pub is_word : Phrase → Bool
+abbrev pub is_word : Expression → Bool
 is_word (word at name) = true
 is_word (constant at value unsigned) = false
 is_word (unary at op e) = false
@@ -63,7 +63,7 @@ is_word (index at b i) = false
 is_word (input at) = false
 is_word (output at e) = false
 
-abbrev pub word_of : Phrase → List ℕ
+abbrev pub word_of : Expression → List ℕ
 word_of (word at name) = name
 word_of (constant at value unsigned) = []
 word_of (unary at op e) = []
@@ -74,11 +74,11 @@ word_of (index at b i) = []
 word_of (input at) = []
 word_of (output at e) = []
 
-abbrev pub is_judged : Scope → Phrase → Bool
+abbrev pub is_judged : Scope → Expression → Bool
 is_judged scope e = is_some (typed scope e) || is_word e
 
 -- the expression has a type, of which this holds
-abbrev pub has_type : (Ty → Bool) → Option Tree → Bool
+abbrev pub has_type : (Ty → Bool) → Option TypedExpression → Bool
 has_type f t = option_map_or (λ e. f (type_of e)) t false
 
 abbrev pub is_missing : Meaning → Bool
@@ -86,30 +86,30 @@ is_missing missing = true
 is_missing (a_local l) = false
 is_missing (declared f) = false
 
-abbrev pub how_many : Phrases → ℕ
+abbrev pub how_many : Expressions → ℕ
 how_many nil = 0
 how_many (cons e es) = suc (how_many es)
 
 -- ---- the rules, one by one
 
 -- Unknown: a name has no visible declaration
-abbrev pub is_unknown : Scope → Phrase → Bool
+abbrev pub is_unknown : Scope → Expression → Bool
 is_unknown scope e = is_word e && is_missing (meaning scope (word_of e))
 
 -- NotValue: void where a value is needed; a function of no pointer type as a value
-abbrev pub is_no_value : Scope → Role → Phrase → Bool
+abbrev pub is_no_value : Scope → Role → Expression → Bool
 is_no_value scope role e =
     (needs_value role && has_type is_void (typed scope e))
     || (not (is_base role) && is_some (function_of scope e) && is_none (typed scope e))
 
-abbrev pub no_unary : (Ty → Option Ty) → Option Tree → Bool
+abbrev pub no_unary : (Ty → Option Ty) → Option TypedExpression → Bool
 no_unary f e = has_type (λ t. is_none (f t)) e
 
-abbrev pub no_binary : {A : Type 0} → (Ty → Ty → Option A) → Option Tree → Option Tree → Bool
+abbrev pub no_binary : {A : Type 0} → (Ty → Ty → Option A) → Option TypedExpression → Option TypedExpression → Bool
 no_binary f l r = has_type (λ t. has_type (λ u. is_none (f t u)) r) l
 
 -- Operands: an operator or an index has operands of other types than it takes
-abbrev pub has_other_operands : Scope → Phrase → Bool
+abbrev pub has_other_operands : Scope → Expression → Bool
 has_other_operands scope (unary at op e) = no_unary (unary_type op) (typed scope e)
 has_other_operands scope (binary at op l r) = no_binary (binary_type op) (typed scope l) (typed scope r)
 has_other_operands scope (conditional at c a b) = is_some (typed scope c) && no_binary choice_type (typed scope a) (typed scope b)
@@ -121,11 +121,11 @@ has_other_operands scope (input at) = false
 has_other_operands scope (output at e) = false
 
 -- what an expression calls as a callee
-abbrev pub callee_in : Scope → Phrase → Called
+abbrev pub callee_in : Scope → Expression → Called
 callee_in scope f = callee_of (function_of scope f) (typed scope f)
 
 -- ArgCount: a call has another number of arguments
-abbrev pub has_other_count : Scope → Phrase → Bool
+abbrev pub has_other_count : Scope → Expression → Bool
 has_other_count scope (call at f es) =
     is_some (typed_all scope es)
     && option_map_or (λ params. not (nat_eq (length params) (how_many es))) (parameters_of (callee_in scope f)) false
@@ -139,12 +139,12 @@ has_other_count scope (input at) = false
 has_other_count scope (output at e) = false
 
 -- a phrase does not convert to a type
-abbrev pub does_not_convert : Scope → Phrase → Option Ty → Bool
+abbrev pub does_not_convert : Scope → Expression → Option Ty → Bool
 does_not_convert scope e None = false
 does_not_convert scope e (Some to) = is_judged scope e && not (has_type (λ t. converts t to) (typed scope e))
 
 -- ArgType: an argument does not convert; `__out` of a pointer
-abbrev pub has_other_argument : Scope → Role → Phrase → Bool
+abbrev pub has_other_argument : Scope → Role → Expression → Bool
 has_other_argument scope (Argument want) e = does_not_convert scope e want
 has_other_argument scope Written e = has_type is_pointer (typed scope e)
 has_other_argument scope Statement e = false
@@ -154,19 +154,19 @@ has_other_argument scope Base e = false
 has_other_argument scope (Assigned want) e = false
 
 -- NotCallable: a callee is neither a function's name nor a pointer
-abbrev pub is_not_callable : Scope → Role → Phrase → Bool
+abbrev pub is_not_callable : Scope → Role → Expression → Bool
 is_not_callable scope role e = is_callee role && is_judged scope e && not (has_type is_pointer (typed scope e))
 
 -- NotArray: an index's base is not an array's name
-abbrev pub is_no_array : Scope → Role → Phrase → Bool
+abbrev pub is_no_array : Scope → Role → Expression → Bool
 is_no_array scope role e = is_base role && (is_judged scope e && is_none (array_of scope e))
 
 -- NeedsIndex: an array's name is not an index's base
-abbrev pub needs_index : Scope → Role → Phrase → Bool
+abbrev pub needs_index : Scope → Role → Expression → Bool
 needs_index scope role e = not (is_base role) && is_some (array_of scope e)
 
 -- AssignType, of the value: it does not convert
-abbrev pub does_not_fit : Scope → Role → Phrase → Bool
+abbrev pub does_not_fit : Scope → Role → Expression → Bool
 does_not_fit scope (Assigned want) e = does_not_convert scope e want
 does_not_fit scope Statement e = false
 does_not_fit scope Value e = false
@@ -176,7 +176,7 @@ does_not_fit scope (Argument want) e = false
 does_not_fit scope Written e = false
 
 -- an expression's own faults
-unfoldable pub own : Scope → Role → Phrase → List Fault
+unfoldable pub own : Scope → Role → Expression → List Fault
 own scope role e =
     broken_by rules.Unknown (end_of e) (word_of e) (is_unknown scope e)
     ++ (broken rules.NotValue (end_of e) (is_no_value scope role e)
@@ -208,7 +208,7 @@ unless_direct None faults = faults
 
 unfoldable mutual
   -- the faults of an expression
-  pub faults : Scope → Role → Phrase → List Fault
+  pub faults : Scope → Role → Expression → List Fault
   faults scope role (constant at v unsigned) = own scope role (constant at v unsigned)
   faults scope role (word at name) = own scope role (word at name)
   faults scope role (unary at op e) = faults scope Value e ++ own scope role (unary at op e)
@@ -223,7 +223,7 @@ unfoldable mutual
   faults scope role (output at e) = faults scope Written e ++ own scope role (output at e)
 
   -- the faults of arguments, where these parameters are left
-  pub faults_of_arguments : Scope → Option (List Ty) → Phrases → List Fault
+  pub faults_of_arguments : Scope → Option (List Ty) → Expressions → List Fault
   faults_of_arguments scope params nil = []
   faults_of_arguments scope params (cons e es) =
       faults scope (Argument (first_parameter params)) e ++ faults_of_arguments scope (other_parameters params) es

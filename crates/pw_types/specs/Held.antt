@@ -2,9 +2,9 @@
 use Rattle.std.specs.Prelude.{ℕ, suc, ◌+◌, max, Bool, true, false, Option, Some, None}
 use Rattle.pw_tree.specs.declared.operator.Bin.{Bin}
 use Rattle.pw_tree.specs.declared.operator.Bin.TheVariants.{Mul, Div, Rem, Add, Sub, Shl, Shr, Lt, Gt, Le, Ge, Eq, Ne, And, Xor, Or, AndAnd, OrOr}
-use Rattle.pw_tree.specs.Trees.{Tree, Trees, constant, local, variable, designator, element, unary, binary, conditional, call, call_pointer, input, output, nil, cons}
-use Rattle.pw_tree.specs.Commands.{Command, Commands, Maybe, evaluate, set_local, set_variable, set_element, block, if_else, while_loop, do_loop, for_loop, returns, breaks, continues, absent, present}
-use Rattle.pw_tree.specs.Commands as commands
+use Rattle.pw_tree.specs.TypedExpressions.{TypedExpression, TypedExpressions, constant, local, variable, designator, element, unary, binary, conditional, call, call_pointer, input, output, nil, cons}
+use Rattle.pw_tree.specs.TypedStatements.{TypedStatement, TypedStatements, OptionalTypedStatement, evaluate, set_local, set_variable, set_element, block, if_else, while_loop, do_loop, for_loop, returns, breaks, continues, absent, present}
+use Rattle.pw_tree.specs.TypedStatements as commands
 
 -- `&&` and `||` hold nothing while the right operand is evaluated
 abbrev pub holds_left : Bin → Bool
@@ -34,7 +34,7 @@ held_both false l r = max l r
 
 unfoldable mutual
   -- the greatest number of values that an expression holds
-  pub held : Tree → ℕ
+  pub held : TypedExpression → ℕ
   held (constant at value) = 0
   held (local at i) = 0
   held (variable at x) = 0
@@ -49,26 +49,26 @@ unfoldable mutual
   held (output at e) = held e
 
   -- arguments are held as they come, behind the n that are held already; a call holds them all
-  pub held_arguments : ℕ → Trees → ℕ
+  pub held_arguments : ℕ → TypedExpressions → ℕ
   held_arguments n nil = n
   held_arguments n (cons e es) = max (n + held e) (held_arguments (suc n) es)
 
   -- how many there are
-  pub count : Trees → ℕ
+  pub count : TypedExpressions → ℕ
   count nil = 0
   count (cons e es) = suc (count es)
 
 -- an assignment to an element holds the index while the value is evaluated
-abbrev pub held_element : Tree → Tree → ℕ
+abbrev pub held_element : TypedExpression → TypedExpression → ℕ
 held_element i e = max (held i) (1 + held e)
 
-abbrev pub held_option : Option Tree → ℕ
+abbrev pub held_option : Option TypedExpression → ℕ
 held_option None = 0
 held_option (Some e) = held e
 
 unfoldable mutual
   -- the greatest number over the expressions of a statement
-  pub held_by : Command → ℕ
+  pub held_by : TypedStatement → ℕ
   held_by (evaluate e) = held e
   held_by (set_local i e) = held_option e
   held_by (set_variable x e) = held e
@@ -83,10 +83,10 @@ unfoldable mutual
   held_by breaks = 0
   held_by continues = 0
 
-  pub held_by_all : Commands → ℕ
+  pub held_by_all : TypedStatements → ℕ
   held_by_all commands.nil = 0
   held_by_all (commands.cons s ss) = max (held_by s) (held_by_all ss)
 
-  pub held_by_maybe : Maybe → ℕ
+  pub held_by_maybe : OptionalTypedStatement → ℕ
   held_by_maybe absent = 0
   held_by_maybe (present s) = held_by s

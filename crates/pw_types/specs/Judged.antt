@@ -1,9 +1,9 @@
 -- What judging an expression and the statements of a body answers.
 use Rattle.std.specs.Prelude.{◌≡◌, ℕ, ◌+◌, min, List, ◌++◌, Some, Result}
-use Rattle.pw_tree.specs.Phrases.{Phrase}
+use Rattle.pw_tree.specs.Expressions.{Expression}
 use Rattle.pw_tree.specs.Statements.{Statements}
-use Rattle.pw_tree.specs.Trees.{tree_of}
-use Rattle.pw_tree.specs.Commands as trees
+use Rattle.pw_tree.specs.TypedExpressions.{typed_expression_of}
+use Rattle.pw_tree.specs.TypedStatements as trees
 use Rattle.pw_types.specs.declared.role.Role.{Role}
 use Rattle.pw_types.specs.declared.fault.Stop.{Stop}
 use Rattle.pw_types.specs.declared.typed.Typed.{Typed}
@@ -16,21 +16,21 @@ use Rattle.pw_types.specs.Uses.{uses}
 use Rattle.pw_types.specs.Expressions.{faults}
 use Rattle.pw_types.specs.Blocks.{Setting, Block, locals_in_all, uses_by_all}
 use Rattle.pw_types.specs.Statements.{faults_by_all}
-use Rattle.pw_types.specs.Commands.{commands_of}
+use Rattle.pw_types.specs.TypedStatements.{typed_statements}
 
 -- the expression's typed tree, and what it holds; the names that it uses were noted behind the others
-pub record IsTypedTree (scope : Scope) (e : Phrase) (old new : List ℕ) (t : Typed) : Type 0 where
-  pub tree : typed scope e ≡ Some (tree_of t.tree)
-  pub held : t.held ≡ min (held (tree_of t.tree)) 101
+pub record IsTypedTree (scope : Scope) (e : Expression) (old new : List ℕ) (t : Typed) : Type 0 where
+  pub tree : typed scope e ≡ Some (typed_expression_of t.tree)
+  pub held : t.held ≡ min (held (typed_expression_of t.tree)) 101
   pub used : new ≡ old ++ uses scope e
 
-abbrev pub JudgesExpression : Scope → Role → Phrase → (old new : List ℕ) → Result Typed Stop → Type 0
+abbrev pub JudgesExpression : Scope → Role → Expression → (old new : List ℕ) → Result Typed Stop → Type 0
 JudgesExpression scope role e old new = Judges (faults scope role e) (IsTypedTree scope e old new)
 
 -- the typed statements of a body, and how many locals the function has behind them
 pub record IsTypedBody (x : Setting) (b : Block) (ss : Statements) (old new : List ℕ) (body : Body) : Type 0 where
-  pub statements : trees.commands_of body.statements ≡ commands_of x b ss
-  pub held : body.held ≡ held_by_all (commands_of x b ss)
+  pub statements : trees.typed_statements_of body.statements ≡ typed_statements x b ss
+  pub held : body.held ≡ held_by_all (typed_statements x b ss)
   pub count : body.count ≡ b.count + locals_in_all ss
   pub used : new ≡ old ++ uses_by_all b ss
 

@@ -2,13 +2,13 @@
 use Rattle.std.specs.Prelude.{ℕ, List, ◌++◌, Option, Some, None, Result, Ok, Err}
 use Rattle.pw_types.specs.declared.fault.Fault.{Fault}
 
-abbrev pub Outcome : Type 0 → Type 0
-Outcome A = Result (A × List ℕ) Fault
+abbrev pub JudgeResult : Type 0 → Type 0
+JudgeResult A = Result (A × List ℕ) Fault
 
 abbrev pub Judge : Type 0 → Type 0
-Judge A = List ℕ → Outcome A
+Judge A = List ℕ → JudgeResult A
 
-abbrev pub and_then : {A B : Type 0} → Outcome A → (A → Judge B) → Outcome B
+abbrev pub and_then : {A B : Type 0} → JudgeResult A → (A → Judge B) → JudgeResult B
 and_then (Ok p) f = f p.0 p.1
 and_then (Err e) f = Err e
 

@@ -1,7 +1,7 @@
 -- Laws of the list of faults: in which order it has them, and where they are.
 use Rattle.std.specs.Prelude.{◌≡◌, ◌⊎◌, ℕ, ◌<◌, ◌≤◌, length, map, Some, All, AllPairs}
-use Rattle.pw_tree.specs.Declarations.{WrittenUnit}
-use Rattle.pw_tree.specs.Placed.{IsWritten}
+use Rattle.pw_tree.specs.Declarations.{UntypedUnit}
+use Rattle.pw_tree.specs.Placed.{IsParsed}
 use Rattle.pw_types.specs.declared.rule.Rule.{Rule}
 use Rattle.pw_types.specs.declared.rule.Rule.TheVariants as rules
 use Rattle.pw_types.specs.declared.fault.Fault.{Fault}
@@ -45,14 +45,14 @@ Precedes m n =
 -- The list of the faults of a unit that was read is that of its phrases' own faults, in the order of faults.
 abbrev pub FaultsAscend : Type 0
 FaultsAscend =
-    (u : WrittenUnit) → IsWritten u → (faults_of u ≡ map (λ n. n.fault) (walk 0 (unit u))) × AllPairs Precedes (walk 0 (unit u))
+    (u : UntypedUnit) → IsParsed u → (faults_of u ≡ map (λ n. n.fault) (walk 0 (unit u))) × AllPairs Precedes (walk 0 (unit u))
 
 -- So no other ends before the first of them.
 abbrev pub FirstEndsFirst : Type 0
 FirstEndsFirst =
-    (u : WrittenUnit) (f : Fault) → IsWritten u → first_of (faults_of u) ≡ Some f → All (λ g. f.at ≤ g.at) (faults_of u)
+    (u : UntypedUnit) (f : Fault) → IsParsed u → first_of (faults_of u) ≡ Some f → All (λ g. f.at ≤ g.at) (faults_of u)
 
 -- They end at tokens of the unit.
 abbrev pub FaultsAreWithin : Type 0
 FaultsAreWithin =
-    (u : WrittenUnit) → IsWritten u → All (λ f. f.at < length u.lines) (faults_of u)
+    (u : UntypedUnit) → IsParsed u → All (λ f. f.at < length u.lines) (faults_of u)

@@ -16,7 +16,7 @@ pub mod ResumingExpressions
 pub mod Lookups
 pub mod Blocks
 pub mod Statements
-pub mod Commands
+pub mod TypedStatements
 pub mod Declarations
 pub mod Units
 pub mod Checks

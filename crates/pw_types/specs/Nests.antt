@@ -3,11 +3,11 @@ use Rattle.std.specs.Prelude.{ℕ, suc, ◌+◌, ◌-◌, Bool, List, [], ◌∷
 use Rattle.pw_tree.specs.declared.ty.Ty.{Ty}
 use Rattle.pw_tree.specs.declared.decl.Param.{Param}
 use Rattle.pw_tree.specs.declared.decl.InitItem.{InitItem}
-use Rattle.pw_tree.specs.Phrases.{Place, Phrase, Phrases, constant, word, unary, binary, conditional, call, index, input, output}
-use Rattle.pw_tree.specs.Phrases as phrases
-use Rattle.pw_tree.specs.Statements.{Statement, Statements, Maybe, empty, block, local, set, evaluate, if_else, while_loop, do_loop, for_loop, returns, breaks, continues, nil, cons, absent, present}
+use Rattle.pw_tree.specs.Expressions.{Span, Expression, Expressions, constant, word, unary, binary, conditional, call, index, input, output}
+use Rattle.pw_tree.specs.Expressions as phrases
+use Rattle.pw_tree.specs.Statements.{Statement, Statements, OptionalStatement, empty, block, local, set, evaluate, if_else, while_loop, do_loop, for_loop, returns, breaks, continues, nil, cons, absent, present}
 use Rattle.pw_tree.specs.Placed.{local_name_at, index_end, set_end}
-use Rattle.pw_tree.specs.Declarations.{Declaration, DeclarationForm, prototype, definition, variable, WrittenUnit}
+use Rattle.pw_tree.specs.Declarations.{Declaration, DeclarationForm, prototype, definition, variable, UntypedUnit}
 use Rattle.pw_types.specs.declared.rule.Rule.TheVariants as rules
 use Rattle.pw_types.specs.declared.role.Role.{Role}
 use Rattle.pw_types.specs.declared.role.Role.TheVariants as roles
@@ -41,7 +41,7 @@ unless_named None f others = more f others
 unless_named (Some g) f others = others
 
 unfoldable mutual
-  pub parts : Scope → Phrase → Nests
+  pub parts : Scope → Expression → Nests
   parts scope (constant at v unsigned) = none
   parts scope (word at name) = none
   parts scope (unary at op e) = more (nest (parts scope e) (own scope roles.Value e)) none
@@ -58,20 +58,20 @@ unfoldable mutual
   parts scope (input at) = none
   parts scope (output at e) = more (nest (parts scope e) (own scope roles.Written e)) none
 
-  pub arguments : Scope → Option (List Ty) → Phrases → Nests
+  pub arguments : Scope → Option (List Ty) → Expressions → Nests
   arguments scope params phrases.nil = none
   arguments scope params (phrases.cons e es) =
       more (nest (parts scope e) (own scope (roles.Argument (first_parameter params)) e)) (arguments scope (other_parameters params) es)
 
-abbrev pub expression : Scope → Role → Phrase → Nest
+abbrev pub expression : Scope → Role → Expression → Nest
 expression scope role e = nest (parts scope e) (own scope role e)
 
 -- a statement's whole expression, which may hold too many values
-abbrev pub whole : Scope → Role → Phrase → Nest
+abbrev pub whole : Scope → Role → Expression → Nest
 whole scope role e = nest (parts scope e) (own scope role e ++ broken rules.TooDeep (end_of e) (holds_too_many (typed scope e)))
 
 -- an expression that may be missing, before others
-abbrev pub option : Scope → Role → Option Phrase → Nests → Nests
+abbrev pub option : Scope → Role → Option Expression → Nests → Nests
 option scope role None others = others
 option scope role (Some e) others = more (whole scope role e) others
 
@@ -82,7 +82,7 @@ abbrev pub leaf : List Fault → Nest
 leaf own = nest none own
 
 -- the target, which is a name, or a name with its index, and the value
-abbrev pub assignment : Setting → Scope → Place → List ℕ → Option Phrase → Phrase → Nest
+abbrev pub assignment : Setting → Scope → Span → List ℕ → Option Expression → Expression → Nest
 assignment x scope at name None e =
     nest (more (leaf (faults_of_target scope name at.first))
     (more (expression scope (roles.Assigned (type_of_target (meaning scope name))) e) none))
@@ -120,7 +120,7 @@ unfoldable mutual
   statements x b (cons s ss) = more (statement x b s) (statements x (behind s b) ss)
 
   -- a statement that may be missing, before others
-  pub maybe : Setting → Block → Maybe → Nests → Nests
+  pub maybe : Setting → Block → OptionalStatement → Nests → Nests
   maybe x b absent others = others
   maybe x b (present s) others = more (statement x b s) others
 
@@ -167,7 +167,7 @@ declarations w files before (d ∷ ds) =
     more (declaration w files before d) (declarations w (declared_by d files) (before + elements_of d) ds)
 
 -- the outermost phrase
-abbrev pub unit : WrittenUnit → Nest
+abbrev pub unit : UntypedUnit → Nest
 unit u =
     nest (declarations (whole_of u) [] 0 u.declarations)
     (faults_of_lacking (length u.lines - 1) (find lacks_definition (files_behind [] u.declarations)))

@@ -2,8 +2,8 @@
 use Rattle.std.specs.Prelude.{◌≡◌, ℕ, ◌+◌, List, [], ◌∷◌, map, replicate, ⊤, Result, Ok, Err}
 use Rattle.pw_tree.specs.declared.ty.Ty.{Ty}
 use Rattle.pw_tree.specs.declared.ty.Ty.TheVariants.{Long}
-use Rattle.pw_tree.specs.Phrases.{Phrase, Phrases, constant, word, unary, binary, conditional, call, index, input, output, nil, cons, phrase_of, phrases_of}
-use Rattle.pw_tree.specs.Trees.{tree_of}
+use Rattle.pw_tree.specs.Expressions.{Expression, Expressions, constant, word, unary, binary, conditional, call, index, input, output, nil, cons, expression_of, expressions_of}
+use Rattle.pw_tree.specs.TypedExpressions.{typed_expression_of}
 use Rattle.pw_types.specs.declared.role.Role.TheVariants.{Value, Callee, Base}
 use Rattle.pw_types.specs.declared.fault.Stop.{Stop}
 use Rattle.pw_types.specs.declared.fault.Stop.TheVariants as stops
@@ -24,13 +24,13 @@ use Rattle.pw_types.specs.declared.expression_step.Step.TheVariants.{Part, Inste
 use Rattle.pw_types.specs.Scopes.{Scope}
 use Rattle.pw_types.specs.Typed.{Array, array_of, Designated, function_of}
 use Rattle.pw_types.specs.Uses.{uses}
-use Rattle.pw_types.specs.Judging.{Outcome, Judge, and_then, ◌>>=◌, pure, refuse, noting, on_option}
+use Rattle.pw_types.specs.Judging.{JudgeResult, Judge, and_then, ◌>>=◌, pure, refuse, noting, on_option}
 use Rattle.pw_types.specs.CheckingExpressions.{Valued, Aim, named, through, Calling, Taken, unary_value, binary_value, choice_value, element_value, output_value, taking, none_taken, calling, direct_call, pointer_call, checked, checked_arguments}
 
 -- ---- plain values
 
 abbrev pub valued : Typed → Valued
-valued t = record { tree = tree_of t.tree; held = t.held }
+valued t = record { tree = typed_expression_of t.tree; held = t.held }
 
 abbrev pub plain_array : rust_array.Array → Array
 plain_array a = record { reference = a.reference; ty = a.ty; size = a.size }
@@ -43,7 +43,7 @@ abbrev pub calling_of : Call → Calling
 calling_of c = record { head = c.head; aim = aim_of c.target; other_count = c.other_count }
 
 abbrev pub taken_of : Arguments → Taken
-taken_of a = record { trees = map tree_of a.trees; held = a.held }
+taken_of a = record { trees = map typed_expression_of a.trees; held = a.held }
 
 abbrev pub listed : Parameters → List Ty
 listed (Listed tys) = tys.now
@@ -52,23 +52,23 @@ listed (Longs k) = replicate k Long
 -- ---- calls
 
 -- a call, from its first argument on
-abbrev pub begun : Scope → Head → Aim → List Ty → Phrases → Judge Valued
+abbrev pub begun : Scope → Head → Aim → List Ty → Expressions → Judge Valued
 begun scope h aim params es = checked_arguments scope (calling h aim params es) none_taken params es
 
 -- a call whose callee is a function's name, and one through a pointer
-abbrev pub direct_call_from : Scope → Head → Designated → Phrases → Judge Valued
+abbrev pub direct_call_from : Scope → Head → Designated → Expressions → Judge Valued
 direct_call_from scope h d es = direct_call h es (λ c params. checked_arguments scope c none_taken params es) d
 
-abbrev pub pointer_call_from : Scope → Head → Phrases → Valued → Judge Valued
+abbrev pub pointer_call_from : Scope → Head → Expressions → Valued → Judge Valued
 pointer_call_from scope h es v = pointer_call h es (λ c params. checked_arguments scope c none_taken params es) v
 
 -- a call, from its callee on
-abbrev pub call_from : Scope → Head → Phrase → Phrases → Judge Valued
+abbrev pub call_from : Scope → Head → Expression → Expressions → Judge Valued
 call_from scope h f es = on_option (function_of scope f)
     (checked scope Callee f >>= pointer_call_from scope h es) (λ d. noting (uses scope f) (direct_call_from scope h d es))
 
 -- an element, from its base on
-abbrev pub index_from : Scope → Head → Phrase → Phrase → Judge Valued
+abbrev pub index_from : Scope → Head → Expression → Expression → Judge Valued
 index_from scope h b i = on_option (array_of scope b) (checked scope Base b)
     (λ a. noting (uses scope b) (checked scope Value i >>= element_value h a))
 
@@ -77,27 +77,27 @@ index_from scope h b i = on_option (array_of scope b) (checked scope Base b)
 -- what comes behind the part that a frame waits for
 abbrev pub resumed : Scope → Frame → Valued → Judge Valued
 resumed scope (Operand h op) v = unary_value h op v
-resumed scope (Left h op r) v = checked scope Value (phrase_of r.now) >>= binary_value h op v
+resumed scope (Left h op r) v = checked scope Value (expression_of r.now) >>= binary_value h op v
 resumed scope (Right h op l) v = binary_value h op (valued l) v
 resumed scope (Condition h a b) v =
-    checked scope Value (phrase_of a.now) >>= (λ x. checked scope Value (phrase_of b.now) >>= choice_value h v x)
-resumed scope (First h c b) v = checked scope Value (phrase_of b.now) >>= choice_value h (valued c) v
+    checked scope Value (expression_of a.now) >>= (λ x. checked scope Value (expression_of b.now) >>= choice_value h v x)
+resumed scope (First h c b) v = checked scope Value (expression_of b.now) >>= choice_value h (valued c) v
 resumed scope (Second h c a) v = choice_value h (valued c) (valued a) v
-resumed scope (frames.Callee h es) v = pointer_call_from scope h (phrases_of es.now) v
+resumed scope (frames.Callee h es) v = pointer_call_from scope h (expressions_of es.now) v
 resumed scope (Argument c taken params rest) v =
-    checked_arguments scope (calling_of c) (taking (taken_of taken) v) (listed params) (phrases_of rest.now)
+    checked_arguments scope (calling_of c) (taking (taken_of taken) v) (listed params) (expressions_of rest.now)
 resumed scope (Index h a) v = element_value h (plain_array a) v
 resumed scope (Written h) v = output_value h v
 
 -- the outcome of the whole, where the innermost frame, which is the last, waits for a part of this outcome
-unfoldable pub resume : Scope → List Frame → Outcome Valued → Outcome Valued
+unfoldable pub resume : Scope → List Frame → JudgeResult Valued → JudgeResult Valued
 resume scope [] outcome = outcome
 resume scope (f ∷ fs) outcome = and_then (resume scope fs outcome) (resumed scope f)
 
 -- what a step leads to
 abbrev pub continued : Scope → Step → Judge Valued
-continued scope (Part frame role e) = checked scope role (phrase_of e.now) >>= resumed scope frame
-continued scope (Instead role e) = checked scope role (phrase_of e.now)
+continued scope (Part frame role e) = checked scope role (expression_of e.now) >>= resumed scope frame
+continued scope (Instead role e) = checked scope role (expression_of e.now)
 continued scope (Done t) = pure (valued t)
 
 -- what judging gives, or the fault
@@ -131,7 +131,7 @@ ContinuesWith scope p old new (Err stops.NoMemory) = ⊤
 -- ---- how much is still to be done
 
 unfoldable mutual
-  pub size : Phrase → ℕ
+  pub size : Expression → ℕ
   size (constant at value unsigned) = 1
   size (word at name) = 1
   size (unary at op e) = 2 + size e
@@ -142,25 +142,25 @@ unfoldable mutual
   size (input at) = 1
   size (output at e) = 2 + size e
 
-  pub sizes : Phrases → ℕ
+  pub sizes : Expressions → ℕ
   sizes nil = 0
   sizes (cons e es) = 2 + (size e + sizes es)
 
 abbrev pub frame_size : Frame → ℕ
 frame_size (Operand h op) = 1
-frame_size (Left h op r) = 2 + size (phrase_of r.now)
+frame_size (Left h op r) = 2 + size (expression_of r.now)
 frame_size (Right h op l) = 1
-frame_size (Condition h a b) = 3 + (size (phrase_of a.now) + size (phrase_of b.now))
-frame_size (First h c b) = 2 + size (phrase_of b.now)
+frame_size (Condition h a b) = 3 + (size (expression_of a.now) + size (expression_of b.now))
+frame_size (First h c b) = 2 + size (expression_of b.now)
 frame_size (Second h c a) = 1
-frame_size (frames.Callee h es) = 2 + sizes (phrases_of es.now)
-frame_size (Argument c taken params rest) = 1 + sizes (phrases_of rest.now)
+frame_size (frames.Callee h es) = 2 + sizes (expressions_of es.now)
+frame_size (Argument c taken params rest) = 1 + sizes (expressions_of rest.now)
 frame_size (Index h a) = 1
 frame_size (Written h) = 1
 
 abbrev pub step_size : Step → ℕ
-step_size (Part frame role e) = frame_size frame + size (phrase_of e.now)
-step_size (Instead role e) = size (phrase_of e.now)
+step_size (Part frame role e) = frame_size frame + size (expression_of e.now)
+step_size (Instead role e) = size (expression_of e.now)
 step_size (Done t) = 0
 
 unfoldable pub frames_size : List Frame → ℕ

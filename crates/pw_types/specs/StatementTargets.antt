@@ -1,11 +1,11 @@
 -- What an assignment sets.
 use Rattle.std.specs.Prelude.{◌≡◌, ℕ, ◌+◌, min, max, Bool, false, not, List, ◌++◌, Option, Some, None, Result, nat_lt}
 use Rattle.std.specs.Option.{option_map_or}
-use Rattle.pw_tree.specs.Phrases.{Place, Phrase}
+use Rattle.pw_tree.specs.Expressions.{Span, Expression}
 use Rattle.pw_tree.specs.Placed.{index_end}
 use Rattle.pw_tree.specs.declared.ty.Ty.{Ty}
 use Rattle.pw_tree.specs.declared.ty.Ref.{Ref}
-use Rattle.pw_tree.specs.Trees.{Tree, tree_of}
+use Rattle.pw_tree.specs.TypedExpressions.{TypedExpression, typed_expression_of}
 use Rattle.pw_tree.specs.declared.texpr.TExpr.{TExpr}
 use Rattle.pw_types.specs.declared.fault.Fault.{Fault}
 use Rattle.pw_types.specs.declared.fault.Stop.{Stop}
@@ -55,31 +55,31 @@ IsArray scope name a = IsFile scope name a.number a.reference a.ty (Some a.size)
 -- ---- elements
 
 -- The typed tree of an index, and what it holds, or 101 where that is more.
-pub record IsIndex (i : Phrase) (old new : Walk) (t : Typed) : Type 0 where
-  pub tree : typed old.scope i ≡ Some (tree_of t.tree)
-  pub held : t.held ≡ min (held (tree_of t.tree)) 101
+pub record IsIndex (i : Expression) (old new : Walk) (t : Typed) : Type 0 where
+  pub tree : typed old.scope i ≡ Some (typed_expression_of t.tree)
+  pub held : t.held ≡ min (held (typed_expression_of t.tree)) 101
   pub notes : Notes (uses old.scope i) 0 old new
 
 -- an index is a number
-abbrev pub faults_of_index : Scope → Place → Phrase → List Fault
+abbrev pub faults_of_index : Scope → Span → Expression → List Fault
 faults_of_index scope at i =
     faults scope roles.Value i ++ broken rules.Operands (index_end at i) (has_type (λ t. not (is_number t)) (typed scope i))
 
-abbrev pub JudgesIndex : Place → Phrase → (old new : Walk) → Result Typed Stop → Type 0
+abbrev pub JudgesIndex : Span → Expression → (old new : Walk) → Result Typed Stop → Type 0
 JudgesIndex at i old new = Judges (faults_of_index old.scope at i) (IsIndex i old new)
 
-pub record IsElementValue (beside : ℕ) (e : Phrase) (old new : Walk) (t : TExpr) : Type 0 where
-  pub tree : typed old.scope e ≡ Some (tree_of t)
-  pub notes : Notes (uses old.scope e) (max beside (1 + held (tree_of t))) old new
+pub record IsElementValue (beside : ℕ) (e : Expression) (old new : Walk) (t : TExpr) : Type 0 where
+  pub tree : typed old.scope e ≡ Some (typed_expression_of t)
+  pub notes : Notes (uses old.scope e) (max beside (1 + held (typed_expression_of t))) old new
 
 -- a value holds too many beside an index, which holds so many
-abbrev pub holds_too_many_beside : ℕ → Option Tree → Bool
+abbrev pub holds_too_many_beside : ℕ → Option TypedExpression → Bool
 holds_too_many_beside beside t = option_map_or (λ v. nat_lt 100 (max beside (1 + held v))) t false
 
-abbrev pub faults_of_element_value : Scope → ℕ → Ty → Phrase → ℕ → List Fault
+abbrev pub faults_of_element_value : Scope → ℕ → Ty → Expression → ℕ → List Fault
 faults_of_element_value scope beside ty e end =
     faults scope (roles.Assigned (Some ty)) e ++ broken rules.TooDeep end (holds_too_many_beside beside (typed scope e))
 
 -- the value that an element is assigned, and the token to blame where the assignment holds too many values
-abbrev pub JudgesElementValue : ℕ → Ty → Phrase → ℕ → (old new : Walk) → Result TExpr Stop → Type 0
+abbrev pub JudgesElementValue : ℕ → Ty → Expression → ℕ → (old new : Walk) → Result TExpr Stop → Type 0
 JudgesElementValue beside ty e end old new = Judges (faults_of_element_value old.scope beside ty e end) (IsElementValue beside e old new)

@@ -1,6 +1,6 @@
 -- How much is still to be done of a statement: each step leaves less.
 use Rattle.std.specs.Prelude.{ℕ, suc, ◌+◌, List, [], ◌∷◌, option_map}
-use Rattle.pw_tree.specs.Statements.{Statement, Statements, Maybe, empty, block, local, set, evaluate, if_else, while_loop, do_loop, for_loop, returns, breaks, continues, nil, cons, absent, present, maybe, statement_of, statements_of}
+use Rattle.pw_tree.specs.Statements.{Statement, Statements, OptionalStatement, empty, block, local, set, evaluate, if_else, while_loop, do_loop, for_loop, returns, breaks, continues, nil, cons, absent, present, optional_statement, statement_of, statements_of}
 use Rattle.pw_types.specs.declared.statement_step.Frame.{Frame}
 use Rattle.pw_types.specs.declared.statement_step.Form.{Form}
 use Rattle.pw_types.specs.declared.statement_step.Form.TheVariants as forms
@@ -27,18 +27,18 @@ unfoldable mutual
   weight_of_all nil = 0
   weight_of_all (cons s ss) = suc (weight s + weight_of_all ss)
 
-  pub weight_of_maybe : Maybe → ℕ
+  pub weight_of_maybe : OptionalStatement → ℕ
   weight_of_maybe absent = 0
   weight_of_maybe (present s) = weight s
 
 -- what is left behind the part that the statement waits for
 abbrev pub weight_of_form : Form → ℕ
 weight_of_form (forms.Block done rest) = 1 + weight_of_all (statements_of rest.now)
-weight_of_form (forms.Then c d) = 2 + weight_of_maybe (maybe (option_map statement_of d.now))
+weight_of_form (forms.Then c d) = 2 + weight_of_maybe (optional_statement (option_map statement_of d.now))
 weight_of_form (forms.Else c a) = 1
 weight_of_form (forms.While c) = 1
 weight_of_form (forms.Do c) = 1
-weight_of_form (forms.First c last s) = weight_of_maybe (maybe (option_map statement_of last.now)) + (weight (statement_of s.now) + 3)
+weight_of_form (forms.First c last s) = weight_of_maybe (optional_statement (option_map statement_of last.now)) + (weight (statement_of s.now) + 3)
 weight_of_form (forms.Last first c s) = weight (statement_of s.now) + 2
 weight_of_form (forms.For first c last) = 1
 

@@ -2,9 +2,9 @@
 use Rattle.std.specs.Prelude.{ℕ, Bool, false, ◌&&◌, ◌||◌, not, List, [], ◌++◌, Option, Some, None, is_some, is_none, option_map, nat_le, nat_lt}
 use Rattle.std.specs.Option.{option_map_or}
 use Rattle.pw_tree.specs.declared.ty.Ty.{Ty}
-use Rattle.pw_tree.specs.Phrases.{Place, Phrase}
-use Rattle.pw_tree.specs.Trees.{Tree}
-use Rattle.pw_tree.specs.Statements.{Statement, Statements, Maybe, empty, block, local, set, evaluate, if_else, while_loop, do_loop, for_loop, returns, breaks, continues, nil, cons, absent, present}
+use Rattle.pw_tree.specs.Expressions.{Span, Expression}
+use Rattle.pw_tree.specs.TypedExpressions.{TypedExpression}
+use Rattle.pw_tree.specs.Statements.{Statement, Statements, OptionalStatement, empty, block, local, set, evaluate, if_else, while_loop, do_loop, for_loop, returns, breaks, continues, nil, cons, absent, present}
 use Rattle.pw_tree.specs.Placed.{local_name_at, index_end, set_end}
 use Rattle.pw_types.specs.declared.rule.Rule.TheVariants as rules
 use Rattle.pw_types.specs.declared.role.Role.{Role}
@@ -24,18 +24,18 @@ use Rattle.pw_types.specs.Blocks.{Setting, part, body, head, Block, inner, has_o
 -- ---- expressions of statements
 
 -- TooDeep: it holds more than 100 values
-abbrev pub holds_too_many : Option Tree → Bool
+abbrev pub holds_too_many : Option TypedExpression → Bool
 holds_too_many t = option_map_or (λ e. nat_lt 100 (held e)) t false
 
-abbrev pub element_holds_too_many : Option Tree → Option Tree → Bool
+abbrev pub element_holds_too_many : Option TypedExpression → Option TypedExpression → Bool
 element_holds_too_many (Some i) e = option_map_or (λ t. nat_lt 100 (held_element i t)) e false
 element_holds_too_many None e = false
 
 -- a statement's whole expression
-abbrev pub faults_of_whole : Scope → Role → Phrase → List Fault
+abbrev pub faults_of_whole : Scope → Role → Expression → List Fault
 faults_of_whole scope role e = faults scope role e ++ broken rules.TooDeep (end_of e) (holds_too_many (typed scope e))
 
-abbrev pub faults_of_option : Scope → Role → Option Phrase → List Fault
+abbrev pub faults_of_option : Scope → Role → Option Expression → List Fault
 faults_of_option scope role None = []
 faults_of_option scope role (Some e) = faults_of_whole scope role e
 
@@ -81,15 +81,15 @@ abbrev pub is_no_array_target : Scope → List ℕ → Bool
 is_no_array_target scope name = is_none (array_named scope name)
 
 -- Operands: the index of the element that is assigned to is no number
-abbrev pub has_other_index : Scope → List ℕ → Phrase → Bool
+abbrev pub has_other_index : Scope → List ℕ → Expression → Bool
 has_other_index scope name i = is_some (array_named scope name) && has_type (λ t. not (is_number t)) (typed scope i)
 
 -- TooDeep, of an assignment to a name
-abbrev pub set_holds_too_many : Scope → List ℕ → Phrase → Bool
+abbrev pub set_holds_too_many : Scope → List ℕ → Expression → Bool
 set_holds_too_many scope name e = is_some (type_of_target (meaning scope name)) && holds_too_many (typed scope e)
 
 -- TooDeep, of an assignment to an element
-abbrev pub set_element_holds_too_many : Scope → List ℕ → Phrase → Phrase → Bool
+abbrev pub set_element_holds_too_many : Scope → List ℕ → Expression → Expression → Bool
 set_element_holds_too_many scope name i e = is_some (array_named scope name) && element_holds_too_many (typed scope i) (typed scope e)
 
 abbrev pub faults_of_target : Scope → List ℕ → ℕ → List Fault
@@ -101,7 +101,7 @@ abbrev pub faults_of_array : Scope → List ℕ → ℕ → List Fault
 faults_of_array scope name at =
     broken_by rules.Unknown at name (is_unknown_target scope name) ++ broken rules.NotArray at (is_no_array_target scope name)
 
-abbrev pub faults_of_set : Setting → Scope → Place → List ℕ → Option Phrase → Phrase → List Fault
+abbrev pub faults_of_set : Setting → Scope → Span → List ℕ → Option Expression → Expression → List Fault
 faults_of_set x scope at name None e =
     faults_of_target scope name at.first
     ++ (faults scope (roles.Assigned (type_of_target (meaning scope name))) e
@@ -116,7 +116,7 @@ faults_of_set x scope at name (Some i) e =
 -- ---- leaving
 
 -- ReturnType: a value in a void function, none in another, or one that does not convert
-abbrev pub returns_other : Ty → Scope → Option Phrase → Bool
+abbrev pub returns_other : Ty → Scope → Option Expression → Bool
 returns_other result scope None = not (is_void result)
 returns_other result scope (Some e) = has_type (λ t. is_void result || not (converts t result)) (typed scope e)
 
@@ -154,6 +154,6 @@ unfoldable mutual
   faults_by_all x b nil = []
   faults_by_all x b (cons s ss) = faults_by x b s ++ faults_by_all x (behind s b) ss
 
-  pub faults_by_maybe : Setting → Block → Maybe → List Fault
+  pub faults_by_maybe : Setting → Block → OptionalStatement → List Fault
   faults_by_maybe x b absent = []
   faults_by_maybe x b (present s) = faults_by x b s

@@ -6,9 +6,9 @@ use Rattle.pw_tree.specs.declared.ty.Ref.{Ref}
 use Rattle.pw_tree.specs.declared.ty.Sig.{Sig}
 use Rattle.pw_tree.specs.declared.operator.Un.{Un}
 use Rattle.pw_tree.specs.declared.operator.Bin.{Bin}
-use Rattle.pw_tree.specs.Phrases.{Place, Phrase, Phrases, constant, word, unary, binary, conditional, call, index, input, output, nil, cons}
-use Rattle.pw_tree.specs.Trees.{Mark, Tree, Trees}
-use Rattle.pw_tree.specs.Trees as tree
+use Rattle.pw_tree.specs.Expressions.{Span, Expression, Expressions, constant, word, unary, binary, conditional, call, index, input, output, nil, cons}
+use Rattle.pw_tree.specs.TypedExpressions.{Mark, TypedExpression, TypedExpressions}
+use Rattle.pw_tree.specs.TypedExpressions as tree
 use Rattle.pw_types.specs.Types.{is_number, unary_type, binary_type, choice_type, pointer_to}
 use Rattle.pw_types.specs.declared.names.Kind.{Kind}
 use Rattle.pw_types.specs.declared.names.Kind.TheVariants.{Function, Variable}
@@ -17,7 +17,7 @@ use Rattle.pw_types.specs.Scopes.{Scope, Meaning, missing, a_local, declared, me
 
 -- ---- the type of a tree
 
-abbrev pub mark_of : Tree → Mark
+abbrev pub mark_of : TypedExpression → Mark
 mark_of (tree.constant at value) = at
 mark_of (tree.local at i) = at
 mark_of (tree.variable at x) = at
@@ -31,22 +31,22 @@ mark_of (tree.call_pointer at e es) = at
 mark_of (tree.input at) = at
 mark_of (tree.output at e) = at
 
-abbrev pub type_of : Tree → Ty
+abbrev pub type_of : TypedExpression → Ty
 type_of t = (mark_of t).ty
 
 -- the mark of a phrase that has a type
-abbrev pub mark : Ty → Place → Mark
+abbrev pub mark : Ty → Span → Mark
 mark ty at = record { ty = ty; line = at.line }
 
 -- ---- names
 
 -- the value that a name is: a local's, a variable's, or a pointer to a function of a signature that has pointers
-abbrev pub typed_file : Scope → Place → File → Kind → Option Tree
+abbrev pub typed_file : Scope → Span → File → Kind → Option TypedExpression
 typed_file scope at f (Function sig) = option_map (λ ty. tree.designator (mark ty at) (function_reference scope f)) (pointer_to sig)
 typed_file scope at f (Variable ty None) = Some (tree.variable (mark ty at) (variable_reference scope f))
 typed_file scope at f (Variable ty (Some size)) = None
 
-abbrev pub typed_name : Scope → Place → Meaning → Option Tree
+abbrev pub typed_name : Scope → Span → Meaning → Option TypedExpression
 typed_name scope at missing = None
 typed_name scope at (a_local l) = Some (tree.local (mark l.ty at) l.number)
 typed_name scope at (declared f) = typed_file scope at f f.kind
@@ -89,7 +89,7 @@ function_named scope name = function_of_meaning scope (meaning scope name)
 
 -- ---- phrases that are names
 
-abbrev pub array_of : Scope → Phrase → Option Array
+abbrev pub array_of : Scope → Expression → Option Array
 array_of scope (word at name) = array_named scope name
 array_of scope (constant at value unsigned) = None
 array_of scope (unary at op e) = None
@@ -100,7 +100,7 @@ array_of scope (index at b i) = None
 array_of scope (input at) = None
 array_of scope (output at e) = None
 
-abbrev pub function_of : Scope → Phrase → Option Designated
+abbrev pub function_of : Scope → Expression → Option Designated
 function_of scope (word at name) = function_named scope name
 function_of scope (constant at value unsigned) = None
 function_of scope (unary at op e) = None
@@ -116,20 +116,20 @@ function_of scope (output at e) = None
 -- What is called: a function by its name, a pointer, or nothing that can be called.
 pub data Callee : Type 0 where
   direct : Designated → Callee
-  through : Tree → ℕ → Callee
+  through : TypedExpression → ℕ → Callee
   neither : Callee
 
-abbrev pub pointer_of_type : Tree → Ty → Callee
+abbrev pub pointer_of_type : TypedExpression → Ty → Callee
 pointer_of_type t (Fn k) = through t k
 pointer_of_type t Void = neither
 pointer_of_type t Long = neither
 pointer_of_type t Ulong = neither
 
-abbrev pub pointer_callee : Option Tree → Callee
+abbrev pub pointer_callee : Option TypedExpression → Callee
 pointer_callee (Some t) = pointer_of_type t (type_of t)
 pointer_callee None = neither
 
-abbrev pub callee_of : Option Designated → Option Tree → Callee
+abbrev pub callee_of : Option Designated → Option TypedExpression → Callee
 callee_of (Some f) value = direct f
 callee_of None value = pointer_callee value
 
@@ -139,23 +139,23 @@ parameters_of (direct f) = Some f.sig.params
 parameters_of (through t k) = Some (replicate k Long)
 parameters_of neither = None
 
-abbrev pub called : Place → Callee → Trees → Option Tree
+abbrev pub called : Span → Callee → TypedExpressions → Option TypedExpression
 called at (direct f) es = Some (tree.call (mark f.sig.result at) f.reference es)
 called at (through t k) es = Some (tree.call_pointer (mark Long at) t es)
 called at neither es = None
 
 -- ---- all forms
 
-abbrev pub typed_unary : Place → Un → Tree → Option Tree
+abbrev pub typed_unary : Span → Un → TypedExpression → Option TypedExpression
 typed_unary at op e = option_map (λ ty. tree.unary (mark ty at) op e) (unary_type op (type_of e))
 
-abbrev pub typed_binary : Place → Bin → Tree → Tree → Option Tree
+abbrev pub typed_binary : Span → Bin → TypedExpression → TypedExpression → Option TypedExpression
 typed_binary at op l r = option_map (λ o. tree.binary (mark o.ty at) op o.unsigned l r) (binary_type op (type_of l) (type_of r))
 
-abbrev pub typed_choice : Place → Tree → Tree → Tree → Option Tree
+abbrev pub typed_choice : Span → TypedExpression → TypedExpression → TypedExpression → Option TypedExpression
 typed_choice at c a b = option_map (λ ty. tree.conditional (mark ty at) c a b) (choice_type (type_of a) (type_of b))
 
-abbrev pub typed_element : Place → Array → Tree → Option Tree
+abbrev pub typed_element : Span → Array → TypedExpression → Option TypedExpression
 typed_element at a i = if is_number (type_of i) then Some (tree.element (mark a.ty at) a.reference a.size i) else None
 
 -- two results, where both are there
@@ -168,7 +168,7 @@ abbrev pub with_three : {A B C D : Type 0} → (A → B → C → Option D) → 
 with_three f (Some a) b c = with_both (f a) b c
 with_three f None b c = None
 
-abbrev pub both_trees : Tree → Trees → Option Trees
+abbrev pub both_trees : TypedExpression → TypedExpressions → Option TypedExpressions
 both_trees e es = Some (tree.cons e es)
 
 abbrev pub constant_type : Bool → Ty
@@ -176,7 +176,7 @@ constant_type unsigned = if unsigned then Ulong else Long
 
 unfoldable mutual
   -- the typed tree of an expression
-  pub typed : Scope → Phrase → Option Tree
+  pub typed : Scope → Expression → Option TypedExpression
   typed scope (constant at value unsigned) = Some (tree.constant (mark (constant_type unsigned) at) value)
   typed scope (word at name) = typed_name scope at (meaning scope name)
   typed scope (unary at op e) = option_and_then (typed_unary at op) (typed scope e)
@@ -189,6 +189,6 @@ unfoldable mutual
   typed scope (output at e) = option_map (λ t. tree.output (mark Void at) t) (typed scope e)
 
   -- the typed trees of several
-  pub typed_all : Scope → Phrases → Option Trees
+  pub typed_all : Scope → Expressions → Option TypedExpressions
   typed_all scope nil = Some tree.nil
   typed_all scope (cons e es) = with_both both_trees (typed scope e) (typed_all scope es)

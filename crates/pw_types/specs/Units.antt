@@ -12,7 +12,7 @@ use Rattle.pw_tree.specs.declared.decl.InitItem.{InitItem}
 use Rattle.pw_tree.specs.declared.decl.InitKind.{InitKind}
 use Rattle.pw_tree.specs.declared.decl.InitKind.TheVariants.{Num, Word}
 use Rattle.pw_tree.specs.Statements.{Statements}
-use Rattle.pw_tree.specs.Declarations.{Declaration, DeclarationForm, prototype, definition, variable, WrittenUnit}
+use Rattle.pw_tree.specs.Declarations.{Declaration, DeclarationForm, prototype, definition, variable, UntypedUnit}
 use Rattle.pw_tree.specs.Units.{Function, TypedUnit}
 use Rattle.pw_tree.specs.TypeTexts.{text_of_function, text_of_variable}
 use Rattle.pw_types.specs.declared.rule.Rule.TheVariants as rules
@@ -25,7 +25,7 @@ use Rattle.pw_types.specs.declared.names.Kind.TheVariants as kinds
 use Rattle.pw_types.specs.Typed.{function_named, Designated}
 use Rattle.pw_types.specs.Held.{held_by_all}
 use Rattle.pw_types.specs.Blocks.{locals_in_all}
-use Rattle.pw_types.specs.Commands.{commands_of}
+use Rattle.pw_types.specs.TypedStatements.{typed_statements}
 use Rattle.pw_types.specs.Declarations.{is_external, is_extern, signature, elements_of, outermost, setting, declared_by, Whole, file_scope, faults_of_declaration, uses_of_form}
 
 -- ---- the names that a unit defines
@@ -65,7 +65,7 @@ functions_of ds = each_once (flat_map function_in ds)
 abbrev pub variables_of : List Declaration → List (List ℕ)
 variables_of ds = each_once (flat_map variable_in ds)
 
-abbrev pub whole_of : WrittenUnit → Whole
+abbrev pub whole_of : UntypedUnit → Whole
 whole_of unit = record {
   functions = functions_of unit.declarations;
   variables = variables_of unit.declarations;
@@ -98,7 +98,7 @@ faults_of_lacking at None = []
 faults_of_lacking at (Some f) = broken_by rules.Unknown at f.name true
 
 -- All faults of a unit: those of its declarations in order, then its own, at its last token.
-abbrev pub faults_of : WrittenUnit → List Fault
+abbrev pub faults_of : UntypedUnit → List Fault
 faults_of unit =
     faults_of_declarations (whole_of unit) [] 0 unit.declarations
     ++ faults_of_lacking (length unit.lines - 1) (find lacks_definition (files_behind [] unit.declarations))
@@ -113,8 +113,8 @@ typed_function w files d result params body = record {
   sig = signature result params;
   line = d.line;
   locals = length params + locals_in_all body;
-  held = held_by_all (commands_of (setting w.lines result) (outermost (file_scope w files) params) body);
-  body = commands_of (setting w.lines result) (outermost (file_scope w files) params) body;
+  held = held_by_all (typed_statements (setting w.lines result) (outermost (file_scope w files) params) body);
+  body = typed_statements (setting w.lines result) (outermost (file_scope w files) params) body;
 }
 
 abbrev pub designated_or : Option Designated → Init
@@ -186,7 +186,7 @@ external_names used number (f ∷ fs) =
 
 -- The typed unit of a unit without faults: its functions and variables in order of definition, and the external names that
 -- it defines or uses, in order of their first declaration.
-abbrev pub typed_unit : WrittenUnit → TypedUnit
+abbrev pub typed_unit : UntypedUnit → TypedUnit
 typed_unit unit = record {
   functions = typed_functions (whole_of unit) [] unit.declarations;
   variables = typed_variables (whole_of unit) [] unit.declarations;

@@ -1,7 +1,7 @@
 -- Which names at file level an expression uses, by their numbers among those declared so far, in order of text.
 use Rattle.std.specs.Prelude.{ℕ, not, List, [], ◌∷◌, ◌++◌, bytes_eq}
 use Rattle.std.specs.List.{prefix_len}
-use Rattle.pw_tree.specs.Phrases.{Phrase, Phrases, constant, word, unary, binary, conditional, call, index, input, output, nil, cons}
+use Rattle.pw_tree.specs.Expressions.{Expression, Expressions, constant, word, unary, binary, conditional, call, index, input, output, nil, cons}
 use Rattle.pw_types.specs.declared.names.File.{File}
 use Rattle.pw_types.specs.Scopes.{Scope, Meaning, missing, a_local, declared, meaning}
 
@@ -18,7 +18,7 @@ abbrev pub uses_of_name : Scope → List ℕ → List ℕ
 uses_of_name scope name = uses_of_meaning scope (meaning scope name)
 
 unfoldable mutual
-  pub uses : Scope → Phrase → List ℕ
+  pub uses : Scope → Expression → List ℕ
   uses scope (constant at value unsigned) = []
   uses scope (word at name) = uses_of_name scope name
   uses scope (unary at op e) = uses scope e
@@ -29,6 +29,6 @@ unfoldable mutual
   uses scope (input at) = []
   uses scope (output at e) = uses scope e
 
-  pub uses_of_all : Scope → Phrases → List ℕ
+  pub uses_of_all : Scope → Expressions → List ℕ
   uses_of_all scope nil = []
   uses_of_all scope (cons e es) = uses scope e ++ uses_of_all scope es

@@ -1,13 +1,13 @@
 -- Expressions that are names, and what looking such a name up answers.
 use Rattle.std.specs.Prelude.{◌≡◌, ℕ, List, [], ◌∷◌, Option, Some, None}
-use Rattle.pw_tree.specs.Phrases.{Phrase, constant, word, unary, binary, conditional, call, index, input, output}
+use Rattle.pw_tree.specs.Expressions.{Expression, constant, word, unary, binary, conditional, call, index, input, output}
 use Rattle.pw_types.specs.declared.expression_word.NamedFunction.{NamedFunction}
 use Rattle.pw_types.specs.declared.expression_word.NamedArray.{NamedArray}
 use Rattle.pw_types.specs.Scopes.{Scope, function_reference, variable_reference}
 use Rattle.pw_types.specs.Typed.{Array, Designated}
 
 -- the name that an expression is
-abbrev pub word_in : Phrase → Option (List ℕ)
+abbrev pub word_in : Expression → Option (List ℕ)
 word_in (word at name) = Some name
 word_in (constant at value unsigned) = None
 word_in (unary at op e) = None

@@ -1,7 +1,7 @@
 //! The call that types a unit.
 ghost use Rattle.std.specs.Prelude.{◌≡◌, Some, Err};
-ghost use Rattle.pw_tree.specs.Declarations.{written_unit_of};
-ghost use Rattle.pw_tree.specs.Placed.{IsWritten};
+ghost use Rattle.pw_tree.specs.Declarations.{untyped_unit_of};
+ghost use Rattle.pw_tree.specs.Placed.{IsParsed};
 ghost use Rattle.pw_types.specs.Faults.{first_of};
 ghost use Rattle.pw_types.specs.Units.{faults_of};
 ghost use Rattle.pw_types.specs.Checks.{Checks};
@@ -16,8 +16,8 @@ use std::alloc::Global;
 /// The error that the first fault of a unit is, with its token's line.
 #[tactic(auto, using(crate::proofs::FirstFault::within))]
 fn error_of(unit: &Unit, fault: Fault) -> TypeError
-    requires written { IsWritten (written_unit_of unit.now) }
-    requires first { first_of (faults_of (written_unit_of unit.now)) ≡ Some fault }
+    requires written { IsParsed (untyped_unit_of unit.now) }
+    requires first { first_of (faults_of (untyped_unit_of unit.now)) ≡ Some fault }
     ensures { Checks unit.now (Err result) }
 {
     let lines = unit.lines.as_slice();
@@ -40,7 +40,7 @@ fn error_of(unit: &Unit, fault: Fault) -> TypeError
 ///
 /// Refusals: `Broken` exactly where the unit has a fault, with the first. `NoMemory` may come in place of each answer.
 pub fn check(alloc: Global, unit: &Unit) -> Result<TUnit, TypeError>
-    requires written { IsWritten (written_unit_of unit.now) }
+    requires written { IsParsed (untyped_unit_of unit.now) }
     ensures { Checks unit.now result }
 {
     match judge_unit(alloc, unit) {

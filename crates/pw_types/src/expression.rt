@@ -1,6 +1,6 @@
 //! Judging an expression, by a loop over frames that wait for its parts, so that deep ones need no deep stack.
 ghost use Rattle.std.specs.Prelude.{◌≡◌, [], ◌∷◌, ◌++◌, None, OnOk};
-ghost use Rattle.pw_tree.specs.Phrases.{phrase_of};
+ghost use Rattle.pw_tree.specs.Expressions.{expression_of};
 ghost use Rattle.pw_types.specs.declared.role.Role.TheVariants.{Base};
 ghost use Rattle.pw_types.specs.Typed.{array_of};
 ghost use Rattle.pw_types.specs.Judged.{JudgesExpression};
@@ -35,7 +35,7 @@ fn walk<'a>(
     role: Role,
     e: &'a Expr,
 ) -> Result<Typed, Stop>
-    ensures { GivesWith (checked scope.now role (phrase_of e.now)) used.old.items used.new.items result }
+    ensures { GivesWith (checked scope.now role (expression_of e.now)) used.old.items used.new.items result }
 {
     let mut frames = Items::new(alloc);
     let mut step = Step::Instead(role, e);
@@ -63,8 +63,8 @@ pub fn judge(
     role: Role,
     e: &Expr,
 ) -> Result<Typed, Stop>
-    requires { role ≡ Base → array_of scope.now (phrase_of e.now) ≡ None }
-    ensures { JudgesExpression scope.now role (phrase_of e.now) used.old.items used.new.items result }
+    requires { role ≡ Base → array_of scope.now (expression_of e.now) ≡ None }
+    ensures { JudgesExpression scope.now role (expression_of e.now) used.old.items used.new.items result }
 {
     walk(alloc, scope, used, role, e)
 }

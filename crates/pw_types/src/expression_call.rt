@@ -1,6 +1,6 @@
 //! Calls (C17, 6.5.2.2).
 ghost use Rattle.std.specs.Prelude.{◌≡◌, ◌+◌, ◌<◌, ◌≤◌, Some, List, not, nat_eq, length, IfOk};
-ghost use Rattle.pw_tree.specs.Phrases.{phrases_of};
+ghost use Rattle.pw_tree.specs.Expressions.{expressions_of};
 ghost use Rattle.pw_types.specs.Scopes.{function_reference};
 ghost use Rattle.pw_types.specs.Expressions.{first_parameter, how_many};
 ghost use Rattle.pw_types.specs.CheckingExpressions as spec;
@@ -108,8 +108,8 @@ pub(crate) fn go_on<'a>(
     params: Parameters<'a>,
     rest: &'a [Expr],
 ) -> Result<Step<'a>, Stop>
-    ensures continues { ContinuesInEach (λ scope. spec.checked_arguments scope (calling_of call) (taken_of taken) (listed params.entry) (phrases_of rest.now)) result }
-    ensures smaller { IfOk result (λ step. step_size step ≤ sizes (phrases_of rest.now)) }
+    ensures continues { ContinuesInEach (λ scope. spec.checked_arguments scope (calling_of call) (taken_of taken) (listed params.entry) (expressions_of rest.now)) result }
+    ensures smaller { IfOk result (λ step. step_size step ≤ sizes (expressions_of rest.now)) }
 {
     match rest {
         [] => Ok(Step::Done(finish_call(alloc, call, taken)?)),
@@ -134,7 +134,7 @@ fn count(params: Parameters<'_>) -> usize
 /// Whether a call has another number of arguments than its callee has parameters.
 #[tactic(auto, using(crate::proofs::Counted::how_many_phrases))]
 fn is_other_count(params: Parameters<'_>, es: &[Expr]) -> bool
-    ensures { result ≡ not (nat_eq (length (listed params.entry)) (how_many (phrases_of es.now))) }
+    ensures { result ≡ not (nat_eq (length (listed params.entry)) (how_many (expressions_of es.now))) }
 {
     count(params) != es.len()
 }
@@ -147,8 +147,8 @@ fn begin<'a>(
     params: Parameters<'a>,
     es: &'a [Expr],
 ) -> Result<Step<'a>, Stop>
-    ensures continues { ContinuesInEach (λ scope. begun scope head (aim_of target) (listed params.entry) (phrases_of es.now)) result }
-    ensures smaller { IfOk result (λ step. step_size step ≤ sizes (phrases_of es.now)) }
+    ensures continues { ContinuesInEach (λ scope. begun scope head (aim_of target) (listed params.entry) (expressions_of es.now)) result }
+    ensures smaller { IfOk result (λ step. step_size step ≤ sizes (expressions_of es.now)) }
 {
     let call = Call {
         head,
@@ -171,8 +171,8 @@ pub(crate) fn call_function<'a>(
     sig: &'a Sig,
     es: &'a [Expr],
 ) -> Result<Step<'a>, Stop>
-    ensures continues { Continues scope.now (direct_call_from scope.now head (record { reference = function_reference scope.now file.now; sig = sig.now }) (phrases_of es.now)) result }
-    ensures smaller { IfOk result (λ step. step_size step ≤ sizes (phrases_of es.now)) }
+    ensures continues { Continues scope.now (direct_call_from scope.now head (record { reference = function_reference scope.now file.now; sig = sig.now }) (expressions_of es.now)) result }
+    ensures smaller { IfOk result (λ step. step_size step ≤ sizes (expressions_of es.now)) }
 {
     let name = scope.function_reference(alloc, file)?;
     let params = Parameters::Listed(sig.params.as_slice());
@@ -186,8 +186,8 @@ pub(crate) fn call_through<'a>(
     callee: Typed,
     es: &'a [Expr],
 ) -> Result<Step<'a>, Stop>
-    ensures continues { ContinuesInEach (λ scope. pointer_call_from scope head (phrases_of es.now) (valued callee)) result }
-    ensures smaller { IfOk result (λ step. step_size step ≤ sizes (phrases_of es.now)) }
+    ensures continues { ContinuesInEach (λ scope. pointer_call_from scope head (expressions_of es.now) (valued callee)) result }
+    ensures smaller { IfOk result (λ step. step_size step ≤ sizes (expressions_of es.now)) }
 {
     match type_of(&callee) {
         Ty::Fn(k) => begin(
@@ -210,8 +210,8 @@ pub(crate) fn behind_argument<'a>(
     rest: &'a [Expr],
     typed: Typed,
 ) -> Result<Step<'a>, Stop>
-    ensures continues { ContinuesInEach (λ scope. spec.checked_arguments scope (calling_of call) (spec.taking (taken_of taken) (valued typed)) (listed params.entry) (phrases_of rest.now)) result }
-    ensures smaller { IfOk result (λ step. step_size step ≤ sizes (phrases_of rest.now)) }
+    ensures continues { ContinuesInEach (λ scope. spec.checked_arguments scope (calling_of call) (spec.taking (taken_of taken) (valued typed)) (listed params.entry) (expressions_of rest.now)) result }
+    ensures smaller { IfOk result (λ step. step_size step ≤ sizes (expressions_of rest.now)) }
 {
     go_on(alloc, call, take(taken, typed)?, params, rest)
 }

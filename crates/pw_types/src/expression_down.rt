@@ -1,6 +1,6 @@
 //! The first step of judging an expression.
 ghost use Rattle.std.specs.Prelude.{◌≡◌, ◌+◌, ◌<◌, ◌≤◌, IfOk};
-ghost use Rattle.pw_tree.specs.Phrases.{phrase_of, phrases_of};
+ghost use Rattle.pw_tree.specs.Expressions.{expression_of, expressions_of};
 ghost use Rattle.pw_types.specs.CheckingExpressions as spec;
 ghost use Rattle.pw_types.specs.ResumingExpressions.{ContinuesWith, call_from, index_from, step_size, size, sizes};
 
@@ -24,8 +24,8 @@ fn call<'a>(
     callee: &'a Expr,
     es: &'a [Expr],
 ) -> Result<Step<'a>, Stop>
-    ensures continues { ContinuesWith scope.now (call_from scope.now head (phrase_of callee.now) (phrases_of es.now)) used.old.items used.new.items result }
-    ensures smaller { IfOk result (λ step. step_size step < 3 + (size (phrase_of callee.now) + sizes (phrases_of es.now))) }
+    ensures continues { ContinuesWith scope.now (call_from scope.now head (expression_of callee.now) (expressions_of es.now)) used.old.items used.new.items result }
+    ensures smaller { IfOk result (λ step. step_size step < 3 + (size (expression_of callee.now) + sizes (expressions_of es.now))) }
 {
     match function(scope, callee) {
         None => Ok(Step::Part(Frame::Callee(head, es), Role::Callee, callee)),
@@ -46,8 +46,8 @@ fn element<'a>(
     base: &'a Expr,
     i: &'a Expr,
 ) -> Result<Step<'a>, Stop>
-    ensures continues { ContinuesWith scope.now (index_from scope.now head (phrase_of base.now) (phrase_of i.now)) used.old.items used.new.items result }
-    ensures smaller { IfOk result (λ step. step_size step ≤ 1 + (size (phrase_of base.now) + size (phrase_of i.now))) }
+    ensures continues { ContinuesWith scope.now (index_from scope.now head (expression_of base.now) (expression_of i.now)) used.old.items used.new.items result }
+    ensures smaller { IfOk result (λ step. step_size step ≤ 1 + (size (expression_of base.now) + size (expression_of i.now))) }
 {
     match array(scope, base) {
         None => Ok(Step::Instead(Role::Base, base)),
@@ -73,8 +73,8 @@ pub(crate) fn down<'a>(
     role: Role,
     e: &'a Expr,
 ) -> Result<Step<'a>, Stop>
-    ensures continues { ContinuesWith scope.now (spec.checked scope.now role (phrase_of e.now)) used.old.items used.new.items result }
-    ensures smaller { IfOk result (λ step. step_size step < size (phrase_of e.now)) }
+    ensures continues { ContinuesWith scope.now (spec.checked scope.now role (expression_of e.now)) used.old.items used.new.items result }
+    ensures smaller { IfOk result (λ step. step_size step < size (expression_of e.now)) }
 {
     let head = Head {
         role,

@@ -1,6 +1,6 @@
 //! The forms of expressions whose parts are judged (C17, 6.5).
 ghost use Rattle.std.specs.Prelude.{◌≡◌, ◌+◌};
-ghost use Rattle.pw_tree.specs.Trees.{tree_form_of};
+ghost use Rattle.pw_tree.specs.TypedExpressions.{typed_expression_form_of};
 ghost use Rattle.pw_types.specs.Held as held;
 ghost use Rattle.pw_types.specs.Typed as trees;
 ghost use Rattle.pw_types.specs.CheckingExpressions as spec;
@@ -29,7 +29,7 @@ pub(crate) fn more(n: u32, values: u32) -> u32
 
 /// An expression with no parts.
 pub(crate) fn leaf(head: Head, ty: Ty, kind: TKind) -> Result<Typed, Stop>
-    ensures { Gives (spec.leaf head (tree_form_of kind (spec.mark_under head ty))) result }
+    ensures { Gives (spec.leaf head (typed_expression_form_of kind (spec.mark_under head ty))) result }
 {
     finish(head, false, node(head, ty, kind, 0))
 }

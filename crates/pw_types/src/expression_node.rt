@@ -1,6 +1,6 @@
 //! Nodes of typed expressions, and the rules that their places ask of them.
 ghost use Rattle.std.specs.Prelude.{◌≡◌};
-ghost use Rattle.pw_tree.specs.Trees.{tree_form_of};
+ghost use Rattle.pw_tree.specs.TypedExpressions.{typed_expression_form_of};
 ghost use Rattle.pw_types.specs.declared.fault.Stop.TheVariants as stops;
 ghost use Rattle.pw_types.specs.Expressions as rules;
 ghost use Rattle.pw_types.specs.Typed as trees;
@@ -25,7 +25,7 @@ pub(crate) fn type_of(typed: &Typed) -> Ty
 
 /// A node of a type.
 pub(crate) fn node(head: Head, ty: Ty, kind: TKind, held: u32) -> Typed
-    ensures { valued result ≡ record { tree = tree_form_of kind (spec.mark_under head ty); held = held } }
+    ensures { valued result ≡ record { tree = typed_expression_form_of kind (spec.mark_under head ty); held = held } }
 {
     Typed {
         tree: TExpr {

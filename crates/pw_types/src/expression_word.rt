@@ -1,6 +1,6 @@
 //! Expressions that are names of functions and of arrays.
 ghost use Rattle.std.specs.Prelude.{◌≡◌, option_copied};
-ghost use Rattle.pw_tree.specs.Phrases.{phrase_of};
+ghost use Rattle.pw_tree.specs.Expressions.{expression_of};
 ghost use Rattle.pw_types.specs.Typed as typed;
 ghost use Rattle.pw_types.specs.Uses.{uses, uses_of_name};
 ghost use Rattle.pw_types.specs.Words.{word_in, IsFunction, IsArray};
@@ -31,7 +31,7 @@ pub(crate) struct NamedArray<'a> {
 /// The name that an expression is, where it is one.
 #[tactic(auto, using(crate::proofs::Phrases::phrase_forms))]
 fn word(e: &Expr) -> Option<&Name>
-    ensures { option_copied result ≡ word_in (phrase_of e.now) }
+    ensures { option_copied result ≡ word_in (expression_of e.now) }
 {
     match &e.kind {
         ExprKind::Word(name) => Some(name),
@@ -61,7 +61,7 @@ fn function_named<'a>(scope: &'a Scope<'_>, name: &Name) -> Option<NamedFunction
 
 /// The function that an expression designates by its name, where it is one's.
 pub(crate) fn function<'a>(scope: &'a Scope<'_>, e: &Expr) -> Option<NamedFunction<'a>>
-    ensures { IsFunction scope.now (typed.function_of scope.now (phrase_of e.now)) (uses scope.now (phrase_of e.now)) result }
+    ensures { IsFunction scope.now (typed.function_of scope.now (expression_of e.now)) (uses scope.now (expression_of e.now)) result }
 {
     match word(e) {
         None => None,
@@ -89,7 +89,7 @@ fn array_named<'a>(scope: &'a Scope<'_>, name: &Name) -> Option<NamedArray<'a>>
 
 /// The array that an expression designates by its name, where it is one's.
 pub(crate) fn array<'a>(scope: &'a Scope<'_>, e: &Expr) -> Option<NamedArray<'a>>
-    ensures { IsArray scope.now (typed.array_of scope.now (phrase_of e.now)) (uses scope.now (phrase_of e.now)) result }
+    ensures { IsArray scope.now (typed.array_of scope.now (expression_of e.now)) (uses scope.now (expression_of e.now)) result }
 {
     match word(e) {
         None => None,

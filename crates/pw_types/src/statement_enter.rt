@@ -1,8 +1,8 @@
 //! Statements that hold others, up to their first part.
 ghost use Rattle.std.specs.Prelude.{◌≡◌, ◌+◌, ◌<◌, IfOk, Some, None, option_map};
-ghost use Rattle.pw_tree.specs.Phrases.{Place, phrase_of};
+ghost use Rattle.pw_tree.specs.Expressions.{Span, expression_of};
 ghost use Rattle.pw_tree.specs.Statements as statement;
-ghost use Rattle.pw_tree.specs.Statements.{statement_of, statements_of, maybe};
+ghost use Rattle.pw_tree.specs.Statements.{statement_of, statements_of, optional_statement};
 ghost use Rattle.pw_types.specs.CheckingStatements.{Leads, Steps, outcome_at, behind_first_at, typed_maybe};
 ghost use Rattle.pw_types.specs.CheckingStatements as spec;
 ghost use Rattle.pw_types.specs.StatementWeights.{weight, weight_of_all, weight_of_maybe, weight_of_step};
@@ -28,7 +28,7 @@ pub(crate) fn done<'s>(judged: Result<TStmt, Stop>) -> Result<Step<'s>, Stop>
 impl<'a> Walk<'a> {
     /// `{ body }`
     fn enter_block<'s>(&mut self, setting: &Setting<'s>, body: &'s [Stmt]) -> Step<'s>
-        ensures judged { (at : Place) → Leads (outcome_at setting.now self.old (statement.block at (statements_of body.now))) self.new result }
+        ensures judged { (at : Span) → Leads (outcome_at setting.now self.old (statement.block at (statements_of body.now))) self.new result }
         ensures less { weight_of_step result < 2 + weight_of_all (statements_of body.now) }
     {
         let outer = self.outer(setting);
@@ -51,8 +51,8 @@ impl<'a> Walk<'a> {
         a: &'s Stmt,
         b: &'s Option<Boxed<Stmt>>,
     ) -> Result<Step<'s>, Stop>
-        ensures judged { (at : Place) → Steps (outcome_at setting.now self.old (statement.if_else at (phrase_of c.now) (statement_of a.now) (maybe (option_map statement_of b.now)))) self.new result }
-        ensures less { IfOk result (λ step. weight_of_step step < weight (statement_of a.now) + (3 + weight_of_maybe (maybe (option_map statement_of b.now)))) }
+        ensures judged { (at : Span) → Steps (outcome_at setting.now self.old (statement.if_else at (expression_of c.now) (statement_of a.now) (optional_statement (option_map statement_of b.now)))) self.new result }
+        ensures less { IfOk result (λ step. weight_of_step step < weight (statement_of a.now) + (3 + weight_of_maybe (optional_statement (option_map statement_of b.now)))) }
     {
         let c = self.value(Role::Value, c)?;
         let outer = self.outer(setting);
@@ -67,7 +67,7 @@ impl<'a> Walk<'a> {
         c: &Expr,
         body: &'s Stmt,
     ) -> Result<Step<'s>, Stop>
-        ensures judged { (at : Place) → Steps (outcome_at setting.now self.old (statement.while_loop at (phrase_of c.now) (statement_of body.now))) self.new result }
+        ensures judged { (at : Span) → Steps (outcome_at setting.now self.old (statement.while_loop at (expression_of c.now) (statement_of body.now))) self.new result }
         ensures less { IfOk result (λ step. weight_of_step step < weight (statement_of body.now) + 2) }
     {
         let c = self.value(Role::Value, c)?;
@@ -78,7 +78,7 @@ impl<'a> Walk<'a> {
 
     /// `do body while (c) ;`
     fn enter_do<'s>(&self, setting: &Setting<'s>, body: &'s Stmt, c: &'s Expr) -> Step<'s>
-        ensures judged { (at : Place) → Leads (outcome_at setting.now self.now (statement.do_loop at (statement_of body.now) (phrase_of c.now))) self.now result }
+        ensures judged { (at : Span) → Leads (outcome_at setting.now self.now (statement.do_loop at (statement_of body.now) (expression_of c.now))) self.now result }
         ensures less { weight_of_step result < weight (statement_of body.now) + 2 }
     {
         let outer = self.outer(setting);
@@ -95,8 +95,8 @@ impl<'a> Walk<'a> {
         last: &'s Option<Boxed<Stmt>>,
         body: &'s Stmt,
     ) -> Result<Step<'s>, Stop>
-        ensures judged { Steps (behind_first_at outer.now (typed_maybe first) (option_map phrase_of c.now) (maybe (option_map statement_of last.now)) (statement_of body.now) self.old) self.new result }
-        ensures less { IfOk result (λ step. weight_of_step step < weight_of_maybe (maybe (option_map statement_of last.now)) + (weight (statement_of body.now) + 3)) }
+        ensures judged { Steps (behind_first_at outer.now (typed_maybe first) (option_map expression_of c.now) (optional_statement (option_map statement_of last.now)) (statement_of body.now) self.old) self.new result }
+        ensures less { IfOk result (λ step. weight_of_step step < weight_of_maybe (optional_statement (option_map statement_of last.now)) + (weight (statement_of body.now) + 3)) }
     {
         let c = self.maybe_value(Role::Value, c)?;
         let outer = *outer;
@@ -121,8 +121,8 @@ impl<'a> Walk<'a> {
         last: &'s Option<Boxed<Stmt>>,
         body: &'s Stmt,
     ) -> Result<Step<'s>, Stop>
-        ensures judged { (at : Place) → Steps (outcome_at setting.now self.old (statement.for_loop at (maybe (option_map statement_of first.now)) (option_map phrase_of c.now) (maybe (option_map statement_of last.now)) (statement_of body.now))) self.new result }
-        ensures less { IfOk result (λ step. weight_of_step step < weight_of_maybe (maybe (option_map statement_of first.now)) + (weight_of_maybe (maybe (option_map statement_of last.now)) + (weight (statement_of body.now) + 4))) }
+        ensures judged { (at : Span) → Steps (outcome_at setting.now self.old (statement.for_loop at (optional_statement (option_map statement_of first.now)) (option_map expression_of c.now) (optional_statement (option_map statement_of last.now)) (statement_of body.now))) self.new result }
+        ensures less { IfOk result (λ step. weight_of_step step < weight_of_maybe (optional_statement (option_map statement_of first.now)) + (weight_of_maybe (optional_statement (option_map statement_of last.now)) + (weight (statement_of body.now) + 4))) }
     {
         let outer = self.outer(setting);
         self.start = outer.visible;

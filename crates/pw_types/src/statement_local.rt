@@ -1,6 +1,6 @@
 //! Declarations of locals.
 ghost use Rattle.std.specs.Prelude.{◌≡◌, ◌<◌, ⊤, drop, true, option_map, IfOk};
-ghost use Rattle.pw_tree.specs.Phrases.{phrase_of};
+ghost use Rattle.pw_tree.specs.Expressions.{expression_of};
 ghost use Rattle.pw_tree.specs.Placed as placed;
 ghost use Rattle.pw_tree.specs.Statements as statement;
 ghost use Rattle.pw_types.specs.Faults.{Judges};
@@ -84,7 +84,7 @@ impl<'a> Walk<'a> {
         name: &Name,
         value: &Option<Expr>,
     ) -> Result<TStmt, Stop>
-        ensures { Finishes (outcome_at setting.now self.old (statement.local (place_of at) ty name.now (option_map phrase_of value.now))) self.new result }
+        ensures { Finishes (outcome_at setting.now self.old (statement.local (place_of at) ty name.now (option_map expression_of value.now))) self.new result }
     {
         self.declarable(name, local_name_at(at, ty))?;
         let value = self.maybe_value(Role::Assigned(Some(ty)), value)?;

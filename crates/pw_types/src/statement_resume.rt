@@ -1,9 +1,9 @@
 //! Statements that hold others, from behind a part.
 ghost use Rattle.std.specs.Prelude.{◌≡◌, ◌+◌, ◌<◌, [], ◌∷◌, ◌++◌, Some, IfOk, map, option_map};
-ghost use Rattle.pw_tree.specs.Phrases.{phrase_of};
-ghost use Rattle.pw_tree.specs.Trees.{tree_of};
-ghost use Rattle.pw_tree.specs.Commands.{command_of, present};
-ghost use Rattle.pw_tree.specs.Statements.{statement_of, statements_of, maybe};
+ghost use Rattle.pw_tree.specs.Expressions.{expression_of};
+ghost use Rattle.pw_tree.specs.TypedExpressions.{typed_expression_of};
+ghost use Rattle.pw_tree.specs.TypedStatements.{typed_statement_of, present};
+ghost use Rattle.pw_tree.specs.Statements.{statement_of, statements_of, optional_statement};
 ghost use Rattle.pw_types.specs.CheckingStatements.{Finishes, Steps, behind_first_at, block_at, judged_at, leave, rest_of_do, rest_of_for, rest_of_if, resumed, resumed_at, setting_of, typed_maybe};
 ghost use Rattle.pw_types.specs.StatementWeights.{weight, weight_of_all, weight_of_maybe, weight_of_form, weight_of_step};
 
@@ -33,7 +33,7 @@ impl<'a> Walk<'a> {
         rest: &'s [Stmt],
         command: TStmt,
     ) -> Result<Step<'s>, Stop>
-        ensures judged { Steps (block_at done rest.now outer.now (judged_at (command_of command) self.old)) self.new result }
+        ensures judged { Steps (block_at done rest.now outer.now (judged_at (typed_statement_of command) self.old)) self.new result }
         ensures less { IfOk result (λ step. weight_of_step step < 1 + weight_of_all (statements_of rest.now)) }
     {
         push(&mut done, command)?;
@@ -58,8 +58,8 @@ impl<'a> Walk<'a> {
         b: &'s Option<Boxed<Stmt>>,
         command: TStmt,
     ) -> Result<Step<'s>, Stop>
-        ensures judged { Steps (rest_of_if (setting_of outer.now.setting) (leave outer.now.start outer.now.visible) (tree_of c) (maybe (option_map statement_of b.now)) (judged_at (command_of command) self.old)) self.new result }
-        ensures less { IfOk result (λ step. weight_of_step step < 2 + weight_of_maybe (maybe (option_map statement_of b.now))) }
+        ensures judged { Steps (rest_of_if (setting_of outer.now.setting) (leave outer.now.start outer.now.visible) (typed_expression_of c) (optional_statement (option_map statement_of b.now)) (judged_at (typed_statement_of command) self.old)) self.new result }
+        ensures less { IfOk result (λ step. weight_of_step step < 2 + weight_of_maybe (optional_statement (option_map statement_of b.now))) }
     {
         let a = boxed(self.alloc, command)?;
         match b {
@@ -83,7 +83,7 @@ impl<'a> Walk<'a> {
         a: Boxed<TStmt>,
         command: TStmt,
     ) -> Result<TStmt, Stop>
-        ensures { Finishes (resumed_at outer.now (Form.Else c a) (judged_at (command_of command) self.old)) self.new result }
+        ensures { Finishes (resumed_at outer.now (Form.Else c a) (judged_at (typed_statement_of command) self.old)) self.new result }
     {
         let b = boxed(self.alloc, command)?;
         self.leave(outer);
@@ -92,7 +92,7 @@ impl<'a> Walk<'a> {
 
     /// A `while`, behind its body.
     fn resume_while(&mut self, outer: &Outer<'_>, c: TExpr, command: TStmt) -> Result<TStmt, Stop>
-        ensures { Finishes (resumed_at outer.now (Form.While c) (judged_at (command_of command) self.old)) self.new result }
+        ensures { Finishes (resumed_at outer.now (Form.While c) (judged_at (typed_statement_of command) self.old)) self.new result }
     {
         let body = boxed(self.alloc, command)?;
         self.leave(outer);
@@ -101,7 +101,7 @@ impl<'a> Walk<'a> {
 
     /// A `do`, behind its body.
     fn resume_do(&mut self, outer: &Outer<'_>, c: &Expr, command: TStmt) -> Result<TStmt, Stop>
-        ensures { Finishes (rest_of_do (leave outer.now.start outer.now.visible) (phrase_of c.now) (judged_at (command_of command) self.old)) self.new result }
+        ensures { Finishes (rest_of_do (leave outer.now.start outer.now.visible) (expression_of c.now) (judged_at (typed_statement_of command) self.old)) self.new result }
     {
         let body = boxed(self.alloc, command)?;
         self.leave(outer);
@@ -118,7 +118,7 @@ impl<'a> Walk<'a> {
         body: &'s Stmt,
         command: TStmt,
     ) -> Result<Step<'s>, Stop>
-        ensures judged { Steps (rest_of_for (setting_of outer.now.setting) (leave outer.now.start outer.now.visible) (typed_maybe first) (option_map tree_of c) (present (command_of command)) (statement_of body.now) (judged_at (command_of command) self.now)) self.now result }
+        ensures judged { Steps (rest_of_for (setting_of outer.now.setting) (leave outer.now.start outer.now.visible) (typed_maybe first) (option_map typed_expression_of c) (present (typed_statement_of command)) (statement_of body.now) (judged_at (typed_statement_of command) self.now)) self.now result }
         ensures less { IfOk result (λ step. weight_of_step step < weight (statement_of body.now) + 2) }
     {
         let last = boxed(self.alloc, command)?;
@@ -136,7 +136,7 @@ impl<'a> Walk<'a> {
         last: Option<Boxed<TStmt>>,
         command: TStmt,
     ) -> Result<TStmt, Stop>
-        ensures { Finishes (resumed_at outer.now (Form.For first c last) (judged_at (command_of command) self.old)) self.new result }
+        ensures { Finishes (resumed_at outer.now (Form.For first c last) (judged_at (typed_statement_of command) self.old)) self.new result }
     {
         let body = boxed(self.alloc, command)?;
         self.leave(outer);
@@ -152,8 +152,8 @@ impl<'a> Walk<'a> {
         body: &'s Stmt,
         command: TStmt,
     ) -> Result<Step<'s>, Stop>
-        ensures judged { Steps (behind_first_at outer.now (present (command_of command)) (option_map phrase_of c.now) (maybe (option_map statement_of last.now)) (statement_of body.now) self.old) self.new result }
-        ensures less { IfOk result (λ step. weight_of_step step < weight_of_maybe (maybe (option_map statement_of last.now)) + (weight (statement_of body.now) + 3)) }
+        ensures judged { Steps (behind_first_at outer.now (present (typed_statement_of command)) (option_map expression_of c.now) (optional_statement (option_map statement_of last.now)) (statement_of body.now) self.old) self.new result }
+        ensures less { IfOk result (λ step. weight_of_step step < weight_of_maybe (optional_statement (option_map statement_of last.now)) + (weight (statement_of body.now) + 3)) }
     {
         let first = boxed(self.alloc, command)?;
         self.behind_first(outer, Some(first), c, last, body)
@@ -161,7 +161,7 @@ impl<'a> Walk<'a> {
 
     /// A statement, behind the part that it waits for, of which this is the typed statement.
     pub fn resume<'s>(&mut self, frame: Frame<'s>, command: TStmt) -> Result<Step<'s>, Stop>
-        ensures judged { Steps (resumed frame.entry (judged_at (command_of command) self.old)) self.new result }
+        ensures judged { Steps (resumed frame.entry (judged_at (typed_statement_of command) self.old)) self.new result }
         ensures less { IfOk result (λ step. weight_of_step step < weight_of_form frame.entry.form) }
     {
         let Frame { outer, form } = frame;

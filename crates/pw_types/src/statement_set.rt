@@ -1,6 +1,6 @@
 //! Assignments.
 ghost use Rattle.std.specs.Prelude.{◌≡◌, suc, option_map, slice_index_or};
-ghost use Rattle.pw_tree.specs.Phrases.{phrase_of};
+ghost use Rattle.pw_tree.specs.Expressions.{expression_of};
 ghost use Rattle.pw_tree.specs.Placed as placed;
 ghost use Rattle.pw_tree.specs.Statements as statement;
 ghost use Rattle.pw_types.specs.Faults.{Judges};
@@ -54,7 +54,7 @@ fn set_end(in_head: bool, at: Span) -> u64
 /// The `]` behind the index of an assignment: as many brackets stand round the index behind it as before it.
 #[tactic(auto, using(crate::proofs::PhrasePlaces::place_is))]
 fn index_end(at: Span, i: &Expr) -> u64
-    ensures { result ≡ placed.index_end (place_of at) (phrase_of i.now) }
+    ensures { result ≡ placed.index_end (place_of at) (expression_of i.now) }
 {
     let before = u64::from(i.first).saturating_sub(u64::from(at.first) + 2);
     u64::from(i.last) + before + 1
@@ -113,7 +113,7 @@ impl<'a> Walk<'a> {
 
     /// An index: a number. Refusal: `Operands`, at the `]`.
     fn index(&mut self, at: Span, i: &Expr) -> Result<Typed, Stop>
-        ensures { JudgesIndex (place_of at) (phrase_of i.now) self.old self.new result }
+        ensures { JudgesIndex (place_of at) (expression_of i.now) self.old self.new result }
     {
         let typed = judge(self.alloc, &self.scope, &mut self.used, Role::Value, i)?;
         if !is_number(typed.tree.ty) {
@@ -124,7 +124,7 @@ impl<'a> Walk<'a> {
 
     /// What an element is assigned; the index, which holds so many values beside it, is kept meanwhile.
     fn element_value(&mut self, beside: u32, ty: Ty, e: &Expr, end: u64) -> Result<TExpr, Stop>
-        ensures { JudgesElementValue beside ty (phrase_of e.now) end self.old self.new result }
+        ensures { JudgesElementValue beside ty (expression_of e.now) end self.old self.new result }
     {
         let role = Role::Assigned(Some(ty));
         let typed = judge(self.alloc, &self.scope, &mut self.used, role, e)?;
@@ -141,7 +141,7 @@ impl<'a> Walk<'a> {
         name: &Name,
         value: &Expr,
     ) -> Result<TStmt, Stop>
-        ensures { Finishes (outcome_at setting.now self.old (statement.set (place_of at) name.now None (phrase_of value.now))) self.new result }
+        ensures { Finishes (outcome_at setting.now self.old (statement.set (place_of at) name.now None (expression_of value.now))) self.new result }
     {
         let end = set_end(setting.in_head, at);
         match self.target(name, at.first)? {
@@ -168,7 +168,7 @@ impl<'a> Walk<'a> {
         index: &Expr,
         value: &Expr,
     ) -> Result<TStmt, Stop>
-        ensures { Finishes (outcome_at setting.now self.old (statement.set (place_of at) name.now (Some (phrase_of index.now)) (phrase_of value.now))) self.new result }
+        ensures { Finishes (outcome_at setting.now self.old (statement.set (place_of at) name.now (Some (expression_of index.now)) (expression_of value.now))) self.new result }
     {
         let end = set_end(setting.in_head, at);
         let array = self.array(name, at.first)?;
@@ -188,7 +188,7 @@ impl<'a> Walk<'a> {
         index: &Option<Expr>,
         value: &Expr,
     ) -> Result<TStmt, Stop>
-        ensures { Finishes (outcome_at setting.now self.old (statement.set (place_of at) name.now (option_map phrase_of index.now) (phrase_of value.now))) self.new result }
+        ensures { Finishes (outcome_at setting.now self.old (statement.set (place_of at) name.now (option_map expression_of index.now) (expression_of value.now))) self.new result }
     {
         match index {
             None => self.set(setting, at, name, value),

@@ -1,8 +1,8 @@
 //! Statements that hold no others and declare and assign nothing.
 ghost use Rattle.std.specs.Prelude.{◌≡◌, option_map, not};
-ghost use Rattle.pw_tree.specs.Phrases.{Place, phrase_of};
+ghost use Rattle.pw_tree.specs.Expressions.{Span, expression_of};
 ghost use Rattle.pw_tree.specs.Statements as statement;
-ghost use Rattle.pw_tree.specs.Commands.{command_of};
+ghost use Rattle.pw_tree.specs.TypedStatements.{typed_statement_of};
 ghost use Rattle.pw_types.specs.Faults.{Judges, broken};
 ghost use Rattle.pw_types.specs.CheckingStatements.{Finishes, outcome_at, judged_at, place_of};
 
@@ -19,7 +19,7 @@ use sqlite_items::Items;
 /// `;`
 #[tactic(auto, using(crate::proofs::SimpleStatements::empty_is), unfolding(crate::specs::Statements::faults_by))]
 pub(crate) fn empty(walk: &Walk<'_>, setting: &Setting<'_>, at: Span) -> TStmt
-    ensures { outcome_at setting.now walk.now (statement.empty (place_of at)) ≡ judged_at (command_of result) walk.now }
+    ensures { outcome_at setting.now walk.now (statement.empty (place_of at)) ≡ judged_at (typed_statement_of result) walk.now }
 {
     TStmt::Block(Items::new(walk.alloc))
 }
@@ -50,7 +50,7 @@ impl<'a> Walk<'a> {
     /// `e ;`
     #[tactic(auto, unfolding(crate::specs::Statements::faults_by))]
     pub fn evaluate(&mut self, setting: &Setting<'_>, at: Span, e: &Expr) -> Result<TStmt, Stop>
-        ensures { Finishes (outcome_at setting.now self.old (statement.evaluate (place_of at) (phrase_of e.now))) self.new result }
+        ensures { Finishes (outcome_at setting.now self.old (statement.evaluate (place_of at) (expression_of e.now))) self.new result }
     {
         Ok(TStmt::Eval(self.value(Role::Statement, e)?))
     }
@@ -69,7 +69,7 @@ impl<'a> Walk<'a> {
     /// `return e ;`. Refusal: `ReturnType`.
     #[tactic(auto, unfolding(crate::specs::Statements::faults_by))]
     fn return_value(&mut self, setting: &Setting<'_>, at: Span, e: &Expr) -> Result<TStmt, Stop>
-        ensures { Finishes (outcome_at setting.now self.old (statement.returns (place_of at) (Some (phrase_of e.now)))) self.new result }
+        ensures { Finishes (outcome_at setting.now self.old (statement.returns (place_of at) (Some (expression_of e.now)))) self.new result }
     {
         let value = self.value(Role::Value, e)?;
         if is_void(setting.result) || !converts(value.ty, setting.result) {
@@ -85,7 +85,7 @@ impl<'a> Walk<'a> {
         at: Span,
         value: &Option<Expr>,
     ) -> Result<TStmt, Stop>
-        ensures { Finishes (outcome_at setting.now self.old (statement.returns (place_of at) (option_map phrase_of value.now))) self.new result }
+        ensures { Finishes (outcome_at setting.now self.old (statement.returns (place_of at) (option_map expression_of value.now))) self.new result }
     {
         match value {
             None => self.return_none(setting, at),

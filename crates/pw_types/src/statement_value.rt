@@ -1,6 +1,6 @@
 //! The expressions of statements.
 ghost use Rattle.std.specs.Prelude.{◌≡◌, ◌≢◌, max, nat_lt, option_map, [], ◌∷◌, OnOk};
-ghost use Rattle.pw_tree.specs.Phrases.{phrase_of};
+ghost use Rattle.pw_tree.specs.Expressions.{expression_of};
 ghost use Rattle.pw_types.specs.Faults.{Judges, broken};
 ghost use Rattle.pw_types.specs.StatementValues.{JudgesWhole, JudgesValue, JudgesMaybeValue, Notes};
 
@@ -28,7 +28,7 @@ impl<'a> Walk<'a> {
     /// The typed tree of an expression with nothing round it; where it holds too many values, this is the token to blame.
     pub fn whole(&mut self, role: Role, e: &Expr, end: u64) -> Result<TExpr, Stop>
         requires { role ≢ Role.Base }
-        ensures { JudgesWhole role (phrase_of e.now) end self.old self.new result }
+        ensures { JudgesWhole role (expression_of e.now) end self.old self.new result }
     {
         let typed = judge(self.alloc, &self.scope, &mut self.used, role, e)?;
         self.hold(typed.held, end)?;
@@ -38,7 +38,7 @@ impl<'a> Walk<'a> {
     /// The typed tree of a whole expression of a statement.
     pub fn value(&mut self, role: Role, e: &Expr) -> Result<TExpr, Stop>
         requires { role ≢ Role.Base }
-        ensures { JudgesValue role (phrase_of e.now) self.old self.new result }
+        ensures { JudgesValue role (expression_of e.now) self.old self.new result }
     {
         self.whole(role, e, u64::from(e.last))
     }
@@ -46,7 +46,7 @@ impl<'a> Walk<'a> {
     /// The same where there is one.
     pub fn maybe_value(&mut self, role: Role, e: &Option<Expr>) -> Result<Option<TExpr>, Stop>
         requires { role ≢ Role.Base }
-        ensures { JudgesMaybeValue role (option_map phrase_of e.now) self.old self.new result }
+        ensures { JudgesMaybeValue role (option_map expression_of e.now) self.old self.new result }
     {
         match e {
             Some(e) => Ok(Some(self.value(role, e)?)),

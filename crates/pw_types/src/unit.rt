@@ -1,7 +1,7 @@
 //! A whole unit: its first fault, or its typed unit.
 ghost use Rattle.std.specs.Prelude.{◌≡◌, ⊤, [], map, find, option_copied, IfOk};
-ghost use Rattle.pw_tree.specs.Declarations.{declaration_of, written_unit_of};
-ghost use Rattle.pw_tree.specs.Placed.{HaveTypes, IsWritten};
+ghost use Rattle.pw_tree.specs.Declarations.{declaration_of, untyped_unit_of};
+ghost use Rattle.pw_tree.specs.Placed.{HaveTypes, IsParsed};
 ghost use Rattle.pw_tree.specs.Units.{unit_of};
 ghost use Rattle.pw_types.specs.Faults.{Judges};
 ghost use Rattle.pw_types.specs.Units as spec;
@@ -103,8 +103,8 @@ fn judge_end(alloc: Global, files: &[File], last: u32) -> Result<(), Stop>
 /// The typed unit, or the first fault.
 #[tactic(auto, using(crate::proofs::UnitTexts::texts_behind), unfolding(crate::specs::Texts::HaveTexts))]
 pub(crate) fn judge_unit(alloc: Global, unit: &Unit) -> Result<TUnit, Stop>
-    requires { IsWritten (written_unit_of unit.now) }
-    ensures { Judges (spec.faults_of (written_unit_of unit.now)) (λ typed. unit_of typed ≡ spec.typed_unit (written_unit_of unit.now)) result }
+    requires { IsParsed (untyped_unit_of unit.now) }
+    ensures { Judges (spec.faults_of (untyped_unit_of unit.now)) (λ typed. unit_of typed ≡ spec.typed_unit (untyped_unit_of unit.now)) result }
 {
     let decls = unit.decls.as_slice();
     let lines = unit.lines.as_slice();

@@ -1,5 +1,5 @@
 use Rattle.std.proofs.Common.{◌∙◌, sym, ap, subst, arith, Err}
-use Rattle.pw_grammar.specs.Steps.{Outcome, Reads}
+use Rattle.pw_grammar.specs.Steps.{ReadResult, Reads}
 use Rattle.pw_tree.specs.declared.expr.Expr.{Expr}
 use Rattle.pw_parse.proofs.Levels.{less_deep, too_deep}
 use Rattle.pw_parse.proofs.expression.+expression.Goals as goal
@@ -10,5 +10,5 @@ returns-then-depth-eq0 t c _ =
 
 pub returns : goal.returns
 returns t c =
-    let P : Outcome Expr → Type 0 = λ o. Reads o c.choice.result c.choice.new.cursor in
+    let P : ReadResult Expr → Type 0 = λ o. Reads o c.choice.result c.choice.new.cursor in
     subst P (less_deep c.args.depth c.args.cursor.now (omega arith)) c.choice.ensures

@@ -1,5 +1,5 @@
 use Rattle.std.proofs.Common.{◌<◌, IfOk, ap, sym, subst}
-use Rattle.pw_tree.specs.Phrases.{Phrase}
+use Rattle.pw_tree.specs.Expressions.{Expression}
 use Rattle.pw_types.specs.CheckingExpressions.{checked}
 use Rattle.pw_types.specs.ResumingExpressions.{ContinuesWith, step_size, size}
 use Rattle.pw_types.proofs.Phrases.{as_unary, as_binary, as_choice, as_call}
@@ -28,13 +28,13 @@ returns-in-Cond-clause-continues c =
 pub returns-in-Call-clause-continues : goal.returns-in-Call-clause-continues
 unfolding checked
 returns-in-Call-clause-continues c =
-    let P : Phrase → Type 0 = λ p. ContinuesWith c.args.scope.now (checked c.args.scope.now c.args.role p) c.args.used.now.items c.call.new.used.items c.call.result in
+    let P : Expression → Type 0 = λ p. ContinuesWith c.args.scope.now (checked c.args.scope.now c.args.role p) c.args.used.now.items c.call.new.used.items c.call.result in
     subst P (sym (as_call c.args.e.now c.in-Call.callee c.get-in-Call.result.now c.in-Call.es c.as_slice.result.now c.in-Call.is
     (sym c.get-in-Call.ensures) (sym c.as_slice.ensures))) c.call.ensures.continues
 
 pub returns-in-Call-clause-smaller : goal.returns-in-Call-clause-smaller
 unfolding size
 returns-in-Call-clause-smaller c =
-    let P : Phrase → Type 0 = λ p. IfOk c.call.result (λ step. step_size step < size p) in
+    let P : Expression → Type 0 = λ p. IfOk c.call.result (λ step. step_size step < size p) in
     subst P (sym (as_call c.args.e.now c.in-Call.callee c.get-in-Call.result.now c.in-Call.es c.as_slice.result.now c.in-Call.is
     (sym c.get-in-Call.ensures) (sym c.as_slice.ensures))) c.call.ensures.smaller

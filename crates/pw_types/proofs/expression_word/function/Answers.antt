@@ -1,10 +1,10 @@
 use Rattle.std.proofs.Common.{◌≡◌, Some, sym}
-use Rattle.pw_tree.specs.Phrases.{phrase_of}
+use Rattle.pw_tree.specs.Expressions.{expression_of}
 use Rattle.pw_types.specs.Words.{word_in}
 use Rattle.pw_types.proofs.Words.{function_by_word}
 use Rattle.pw_types.proofs.expression_word.function.Goals as goal
 
 pub returns-in-Some : goal.returns-in-Some
 returns-in-Some c =
-    let is : word_in (phrase_of c.args.e.now) ≡ Some c.in-Some.name.now = sym c.in-Some.ensures in
-    function_by_word c.args.scope.now (phrase_of c.args.e.now) c.in-Some.name.now c.function_named.result is c.function_named.ensures
+    let is : word_in (expression_of c.args.e.now) ≡ Some c.in-Some.name.now = sym c.in-Some.ensures in
+    function_by_word c.args.scope.now (expression_of c.args.e.now) c.in-Some.name.now c.function_named.result is c.function_named.ensures

@@ -1,6 +1,6 @@
 use Rattle.std.proofs.Common.{arith, sym, subst}
 use Rattle.pw_types.specs.StatementWeights.{weight_of_maybe}
-use Rattle.pw_types.specs.CheckingStatements.{Outcome, Steps}
+use Rattle.pw_types.specs.CheckingStatements.{WalkResult, Steps}
 use Rattle.pw_types.proofs.EnteringStatements.{enters_for, enters_bare_for, is_present, is_absent}
 use Rattle.pw_types.proofs.statement_walk.Walk.enter_for.Goals as goal
 
@@ -16,6 +16,6 @@ returns-in-Some-clause-less c =
 
 pub returns-in-None-clause-judged : goal.returns-in-None-clause-judged
 returns-in-None-clause-judged c =
-    λ at. subst (λ (w : Outcome). Steps w c.behind_first.new.self c.behind_first.result)
+    λ at. subst (λ (w : WalkResult). Steps w c.behind_first.new.self c.behind_first.result)
     (sym (enters_bare_for c.args.setting.now c.outer-outer.result c.args.self.now at _ _ _ _ (is_absent c.args.first.now c.in-None.is) c.outer-outer.ensures))
     c.behind_first.ensures.judged

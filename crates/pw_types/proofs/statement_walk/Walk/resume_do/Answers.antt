@@ -1,12 +1,12 @@
 use Rattle.std.proofs.lemmas.Result.{err_from_is_err_and}
-use Rattle.pw_tree.specs.Commands.{command_of}
+use Rattle.pw_tree.specs.TypedStatements.{typed_statement_of}
 use Rattle.pw_types.proofs.ResumingStatements.{do_is_done, do_fails}
 use Rattle.pw_types.proofs.statement_walk.Walk.resume_do.Goals as goal
 
 pub returns-in_err-c : goal.returns-in_err-c
 returns-in_err-c c =
     let p = err_from_is_err_and c.from_residual-in_err-c.result c.from_residual-in_err-c.ensures.1 in
-    rw (p.1, p.2) (do_fails c.args.outer.now c.args.self.now c.leave.new.self c.value.new.self _ (command_of c.args.command) c.in_err-c.field-0.0 c.leave.ensures c.in_err-c.ensures)
+    rw (p.1, p.2) (do_fails c.args.outer.now c.args.self.now c.leave.new.self c.value.new.self _ (typed_statement_of c.args.command) c.in_err-c.field-0.0 c.leave.ensures c.in_err-c.ensures)
 
 pub returns : goal.returns
 returns c =
