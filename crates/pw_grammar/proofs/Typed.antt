@@ -9,7 +9,8 @@ use Rattle.pw_grammar.specs.Statements as statement
 use Rattle.pw_grammar.specs.Declarations.{ResultDerivation, IsResult, result_in, spelled_parameter, MoreParameters, ParametersDerivation, none, some, AreMoreParameters, AreParameters, has_name, named, AllNamed, more_parameters_of, parameters_of, DeclarationDerivation, prototype, function, variable, spelled_declaration, IsDeclaration, tree_of_declaration, UnitDerivation, IsUnit, trees_of_declarations}
 use Rattle.pw_grammar.specs.Declarations as phrase
 use Rattle.pw_tree.specs.Declarations.{declaration_of}
-use Rattle.pw_tree.specs.Placed.{IsValueType, HaveValueTypes, HasTypes, HaveTypes}
+use Rattle.pw_tree.specs.Placed.{HaveValueTypes, HasTypes, HaveTypes}
+use Rattle.pw_tree.specs.Types.{IsValueType}
 use Rattle.pw_tree.specs.Placed as placed
 use Rattle.pw_tree.specs.declared.ty.Ty.{Ty}
 use Rattle.pw_tree.specs.declared.ty.Ty.TheVariants as ty

@@ -6,6 +6,7 @@ use Rattle.pw_grammar.specs.declared.error.SyntaxError.{SyntaxError}
 use Rattle.pw_grammar.specs.declared.error.SyntaxError.TheVariants.{At, TooNested, TooLong, NoMemory}
 use Rattle.pw_grammar.specs.Terminals.{sort, first_sort}
 use Rattle.pw_grammar.specs.Declarations.{DeclarationDerivation, function, spelled_declaration, spelled_storage, spelled_result, spelled_parameters, UnitDerivation, spelled_unit, IsUnit}
+use Rattle.pw_base.specs.Limits.{open_brackets, function_tokens}
 use Rattle.pw_lex.specs.declared.token.Token.{Token}
 
 -- ---- prefixes
@@ -64,7 +65,7 @@ before_body _ = None
 -- token t, counted from the declaration's first, stands in the body, its braces included, behind 8,192 others
 abbrev pub IsLate : DeclarationDerivation → ℕ → Option ℕ → Type 0
 IsLate c t None = ⊥
-IsLate c t (Some brace) = (brace ≤ t) × (8192 ≤ t) × (t < length (spelled_declaration c))
+IsLate c t (Some brace) = (brace ≤ t) × (function_tokens ≤ t) × (t < length (spelled_declaration c))
 
 -- token t, counted from the unit's first, stands so in one of its functions
 unfoldable pub StandsLate : UnitDerivation → ℕ → Type 0
@@ -88,7 +89,7 @@ IsStuck tokens t = ((t < length tokens) × (Begins (take (suc t) tokens) → ⊥
 
 abbrev pub IsFault : List Token → SyntaxError → Type 0
 IsFault tokens (At t) = IsStuck tokens t
-IsFault tokens (TooNested t) = (t < length tokens) × (opens_by (first_sort (drop t tokens)) ≡ true) × (200 ≤ open_behind 0 (take t tokens))
+IsFault tokens (TooNested t) = (t < length tokens) × (opens_by (first_sort (drop t tokens)) ≡ true) × (open_brackets ≤ open_behind 0 (take t tokens))
 IsFault tokens (TooLong t) = (t < length tokens) × GoesOnTooLong tokens t
 IsFault tokens NoMemory = ⊥
 

@@ -5,12 +5,13 @@ use Rattle.std.specs.Prelude.{ℕ, suc, ◌+◌, Bool, false, ◌||◌, ◌&&◌
 use Rattle.pw_grammar.specs.declared.sort.Sort.TheVariants as s
 use Rattle.pw_grammar.specs.Terminals.{sort, is_same}
 use Rattle.pw_grammar.specs.Faults.{opens, bracket}
+use Rattle.pw_base.specs.Limits.{open_brackets, function_tokens}
 use Rattle.pw_lex.specs.declared.token.Token.{Token}
 
 -- the first token that opens a bracket where 200 are open; the first of the tokens has the number `at`, and n are open
 unfoldable pub first_nested : ℕ → ℕ → List Token → Option ℕ
 first_nested at n [] = None
-first_nested at n (t ∷ ts) = if opens t && nat_le 200 n then Some at else first_nested (suc at) (bracket n t) ts
+first_nested at n (t ∷ ts) = if opens t && nat_le open_brackets n then Some at else first_nested (suc at) (bracket n t) ts
 
 -- where a reader of declarations stands
 pub record Walk : Type 0 where
@@ -28,7 +29,7 @@ abbrev pub is_inside : Walk → Token → Bool
 is_inside w t = w.in_body || (is_same (sort t) s.LeftBrace && w.depth == 0 && w.behind_list)
 
 abbrev pub is_late : Walk → Token → Bool
-is_late w t = is_inside w t && nat_le (w.start + 8192) w.at
+is_late w t = is_inside w t && nat_le (w.start + function_tokens) w.at
 
 -- whether the declaration ends with the token
 abbrev pub is_last : Walk → Token → Bool

@@ -1,11 +1,11 @@
--- The rows of the listing: what a instruction_word that matches one has, and that the instruction_word of one matches it.
+-- The rows of the listing: what an instruction word that matches one has, and that the instruction word of one matches it.
 use Rattle.std.proofs.Common.{◌≡◌, ℕ, ℤ, ◌+◌, ◌%◌, ◌^◌, ◌<◌, Bool, true, refl, sym, subst, ap, ◌∙◌, arith}
 use Rattle.std.specs.Prelude.{nat_eq, nat_lt, ◌&&◌}
 use Rattle.std.proofs.lemmas.Bool.Decides.{nat_tests}
 use Rattle.pw_isa.specs.Formats.{Row, R, I, Shift, ShiftW, S, B, U, J, Free, Exact, Fits, HasOperands, has_code, instruction_word, bits, pattern, sign_extend, FitsField, IsEven, opcode_of, funct3_of, funct7_of, funct6_of}
 use Rattle.pw_isa.proofs.Immediates.{FitsField-sign_extend, IsEven-sign_extend, pattern-sign_extend, sign_extend-pattern, pattern_fits, pattern_even}
 
--- operands that stand in a instruction_word have room in their format
+-- operands that stand in an instruction word have room in their format
 pub operands_fit : (w : ℕ) (r : Row) → HasOperands w r → Fits r
 operands_fit w (R _ _ _ rd rs1 rs2) h = (omega arith, omega arith, omega arith)
 operands_fit w (I _ _ rd rs1 imm) h =
@@ -44,12 +44,12 @@ all_three a b c d e f h = (grind (arith, nat_tests), grind (arith, nat_tests), g
 pattern_is : (sign n : ℕ) (imm : ℤ) → n < sign + sign → sign_extend sign n ≡ imm → pattern (sign + sign) imm ≡ n
 pattern_is sign n imm small e = subst (λ v. pattern (sign + sign) v ≡ n) e (pattern-sign_extend sign n small)
 
--- the row of a instruction_word says all of its bits
+-- the row of an instruction word says all of its bits
 abbrev pub IsWhole : Row → Type 0
 IsWhole (Free _ _ _) = ⊥
 IsWhole _ = Unit {0}
 
--- then the instruction_word of a row that a instruction_word matches is that instruction_word
+-- then the instruction word of a row that an instruction word matches is that instruction word
 pub word_is : (w : ℕ) (r : Row) → w < 2 ^ 32 → IsWhole r → has_code w r ≡ true → HasOperands w r → instruction_word r ≡ w
 word_is w (R op f3 f7 rd rs1 rs2) small _ code h =
     let c : (opcode_of w ≡ op) × (funct3_of w ≡ f3) × (funct7_of w ≡ f7) = all_three _ _ _ _ _ _ code in
@@ -116,7 +116,7 @@ two_tests a b c d h k = grind (arith, nat_tests)
 three_tests : (a b c d e f : ℕ) → a ≡ b → c ≡ d → e ≡ f → (nat_eq a b && nat_eq c d && nat_eq e f) ≡ true
 three_tests a b c d e f h k l = grind (arith, nat_tests)
 
--- the instruction_word of a row has the numbers that the row fixes
+-- the instruction word of a row has the numbers that the row fixes
 pub word_has_code : (r : Row) → fits_code r ≡ true → Fits r → has_code (instruction_word r) r ≡ true
 word_has_code (R op f3 f7 rd rs1 rs2) code h =
     let c : (op < 128) × (f3 < 8) × (f7 < 128) = all_less _ _ _ _ _ _ code in
@@ -202,7 +202,7 @@ word_has_operands (J op rd imm) code h =
 word_has_operands (Free op f3 n) code h = tt
 word_has_operands (Exact n) code h = tt
 
--- and it is a instruction_word of 32 bits
+-- and it is an instruction word of 32 bits
 pub word_fits : (r : Row) → fits_code r ≡ true → Fits r → instruction_word r < 2 ^ 32
 word_fits (R op f3 f7 rd rs1 rs2) code h =
     let c : (op < 128) × (f3 < 8) × (f7 < 128) = all_less _ _ _ _ _ _ code in

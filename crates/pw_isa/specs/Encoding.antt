@@ -1,11 +1,11 @@
--- Encoding and decoding: the instruction_word of an instruction, and the instruction of a instruction_word.
+-- Encoding and decoding: the instruction word of an instruction, and the instruction of an instruction word.
 use Rattle.std.specs.Prelude.{ℕ, ℤ, ◌≡◌, Option, true, List, [], ◌∷◌, ◌++◌, find}
 use Rattle.pw_isa.specs.declared.instruction.Inst.{Inst}
 use Rattle.pw_isa.specs.declared.instruction.Inst.TheVariants.{Lui, Auipc, Jal, Jalr, Beq, Bne, Blt, Bge, Bltu, Bgeu, Lb, Lh, Lw, Lbu, Lhu, Sb, Sh, Sw, Addi, Slti, Sltiu, Xori, Ori, Andi, Add, Sub, Sll, Slt, Sltu, Xor, Srl, Sra, Or, And, Fence, Ecall, Ebreak, Lwu, Ld, Sd, Slli, Srli, Srai, Addiw, Slliw, Srliw, Sraiw, Addw, Subw, Sllw, Srlw, Sraw, Mul, Mulh, Mulhsu, Mulhu, Div, Divu, Rem, Remu, Mulw, Divw, Divuw, Remw, Remuw}
 use Rattle.pw_isa.specs.Formats.{instruction_word, Fits, has_code, HasOperands, rd_of, rs1_of, rs2_of, shamt_of, i_immediate_of, s_immediate_of, b_immediate_of, u_immediate_of, j_immediate_of}
 use Rattle.pw_isa.specs.Listing.{row}
 
--- the instruction_word that an instruction is written as
+-- the instruction word that an instruction is written as
 abbrev pub word_of : Inst → ℕ
 word_of i = instruction_word (row i)
 
@@ -13,12 +13,12 @@ word_of i = instruction_word (row i)
 abbrev pub IsEncodable : Inst → Type 0
 IsEncodable i = Fits (row i)
 
--- a instruction_word matches the row of an instruction: it has the row's fixed numbers, and the operands in their places
+-- an instruction word matches the row of an instruction: it has the row's fixed numbers, and the operands in their places
 pub record Matches (w : ℕ) (i : Inst) : Type 0 where
   pub code : has_code w (row i) ≡ true
   pub operands : HasOperands w (row i)
 
--- an instruction of each format, with the operands that a instruction_word has
+-- an instruction of each format, with the operands that an instruction word has
 module _ (w : ℕ) where
   abbrev pub r_type : (ℕ → ℕ → ℕ → Inst) → Inst
   r_type make = make (rd_of w) (rs1_of w) (rs2_of w)
@@ -98,10 +98,10 @@ every w =
     lui w ++ auipc w ++ jal w ++ jalr w ++ branches w ++ loads w ++ stores w
     ++ op_imm w ++ op w ++ misc_mem w ++ system w ++ op_imm_32 w ++ op_32 w
 
--- the instruction among these whose fixed numbers a instruction_word has
+-- the instruction among these whose fixed numbers an instruction word has
 abbrev pub among : ℕ → List Inst → Option Inst
 among w is = find (λ i. has_code w (row i)) is
 
--- the instruction that a instruction_word is read as
+-- the instruction that an instruction word is read as
 unfoldable pub decoded : ℕ → Option Inst
 decoded w = among w (every w)

@@ -1,11 +1,11 @@
--- The formats of an instruction instruction_word: where each field stands, and what immediate a instruction_word has.
+-- The formats of an instruction word: where each field stands, and what immediate an instruction word has.
 use Rattle.std.specs.Prelude.{ℕ, suc, ℤ, pos, negsuc, ◌≡◌, ◌+◌, ◌-◌, ◌*◌, ◌/◌, ◌%◌, ◌^◌, ◌<◌, Bool, ◌&&◌, nat_eq, nat_lt, if◌then◌else◌}
 
 -- bits high to low of a number, as the manual writes [high:low]
 abbrev pub bits : ℕ → ℕ → ℕ → ℕ
 bits n high low = n / 2 ^ low % 2 ^ (suc high - low)
 
--- the fields of a instruction_word (unprivileged manual, "Base Instruction Formats")
+-- the fields of an instruction word (unprivileged manual, "Base Instruction Formats")
 abbrev pub opcode_of : ℕ → ℕ
 opcode_of w = bits w 6 0
 
@@ -35,7 +35,7 @@ funct6_of w = bits w 31 26
 abbrev pub sign_extend : ℕ → ℕ → ℤ
 sign_extend sign n = if nat_lt n sign then pos n else negsuc (sign + sign - suc n)
 
--- the immediate that each format has in a instruction_word ("Immediate Encoding Variants")
+-- the immediate that each format has in an instruction word ("Immediate Encoding Variants")
 abbrev pub i_immediate_of : ℕ → ℤ
 i_immediate_of w = sign_extend (2 ^ 11) (bits w 31 20)
 
@@ -67,9 +67,9 @@ pub data Row : Type 0 where
   B : (opcode funct3 rs1 rs2 : ℕ) (imm : ℤ) → Row
   U : (opcode rd : ℕ) (imm : ℤ) → Row
   J : (opcode rd : ℕ) (imm : ℤ) → Row
-  -- all other fields are ignored when read; when written, they are those of the instruction_word
+  -- all other fields are ignored when read; when written, they are those of the instruction word
   Free : (opcode funct3 instruction_word : ℕ) → Row
-  -- one instruction_word alone
+  -- one instruction word alone
   Exact : (instruction_word : ℕ) → Row
 
 -- a number of a field whose sign bit has this weight
@@ -99,7 +99,7 @@ abbrev pub pattern : ℕ → ℤ → ℕ
 pattern size (pos n) = n % size
 pattern size (negsuc n) = size - suc (n % size)
 
--- a instruction_word by the fields of the R format
+-- an instruction word by the fields of the R format
 abbrev pub r_word : ℕ → ℕ → ℕ → ℕ → ℕ → ℕ → ℕ
 r_word opcode funct3 funct7 rd rs1 rs2 =
     funct7 * 2 ^ 25 + rs2 * 2 ^ 20 + rs1 * 2 ^ 15 + funct3 * 2 ^ 12 + rd * 2 ^ 7 + opcode
@@ -125,7 +125,7 @@ abbrev pub j_word : ℕ → ℕ → ℕ → ℕ
 j_word opcode rd imm =
     bits imm 20 20 * 2 ^ 31 + bits imm 10 1 * 2 ^ 21 + bits imm 11 11 * 2 ^ 20 + bits imm 19 12 * 2 ^ 12 + rd * 2 ^ 7 + opcode
 
--- the instruction_word of a row
+-- the instruction word of a row
 abbrev pub instruction_word : Row → ℕ
 instruction_word (R opcode funct3 funct7 rd rs1 rs2) = r_word opcode funct3 funct7 rd rs1 rs2
 instruction_word (I opcode funct3 rd rs1 imm) = i_word opcode funct3 rd rs1 (pattern (2 ^ 12) imm)
@@ -138,7 +138,7 @@ instruction_word (J opcode rd imm) = j_word opcode rd (pattern (2 ^ 21) imm)
 instruction_word (Free _ _ n) = n
 instruction_word (Exact n) = n
 
--- a instruction_word has the numbers that a row fixes
+-- an instruction word has the numbers that a row fixes
 abbrev pub has_code : ℕ → Row → Bool
 has_code w (R opcode funct3 funct7 _ _ _) =
     nat_eq (opcode_of w) opcode && nat_eq (funct3_of w) funct3 && nat_eq (funct7_of w) funct7
@@ -154,7 +154,7 @@ has_code w (J opcode _ _) = nat_eq (opcode_of w) opcode
 has_code w (Free opcode funct3 _) = nat_eq (opcode_of w) opcode && nat_eq (funct3_of w) funct3
 has_code w (Exact n) = nat_eq w n
 
--- a instruction_word has the operands of a row in the places of its format
+-- an instruction word has the operands of a row in the places of its format
 abbrev pub HasOperands : ℕ → Row → Type 0
 HasOperands w (R _ _ _ rd rs1 rs2) = (rd_of w ≡ rd) × (rs1_of w ≡ rs1) × (rs2_of w ≡ rs2)
 HasOperands w (I _ _ rd rs1 imm) = (rd_of w ≡ rd) × (rs1_of w ≡ rs1) × (i_immediate_of w ≡ imm)

@@ -24,7 +24,7 @@ OtherWordsStay = (m : Mem) (a b v x : ℕ) → doubleword m a ≡ Some v → a �
 abbrev pub WordsAreNoText : Type 0
 WordsAreNoText = (m : Mem) (a b v x : ℕ) → m.sealed ≡ true → doubleword m a ≡ Some v → fetch (put_word m a x) b ≡ fetch m b
 
--- instruction doubleword `k` of the text that an executable region begins with is fetched from its place
+-- instruction word `k` of the text that an executable region begins with is fetched from its place
 abbrev pub TextIsFetched : Type 0
 TextIsFetched =
     (m : Mem) (r : MappedRegion) (ws pad : List ℕ) (k : ℕ) → region_at m.regions (r.start + 4 * k) 4 ≡ Some r → r.execute ≡ true

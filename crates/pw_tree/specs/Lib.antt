@@ -1,9 +1,11 @@
 pub mod Expressions
 pub mod Statements
 pub mod Declarations
+pub mod Types
 pub mod Placed
 pub mod TypedExpressions
 pub mod TypedStatements
+pub mod Held
 pub mod Units
 pub mod Numbers
 pub mod TypeTexts

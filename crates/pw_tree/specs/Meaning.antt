@@ -1,6 +1,7 @@
 -- What a project means: what a call comes to, and with it the output and the end of a run.
 use Rattle.std.specs.Prelude.{ℕ, zero, suc, List, [], Option, Some, None, slice_get, unwrap_or, option_map, option_and_then, codes, false}
 use Rattle.std.specs.Option.{option_map_or}
+use Rattle.pw_base.specs.Limits.{calls as calls_limit}
 use Rattle.pw_tree.specs.TypedStatements.{nil}
 use Rattle.pw_tree.specs.Units.{Function}
 use Rattle.pw_tree.specs.Names.{Project, Definition, Entity, function, object, resolved, function_at, variable_at}
@@ -89,7 +90,7 @@ initial_state project input bound = record {
   input = input;
   output = [];
   steps = bound;
-  calls = 1000;
+  calls = calls_limit;
 }
 
 -- What a run ends with: the value of `main`, or why it stopped.

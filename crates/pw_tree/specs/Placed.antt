@@ -5,6 +5,7 @@ use Rattle.pw_tree.specs.declared.ty.Ty.{Ty}
 use Rattle.pw_tree.specs.declared.ty.Ty.TheVariants.{Void, Long, Ulong, Fn}
 use Rattle.pw_tree.specs.declared.decl.Param.{Param}
 use Rattle.pw_tree.specs.declared.decl.InitItem.{InitItem}
+use Rattle.pw_tree.specs.Types.{IsType, IsValueType}
 use Rattle.pw_tree.specs.Expressions.{Span, Expression, Expressions, constant, word, unary, binary, conditional, call, index, input, output}
 use Rattle.pw_tree.specs.Expressions as phrase
 use Rattle.pw_tree.specs.Statements.{Statement, Statements, OptionalStatement, empty, block, local, set, evaluate, if_else, while_loop, do_loop, for_loop, returns, breaks, continues, nil, cons, absent, present}
@@ -175,20 +176,6 @@ AreDeclarationsPlaced low high [] = ⊤
 AreDeclarationsPlaced low high (d ∷ ds) = IsDeclarationPlaced low high d × AreDeclarationsPlaced (suc d.last) high ds
 
 -- ---- types
-
--- pointers are to functions with at most 6 parameters
-abbrev pub IsType : Ty → Type 0
-IsType Void = ⊤
-IsType Long = ⊤
-IsType Ulong = ⊤
-IsType (Fn k) = k ≤ 6
-
--- the same, and it is not void
-abbrev pub IsValueType : Ty → Type 0
-IsValueType Void = ⊥
-IsValueType Long = ⊤
-IsValueType Ulong = ⊤
-IsValueType (Fn k) = k ≤ 6
 
 unfoldable pub HaveValueTypes : List Param → Type 0
 HaveValueTypes [] = ⊤

@@ -45,7 +45,26 @@ mutual
     nil : TypedExpressions
     cons : TypedExpression → TypedExpressions → TypedExpressions
 
--- The typed_expressions of a list.
+-- The mark of an expression.
+abbrev pub mark_of : TypedExpression → Mark
+mark_of (constant at value) = at
+mark_of (local at i) = at
+mark_of (variable at x) = at
+mark_of (designator at f) = at
+mark_of (element at a size i) = at
+mark_of (unary at op e) = at
+mark_of (binary at op unsigned l r) = at
+mark_of (conditional at c a b) = at
+mark_of (call at f es) = at
+mark_of (call_pointer at e es) = at
+mark_of (input at) = at
+mark_of (output at e) = at
+
+-- The type of an expression.
+abbrev pub type_of : TypedExpression → Ty
+type_of e = (mark_of e).ty
+
+-- The typed expressions of a list.
 abbrev pub typed_expressions : List TypedExpression → TypedExpressions
 typed_expressions [] = nil
 typed_expressions (e ∷ es) = cons e (typed_expressions es)
@@ -77,6 +96,6 @@ typed_expression_of = fold-TExpr (Mark → TypedExpression) TypedExpression type
 abbrev pub typed_expression_form_of : TKind → Mark → TypedExpression
 typed_expression_form_of = fold-TKind (Mark → TypedExpression) TypedExpression typed_expression_form typed_expression_step
 
--- The plain typed_expressions of several typed expressions.
+-- The plain typed expressions of several typed expressions.
 abbrev pub typed_expressions_of : List TExpr → TypedExpressions
 typed_expressions_of es = typed_expressions (map typed_expression_of es)

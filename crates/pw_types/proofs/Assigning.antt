@@ -20,10 +20,10 @@ use Rattle.pw_types.specs.declared.statement_walk.Walk.{Walk}
 use Rattle.pw_types.specs.declared.statement_step.Setting.{Setting as Given}
 use Rattle.pw_types.specs.declared.statement_set.Array.{Array}
 use Rattle.pw_types.specs.declared.fault.Stop.{Stop}
-use Rattle.pw_types.specs.Types.{is_number}
+use Rattle.pw_tree.specs.Types.{is_number}
 use Rattle.pw_types.specs.Faults.{broken, broken_by}
 use Rattle.pw_types.specs.Scopes.{Scope, Meaning, meaning}
-use Rattle.pw_types.specs.Held.{held, held_by, held_element}
+use Rattle.pw_tree.specs.Held.{held, held_by, held_element}
 use Rattle.pw_types.specs.Uses.{uses, uses_of_meaning}
 use Rattle.pw_types.specs.Typed.{typed, array_of_meaning, array_of_kind, array_named}
 use Rattle.pw_types.specs.Typed as typed_trees

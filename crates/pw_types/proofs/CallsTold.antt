@@ -8,7 +8,7 @@ use Rattle.pw_tree.specs.TypedExpressions.{TypedExpression, TypedExpressions, ty
 use Rattle.pw_tree.specs.TypedExpressions as tree
 use Rattle.pw_types.specs.declared.role.Role.{Role}
 use Rattle.pw_types.specs.Scopes.{Scope}
-use Rattle.pw_types.specs.Held.{held, held_arguments, count}
+use Rattle.pw_tree.specs.Held.{held, held_arguments, count}
 use Rattle.pw_types.specs.Typed.{with_both, both_trees, typed, typed_all, parameters_of, called, Callee as Called}
 use Rattle.pw_types.specs.Expressions.{faults_of_arguments, other_parameters, callee_in, how_many, own}
 use Rattle.pw_types.specs.Judging.{Judge}

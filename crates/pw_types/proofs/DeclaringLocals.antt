@@ -13,7 +13,7 @@ use Rattle.pw_tree.proofs.CommandFolds.{command_of-SetLocal}
 use Rattle.pw_types.specs.declared.role.Role.TheVariants as roles
 use Rattle.pw_types.specs.declared.statement_walk.Walk.{Walk}
 use Rattle.pw_types.specs.declared.statement_step.Setting.{Setting as Given}
-use Rattle.pw_types.specs.Held.{held_option, held_by}
+use Rattle.pw_tree.specs.Held.{held_option, held_by}
 use Rattle.pw_types.specs.Blocks.{with_local, declaring, uses_by}
 use Rattle.pw_types.specs.Statements.{faults_of_name, faults_of_option, faults_by}
 use Rattle.pw_types.specs.TypedStatements.{typed_expression, typed_statement}

@@ -9,7 +9,7 @@ use Rattle.pw_tree.specs.TypedStatements.{TypedStatement, TypedStatements}
 use Rattle.pw_tree.specs.TypedStatements as command
 use Rattle.pw_types.specs.declared.fault.Fault.{Fault}
 use Rattle.pw_types.specs.declared.role.Role.TheVariants as roles
-use Rattle.pw_types.specs.Held.{held, held_option, held_by, held_by_all, held_by_maybe}
+use Rattle.pw_tree.specs.Held.{held, held_option, held_by, held_by_all, held_by_maybe}
 use Rattle.pw_types.specs.Uses.{uses}
 use Rattle.std.specs.Prelude.{unwrap_or}
 use Rattle.pw_types.specs.Scopes.{Scope}

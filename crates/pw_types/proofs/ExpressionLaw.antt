@@ -9,11 +9,12 @@ use Rattle.pw_types.specs.declared.rule.Rule.TheVariants as rules
 use Rattle.pw_types.specs.declared.role.Role.{Role}
 use Rattle.pw_types.specs.declared.role.Role.TheVariants.{Value, Callee, Base, Written}
 use Rattle.pw_types.specs.declared.fault.Fault.{Fault}
-use Rattle.pw_types.specs.Types.{is_pointer}
+use Rattle.pw_tree.specs.Types.{is_pointer}
 use Rattle.pw_types.specs.Scopes.{Scope, meaning}
 use Rattle.pw_types.specs.Typed as called
-use Rattle.pw_types.specs.Typed.{pointer_of_type, pointer_callee, callee_of, parameters_of, with_both, both_trees, type_of, mark, Array, array_of, Designated, function_of, constant_type, typed, typed_all, typed_unary, typed_binary, typed_choice, typed_element}
-use Rattle.pw_types.specs.Held.{held}
+use Rattle.pw_types.specs.Typed.{pointer_of_type, pointer_callee, callee_of, parameters_of, with_both, both_trees, mark, Array, array_of, Designated, function_of, constant_type, typed, typed_all, typed_unary, typed_binary, typed_choice, typed_element}
+use Rattle.pw_tree.specs.TypedExpressions.{type_of}
+use Rattle.pw_tree.specs.Held.{held}
 use Rattle.pw_types.specs.Uses.{uses, uses_of_all}
 use Rattle.pw_types.specs.Expressions.{is_base, own, faults, faults_of_arguments, callee_in, unless_direct}
 use Rattle.pw_types.specs.Judging.{Judge, ◌>>=◌, refuse, noting, on_option}

@@ -8,9 +8,10 @@ use Rattle.pw_tree.specs.Expressions.{Span}
 use Rattle.pw_tree.specs.TypedExpressions.{TypedExpression}
 use Rattle.pw_tree.specs.TypedExpressions as tree
 use Rattle.pw_types.specs.declared.role.Role.{Role}
-use Rattle.pw_types.specs.Types.{is_number, unary_type, binary_type, choice_type}
-use Rattle.pw_types.specs.Held.{held, holds_left, held_both}
-use Rattle.pw_types.specs.Typed.{type_of, mark, Array, typed_unary, typed_binary, typed_choice, typed_element, with_both, with_three}
+use Rattle.pw_tree.specs.Types.{is_number, unary_type, binary_type, choice_type}
+use Rattle.pw_tree.specs.Held.{held, holds_left, held_both}
+use Rattle.pw_types.specs.Typed.{mark, Array, typed_unary, typed_binary, typed_choice, typed_element, with_both, with_three}
+use Rattle.pw_tree.specs.TypedExpressions.{type_of}
 use Rattle.pw_types.specs.Expressions.{has_type, no_unary, no_binary}
 use Rattle.pw_types.specs.CheckingExpressions.{capped, head, mark_under, of_type, leaf, unary_value, binary_value, choice_value, element_value, output_value}
 use Rattle.pw_types.proofs.Told.{full, Told}

@@ -13,9 +13,9 @@ use Rattle.pw_types.specs.declared.fault.Fault.{Fault}
 use Rattle.pw_types.specs.declared.names.Kind.{Kind}
 use Rattle.pw_types.specs.declared.names.Kind.TheVariants.{Function, Variable}
 use Rattle.pw_types.specs.declared.names.File.{File}
-use Rattle.pw_types.specs.Types.{pointer_to}
+use Rattle.pw_tree.specs.Types.{pointer_to}
 use Rattle.pw_types.specs.Scopes.{Scope, Meaning, missing, a_local, declared, meaning, function_reference, variable_reference}
-use Rattle.pw_types.specs.Held.{held}
+use Rattle.pw_tree.specs.Held.{held}
 use Rattle.pw_types.specs.Faults.{first_of}
 use Rattle.pw_types.specs.Typed.{mark, Array, array_of, typed, array_of_kind, array_of_meaning, Designated, function_of_kind, function_of_meaning, typed_file, typed_name}
 use Rattle.pw_types.specs.Uses.{file_number, uses_of_meaning}

@@ -12,11 +12,12 @@ use Rattle.pw_types.specs.declared.expression_step.Head.{Head}
 use Rattle.pw_types.specs.declared.role.Role.{Role}
 use Rattle.pw_types.specs.declared.role.Role.TheVariants.{Statement, Value, Callee, Base, Argument, Written, Assigned}
 use Rattle.pw_types.specs.declared.fault.Fault.{Fault}
-use Rattle.pw_types.specs.Types.{is_void, is_pointer, converts}
-use Rattle.pw_types.specs.Held.{held}
+use Rattle.pw_tree.specs.Types.{is_void, is_pointer, converts}
+use Rattle.pw_tree.specs.Held.{held}
 use Rattle.pw_types.specs.Scopes.{Scope}
 use Rattle.pw_types.specs.Faults.{broken, broken_by, first_of}
-use Rattle.pw_types.specs.Typed.{type_of, Array, array_of, Designated, function_of, typed}
+use Rattle.pw_types.specs.Typed.{Array, array_of, Designated, function_of, typed}
+use Rattle.pw_tree.specs.TypedExpressions.{type_of}
 use Rattle.pw_types.specs.Expressions.{is_base, is_callee, needs_value, has_type, end_of, is_word, word_of, is_unknown, has_other_operands, has_other_count, own}
 use Rattle.pw_types.specs.Judging.{Judge, pure}
 use Rattle.pw_types.specs.CheckingExpressions.{Valued, capped, head, fault_under, is_other_argument, is_other_value, rule_where, finished_by, finished, of_type}

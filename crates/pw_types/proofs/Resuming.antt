@@ -15,7 +15,7 @@ use Rattle.pw_types.specs.declared.expression_step.Step.{Step}
 use Rattle.pw_types.specs.declared.expression_step.Step.TheVariants.{Part, Instead, Done}
 use Rattle.pw_types.specs.Faults.{first_of}
 use Rattle.pw_types.specs.Scopes.{Scope}
-use Rattle.pw_types.specs.Held.{held}
+use Rattle.pw_tree.specs.Held.{held}
 use Rattle.pw_types.specs.Typed.{array_of, typed}
 use Rattle.pw_types.specs.Uses.{uses}
 use Rattle.pw_types.specs.Expressions.{is_base, faults}

@@ -14,12 +14,12 @@ use Rattle.pw_tree.proofs.CommandFolds.{command_of-Eval, command_of-Block, comma
 use Rattle.pw_types.specs.declared.fault.Fault.{Fault}
 use Rattle.pw_types.specs.declared.rule.Rule.TheVariants as rules
 use Rattle.pw_types.specs.Faults.{broken}
-use Rattle.pw_types.specs.Types.{is_void, converts}
+use Rattle.pw_tree.specs.Types.{is_void, converts}
 use Rattle.pw_types.specs.Expressions.{has_type}
 use Rattle.pw_types.specs.declared.role.Role.TheVariants as roles
 use Rattle.pw_types.specs.declared.statement_walk.Walk.{Walk}
 use Rattle.pw_types.specs.declared.statement_step.Setting.{Setting as Given}
-use Rattle.pw_types.specs.Held.{held, held_by, held_by_all}
+use Rattle.pw_tree.specs.Held.{held, held_by, held_by_all}
 use Rattle.pw_types.specs.Uses.{uses}
 use Rattle.pw_types.specs.Blocks.{uses_by}
 use Rattle.pw_types.specs.Statements.{faults_of_whole, faults_by, returns_other}

@@ -11,7 +11,7 @@ use Rattle.pw_types.specs.declared.fault.Stop.{Stop}
 use Rattle.pw_types.specs.declared.statement_walk.Walk.{Walk}
 use Rattle.pw_types.specs.declared.statement_step.Setting.{Setting as Given}
 use Rattle.pw_types.specs.Scopes.{Scope}
-use Rattle.pw_types.specs.Held.{held_by_all}
+use Rattle.pw_tree.specs.Held.{held_by_all}
 use Rattle.pw_types.specs.Blocks.{Setting, Block, locals_in_all, uses_by_all}
 use Rattle.pw_types.specs.Statements.{faults_by, faults_by_all}
 use Rattle.pw_types.specs.TypedStatements.{typed_statements}

@@ -7,10 +7,10 @@ use Rattle.pw_types.specs.declared.role.Role.{Role}
 use Rattle.pw_types.specs.declared.role.Role.TheVariants.{Base}
 use Rattle.pw_types.specs.declared.fault.Fault.{Fault}
 use Rattle.pw_types.specs.declared.expression_step.Head.{Head}
-use Rattle.pw_types.specs.Types.{is_pointer}
-use Rattle.pw_types.specs.Held.{held}
+use Rattle.pw_tree.specs.Types.{is_pointer}
+use Rattle.pw_tree.specs.Held.{held}
 use Rattle.pw_types.specs.Faults.{broken, first_of}
-use Rattle.pw_types.specs.Typed.{type_of}
+use Rattle.pw_tree.specs.TypedExpressions.{type_of}
 use Rattle.pw_types.specs.Expressions.{is_callee, is_base}
 use Rattle.pw_types.specs.Judging.{Judge, and_then, ◌>>=◌, pure, refuse, noting, on_option}
 use Rattle.pw_types.specs.CheckingExpressions.{Valued, capped, fault_under, rule_where}

@@ -5,7 +5,7 @@ use Rattle.pw_tree.specs.declared.texpr.TExpr.{TExpr, out-TExpr}
 use Rattle.pw_tree.specs.declared.texpr.TKind.{fold_out-TKind}
 use Rattle.pw_tree.specs.declared.texpr.TKind.TheOpen.{TKind-F}
 use Rattle.pw_tree.proofs.TreeFolds.{tree_of-out}
-use Rattle.pw_types.specs.Typed.{mark_of, type_of}
+use Rattle.pw_tree.specs.TypedExpressions.{mark_of, type_of}
 
 mark_of_form : (k : TKind-F (Mark → TypedExpression) TypedExpression) (at : Mark) → mark_of (typed_expression_form k at) ≡ at
 mark_of_form (TKind-F.Num value) at = refl

@@ -8,11 +8,12 @@ use Rattle.pw_base.specs.TypeText.{is_value_letter, is_type_letter, IsTypeText, 
 use Rattle.pw_tree.specs.declared.ty.Ty.{Ty}
 use Rattle.pw_tree.specs.declared.ty.Ty.TheVariants.{Void, Long, Ulong, Fn}
 use Rattle.pw_tree.specs.declared.ty.Sig.{Sig}
-use Rattle.pw_tree.specs.Placed.{IsType, IsValueType}
+use Rattle.pw_tree.specs.Types.{IsType, IsValueType}
 use Rattle.pw_tree.specs.TypeTexts.{letter_of, text_of_function, text_of_variable}
 use Rattle.pw_types.specs.declared.names.Kind.{Kind}
 use Rattle.pw_types.specs.declared.names.Kind.TheVariants.{Function, Variable}
-use Rattle.pw_types.specs.Texts.{AreValueTypes, HasText}
+use Rattle.pw_types.specs.Texts.{HasText}
+use Rattle.pw_tree.specs.Types.{AreValueTypes}
 use Rattle.pw_types.specs.Units.{text_of_kind}
 
 digit_letter : (k : ℕ) → k ≤ 6 → is_value_letter (48 + k) ≡ true

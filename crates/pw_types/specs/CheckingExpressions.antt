@@ -17,10 +17,11 @@ use Rattle.pw_types.specs.declared.names.Kind.{Kind}
 use Rattle.pw_types.specs.declared.names.Kind.TheVariants.{Function, Variable}
 use Rattle.pw_types.specs.declared.names.File.{File}
 use Rattle.pw_types.specs.declared.expression_step.Head.{Head}
-use Rattle.pw_types.specs.Types.{is_number, is_void, is_pointer, converts, unary_type, binary_type, choice_type, pointer_to}
+use Rattle.pw_tree.specs.Types.{is_number, is_void, is_pointer, converts, unary_type, binary_type, choice_type, pointer_to}
 use Rattle.pw_types.specs.Scopes.{Scope, Meaning, missing, a_local, declared, meaning, function_reference, variable_reference}
-use Rattle.pw_types.specs.Held.{holds_left, held_both}
-use Rattle.pw_types.specs.Typed.{type_of, Array, array_of, Designated, function_of, constant_type}
+use Rattle.pw_tree.specs.Held.{holds_left, held_both}
+use Rattle.pw_types.specs.Typed.{Array, array_of, Designated, function_of, constant_type}
+use Rattle.pw_tree.specs.TypedExpressions.{type_of}
 use Rattle.pw_types.specs.Expressions.{is_base, is_callee, needs_value, first_parameter, how_many}
 use Rattle.pw_types.specs.Uses.{file_number, uses}
 use Rattle.pw_types.specs.Judging.{Judge, ◌>>=◌, pure, refuse, noting, on_option}

@@ -21,7 +21,7 @@ use Rattle.pw_types.specs.declared.statement_step.Form.TheVariants as forms
 use Rattle.pw_types.specs.declared.statement_step.Step.{Step}
 use Rattle.pw_types.specs.declared.statement_step.Step.TheVariants as steps
 use Rattle.pw_types.specs.Faults.{first_of}
-use Rattle.pw_types.specs.Held.{held, held_option, held_by, held_by_all, held_by_maybe}
+use Rattle.pw_tree.specs.Held.{held, held_option, held_by, held_by_all, held_by_maybe}
 use Rattle.pw_types.specs.Uses.{uses}
 use Rattle.pw_types.specs.Blocks.{Setting, part, body, head, Block, behind, behind_maybe, locals_in_all, uses_of_option, uses_by, uses_by_all, uses_by_maybe}
 use Rattle.pw_types.specs.Statements.{faults_of_whole, faults_of_option, faults_by, faults_by_all, faults_by_maybe}

@@ -13,7 +13,7 @@ use Rattle.pw_tree.specs.Declarations.{Declaration, DeclarationForm, prototype, 
 use Rattle.pw_types.specs.declared.rule.Rule.TheVariants as rules
 use Rattle.pw_types.specs.declared.fault.Fault.{Fault}
 use Rattle.pw_types.specs.Faults.{broken, broken_by}
-use Rattle.pw_types.specs.Types.{is_pointer, same_type, pointer_to}
+use Rattle.pw_tree.specs.Types.{is_pointer, same_type, pointer_to}
 use Rattle.pw_types.specs.Reserved.{is_reserved}
 use Rattle.pw_types.specs.declared.names.Kind.{Kind}
 use Rattle.pw_types.specs.declared.names.File.{File}

@@ -11,9 +11,10 @@ use Rattle.pw_types.specs.declared.role.Role.{Role}
 use Rattle.pw_types.specs.declared.role.Role.TheVariants.{Statement, Value, Callee, Base, Argument, Written, Assigned}
 use Rattle.pw_types.specs.declared.fault.Fault.{Fault}
 use Rattle.pw_types.specs.Faults.{broken, broken_by}
-use Rattle.pw_types.specs.Types.{is_number, is_void, is_pointer, converts, unary_type, binary_type, choice_type}
+use Rattle.pw_tree.specs.Types.{is_number, is_void, is_pointer, converts, unary_type, binary_type, choice_type}
 use Rattle.pw_types.specs.Scopes.{Scope, Meaning, missing, a_local, declared, meaning}
-use Rattle.pw_types.specs.Typed.{type_of, array_of, function_of, callee_of, parameters_of, typed, typed_all, Designated, Callee as Called}
+use Rattle.pw_types.specs.Typed.{array_of, function_of, callee_of, parameters_of, typed, typed_all, Designated, Callee as Called}
+use Rattle.pw_tree.specs.TypedExpressions.{type_of}
 
 -- ---- places
 

@@ -10,7 +10,7 @@ use Rattle.pw_types.specs.declared.typed.Typed.{Typed}
 use Rattle.pw_types.specs.declared.typed.Body.{Body}
 use Rattle.pw_types.specs.Faults.{Judges}
 use Rattle.pw_types.specs.Scopes.{Scope}
-use Rattle.pw_types.specs.Held.{held, held_by_all}
+use Rattle.pw_tree.specs.Held.{held, held_by_all}
 use Rattle.pw_types.specs.Typed.{typed}
 use Rattle.pw_types.specs.Uses.{uses}
 use Rattle.pw_types.specs.Expressions.{faults}

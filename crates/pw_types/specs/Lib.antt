@@ -1,8 +1,6 @@
 pub mod RuleNames
 pub mod Messages
-pub mod Types
 pub mod Scopes
-pub mod Held
 pub mod Typed
 pub mod Faults
 pub mod Expressions

@@ -1,7 +1,7 @@
 -- The operations of operators, as code has them.
 use Rattle.std.specs.Prelude.{◌≡◌, Option, option_map}
 use Rattle.pw_types.specs.declared.types.Operation as rust
-use Rattle.pw_types.specs.Types.{Operation}
+use Rattle.pw_tree.specs.Types.{Operation}
 
 abbrev pub operation_of : rust.Operation → Operation
 operation_of o = record { ty = o.ty; unsigned = o.unsigned }

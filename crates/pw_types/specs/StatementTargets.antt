@@ -21,8 +21,8 @@ use Rattle.pw_types.specs.declared.statement_set.Array.{Array}
 use Rattle.pw_types.specs.Scopes.{Scope, a_local, declared, meaning, variable_reference}
 use Rattle.pw_types.specs.declared.statement_walk.Walk.{Walk}
 use Rattle.pw_types.specs.Faults.{broken, Judges}
-use Rattle.pw_types.specs.Types.{is_number}
-use Rattle.pw_types.specs.Held.{held}
+use Rattle.pw_tree.specs.Types.{is_number}
+use Rattle.pw_tree.specs.Held.{held}
 use Rattle.pw_types.specs.Typed.{typed}
 use Rattle.pw_types.specs.Uses.{uses, file_number}
 use Rattle.pw_types.specs.Expressions.{has_type, faults}

@@ -10,7 +10,7 @@ use Rattle.pw_types.specs.declared.statement_walk.Walk.{Walk}
 use Rattle.pw_types.specs.Faults.{Judges, broken}
 use Rattle.pw_types.specs.Expressions.{faults}
 use Rattle.pw_types.specs.declared.rule.Rule.TheVariants as rules
-use Rattle.pw_types.specs.Held.{held, held_option}
+use Rattle.pw_tree.specs.Held.{held, held_option}
 use Rattle.pw_types.specs.Uses.{uses}
 use Rattle.pw_types.specs.Typed.{typed}
 use Rattle.pw_types.specs.Blocks.{uses_of_option, with_local}

@@ -11,13 +11,13 @@ use Rattle.pw_types.specs.declared.role.Role.{Role}
 use Rattle.pw_types.specs.declared.role.Role.TheVariants as roles
 use Rattle.pw_types.specs.declared.fault.Fault.{Fault}
 use Rattle.pw_types.specs.Faults.{broken, broken_by}
-use Rattle.pw_types.specs.Types.{is_number, is_void, converts}
+use Rattle.pw_tree.specs.Types.{is_number, is_void, converts}
 use Rattle.pw_types.specs.Reserved.{is_reserved}
 use Rattle.pw_types.specs.declared.names.Kind.{Kind}
 use Rattle.pw_types.specs.declared.names.Kind.TheVariants.{Function, Variable}
 use Rattle.pw_types.specs.Scopes.{Scope, Meaning, missing, a_local, declared, meaning}
 use Rattle.pw_types.specs.Typed.{array_named, function_named, typed}
-use Rattle.pw_types.specs.Held.{held, held_element}
+use Rattle.pw_tree.specs.Held.{held, held_element}
 use Rattle.pw_types.specs.Expressions.{end_of, has_type, is_missing, faults}
 use Rattle.pw_types.specs.Blocks.{Setting, part, body, head, Block, inner, has_own, behind, behind_maybe}
 

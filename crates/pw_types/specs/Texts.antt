@@ -2,21 +2,12 @@
 use Rattle.std.specs.Prelude.{◌≡◌, ℕ, ◌<◌, ◌≤◌, Bool, false, List, [], ◌∷◌, length, Option, Some, None, ⊤, nat_eq, slice_index_or}
 use Rattle.std.specs.List.{list_any}
 use Rattle.pw_tree.specs.declared.ty.Ty.{Ty}
-use Rattle.pw_tree.specs.Placed.{IsType, IsValueType}
+use Rattle.pw_tree.specs.Types.{IsType, IsValueType, AreValueTypes, IsArraySize}
 use Rattle.pw_types.specs.declared.names.Kind.{Kind}
 use Rattle.pw_types.specs.declared.names.Kind.TheVariants.{Function, Variable}
 use Rattle.pw_types.specs.declared.names.File.{File}
 
--- none of the types is void
-unfoldable pub AreValueTypes : List Ty → Type 0
-AreValueTypes [] = ⊤
-AreValueTypes (ty ∷ tys) = IsValueType ty × AreValueTypes tys
-
--- an array's size, where there is one
-abbrev pub IsArraySize : Option ℕ → Type 0
-IsArraySize None = ⊤
-IsArraySize (Some size) = (1 ≤ size) × (size ≤ 65536)
-
+-- a kind of names that has a text
 abbrev pub HasText : Kind → Type 0
 HasText (Function sig) = IsType sig.result × AreValueTypes sig.params × (length sig.params ≤ 6)
 HasText (Variable ty size) = IsValueType ty × IsArraySize size

@@ -7,32 +7,13 @@ use Rattle.pw_tree.specs.declared.ty.Sig.{Sig}
 use Rattle.pw_tree.specs.declared.operator.Un.{Un}
 use Rattle.pw_tree.specs.declared.operator.Bin.{Bin}
 use Rattle.pw_tree.specs.Expressions.{Span, Expression, Expressions, constant, word, unary, binary, conditional, call, index, input, output, nil, cons}
-use Rattle.pw_tree.specs.TypedExpressions.{Mark, TypedExpression, TypedExpressions}
+use Rattle.pw_tree.specs.TypedExpressions.{Mark, TypedExpression, TypedExpressions, mark_of, type_of}
 use Rattle.pw_tree.specs.TypedExpressions as tree
-use Rattle.pw_types.specs.Types.{is_number, unary_type, binary_type, choice_type, pointer_to}
+use Rattle.pw_tree.specs.Types.{is_number, unary_type, binary_type, choice_type, pointer_to}
 use Rattle.pw_types.specs.declared.names.Kind.{Kind}
 use Rattle.pw_types.specs.declared.names.Kind.TheVariants.{Function, Variable}
 use Rattle.pw_types.specs.declared.names.File.{File}
 use Rattle.pw_types.specs.Scopes.{Scope, Meaning, missing, a_local, declared, meaning, function_reference, variable_reference}
-
--- ---- the type of a tree
-
-abbrev pub mark_of : TypedExpression → Mark
-mark_of (tree.constant at value) = at
-mark_of (tree.local at i) = at
-mark_of (tree.variable at x) = at
-mark_of (tree.designator at f) = at
-mark_of (tree.element at a size i) = at
-mark_of (tree.unary at op e) = at
-mark_of (tree.binary at op unsigned l r) = at
-mark_of (tree.conditional at c a b) = at
-mark_of (tree.call at f es) = at
-mark_of (tree.call_pointer at e es) = at
-mark_of (tree.input at) = at
-mark_of (tree.output at e) = at
-
-abbrev pub type_of : TypedExpression → Ty
-type_of t = (mark_of t).ty
 
 -- the mark of a phrase that has a type
 abbrev pub mark : Ty → Span → Mark

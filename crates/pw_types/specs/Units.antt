@@ -23,7 +23,7 @@ use Rattle.pw_types.specs.declared.names.File.{File}
 use Rattle.pw_types.specs.Scopes.{Scope}
 use Rattle.pw_types.specs.declared.names.Kind.TheVariants as kinds
 use Rattle.pw_types.specs.Typed.{function_named, Designated}
-use Rattle.pw_types.specs.Held.{held_by_all}
+use Rattle.pw_tree.specs.Held.{held_by_all}
 use Rattle.pw_types.specs.Blocks.{locals_in_all}
 use Rattle.pw_types.specs.TypedStatements.{typed_statements}
 use Rattle.pw_types.specs.Declarations.{is_external, is_extern, signature, elements_of, outermost, setting, declared_by, Whole, file_scope, faults_of_declaration, uses_of_form}

@@ -1,7 +1,7 @@
 //! The forms of expressions whose parts are judged (C17, 6.5).
 ghost use Rattle.std.specs.Prelude.{◌≡◌, ◌+◌};
 ghost use Rattle.pw_tree.specs.TypedExpressions.{typed_expression_form_of};
-ghost use Rattle.pw_types.specs.Held as held;
+ghost use Rattle.pw_tree.specs.Held as held;
 ghost use Rattle.pw_types.specs.Typed as trees;
 ghost use Rattle.pw_types.specs.CheckingExpressions as spec;
 ghost use Rattle.pw_types.specs.ResumingExpressions.{valued, plain_array, Gives};

@@ -2,7 +2,7 @@
 ghost use Rattle.std.specs.Prelude.{◌≡◌, [], ◌∷◌, ◌++◌, OnOk};
 ghost use Rattle.pw_types.specs.declared.rule.Rule.TheVariants.{Unknown};
 ghost use Rattle.pw_types.specs.Scopes.{meaning};
-ghost use Rattle.pw_types.specs.Types as types;
+ghost use Rattle.pw_tree.specs.Types as types;
 ghost use Rattle.pw_types.specs.Judging.{refuse};
 ghost use Rattle.pw_types.specs.CheckingExpressions as spec;
 ghost use Rattle.pw_types.specs.ResumingExpressions.{Gives, GivesWith};

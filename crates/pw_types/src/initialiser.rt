@@ -5,7 +5,7 @@ ghost use Rattle.pw_tree.specs.declared.decl.InitKind.TheVariants.{Word};
 ghost use Rattle.pw_tree.specs.declared.tunit.Init.TheVariants.{Num, Fun};
 ghost use Rattle.pw_types.specs.declared.rule.Rule.TheVariants as rules;
 ghost use Rattle.pw_types.specs.Faults.{Judges, broken};
-ghost use Rattle.pw_types.specs.Types as types;
+ghost use Rattle.pw_tree.specs.Types as types;
 ghost use Rattle.pw_types.specs.Scopes.{function_reference};
 ghost use Rattle.pw_types.specs.Typed.{function_of_kind};
 ghost use Rattle.pw_types.specs.Declarations as spec;

@@ -1,7 +1,7 @@
 //! Which types, and which kinds of names, are one.
 ghost use Rattle.std.specs.Prelude.{◌≡◌, map};
 ghost use Rattle.pw_tree.specs.Declarations.{declaration_form_of};
-ghost use Rattle.pw_types.specs.Types as types;
+ghost use Rattle.pw_tree.specs.Types as types;
 ghost use Rattle.pw_types.specs.declared.names.Kind.TheVariants as kinds;
 ghost use Rattle.pw_types.specs.Declarations as spec;
 

@@ -1,6 +1,6 @@
 //! The texts of types.
 ghost use Rattle.std.specs.Prelude.{◌≡◌, decimal, IfOk};
-ghost use Rattle.pw_tree.specs.Placed.{IsType};
+ghost use Rattle.pw_tree.specs.Types.{IsType};
 ghost use Rattle.pw_tree.specs.TypeTexts as texts;
 ghost use Rattle.pw_types.specs.declared.names.Kind.TheVariants as kinds;
 ghost use Rattle.pw_types.specs.Texts.{HasText};

@@ -3,7 +3,7 @@ use Rattle.pw_tree.specs.Expressions.{expressions_of}
 use Rattle.pw_tree.specs.declared.ty.Ty.{Ty}
 use Rattle.pw_tree.specs.declared.ty.Ty.TheVariants.{Long, Fn}
 use Rattle.pw_types.specs.declared.rule.Rule.TheVariants.{NotCallable}
-use Rattle.pw_types.specs.Typed.{type_of}
+use Rattle.pw_tree.specs.TypedExpressions.{type_of}
 use Rattle.pw_types.specs.Judging.{refuse, on_option}
 use Rattle.pw_types.specs.CheckingExpressions.{through, calling, none_taken, fault_under, pointer_parameters, checked_arguments}
 use Rattle.pw_types.specs.ResumingExpressions.{valued, Continues}

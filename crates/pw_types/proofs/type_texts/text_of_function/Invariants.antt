@@ -1,7 +1,7 @@
 -- What is left has the letters that are missing.
 use Rattle.std.proofs.Common.{◌≡◌, [], ◌∷◌, ◌++◌, map, length}
 use Rattle.pw_tree.specs.TypeTexts.{letter_of}
-use Rattle.pw_types.specs.Texts.{AreValueTypes}
+use Rattle.pw_tree.specs.Types.{AreValueTypes}
 use Rattle.pw_types.proofs.type_texts.text_of_function.Given as goal
 
 abbrev pub invariant-loop-rest : goal.invariant-loop-rest

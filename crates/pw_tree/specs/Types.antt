@@ -1,6 +1,7 @@
 -- The types of expressions, and which of them convert (C17, 6.3 and 6.5, in this language's profile).
-use Rattle.std.specs.Prelude.{ℕ, Bool, true, false, ◌&&◌, ◌||◌, not, if◌then◌else◌, length, Option, Some, None, nat_eq, nat_le}
+use Rattle.std.specs.Prelude.{ℕ, ◌≤◌, Bool, true, false, ◌&&◌, ◌||◌, not, if◌then◌else◌, List, [], ◌∷◌, length, Option, Some, None, ⊤, nat_eq, nat_le}
 use Rattle.std.specs.List.{list_all}
+use Rattle.pw_base.specs.Limits.{parameters, array_elements}
 use Rattle.pw_tree.specs.declared.ty.Ty.{Ty}
 use Rattle.pw_tree.specs.declared.ty.Ty.TheVariants.{Void, Long, Ulong, Fn}
 use Rattle.pw_tree.specs.declared.ty.Sig.{Sig}
@@ -67,6 +68,32 @@ converts from to = (is_number from && is_number to) || same_pointers from to
 abbrev pub common : Ty → Ty → Ty
 common a b = if is_unsigned a || is_unsigned b then Ulong else Long
 
+-- ---- types that may stand in a declaration
+
+-- pointers are to functions with at most 6 parameters
+abbrev pub IsType : Ty → Type 0
+IsType Void = ⊤
+IsType Long = ⊤
+IsType Ulong = ⊤
+IsType (Fn k) = k ≤ parameters
+
+-- the same, and it is not void
+abbrev pub IsValueType : Ty → Type 0
+IsValueType Void = ⊥
+IsValueType Long = ⊤
+IsValueType Ulong = ⊤
+IsValueType (Fn k) = k ≤ parameters
+
+-- none of the types is void
+unfoldable pub AreValueTypes : List Ty → Type 0
+AreValueTypes [] = ⊤
+AreValueTypes (ty ∷ tys) = IsValueType ty × AreValueTypes tys
+
+-- an array's size, where there is one
+abbrev pub IsArraySize : Option ℕ → Type 0
+IsArraySize None = ⊤
+IsArraySize (Some size) = (1 ≤ size) × (size ≤ array_elements)
+
 -- ---- operators
 
 -- `!` takes any value and gives long; the others take a number and have its type
@@ -129,8 +156,8 @@ choice_type a b = if same_pointers a b then Some a else (if is_number a && is_nu
 
 -- ---- functions
 
--- The type of pointers to functions of a signature: long f(long, .., long) with at most 6 parameters has one.
+-- The type of pointers to functions of a signature: long f(long, .., long) with few enough parameters has one.
 abbrev pub pointer_to : Sig → Option Ty
 pointer_to sig =
-    if same_type sig.result Long && list_all (λ p. same_type p Long) sig.params && nat_le (length sig.params) 6
+    if same_type sig.result Long && list_all (λ p. same_type p Long) sig.params && nat_le (length sig.params) parameters
     then Some (Fn (length sig.params)) else None
