@@ -1,4 +1,9 @@
 pub mod Bytes
+pub mod Field
+pub mod Laid
+pub mod Least
 pub mod Limits
+pub mod LimitsOfCode
 pub mod Name
+pub mod Tests
 pub mod TypeText
