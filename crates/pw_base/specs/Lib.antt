@@ -5,5 +5,6 @@ pub mod Least
 pub mod Limits
 pub mod LimitsOfCode
 pub mod Name
+pub mod Structs
 pub mod Tests
 pub mod TypeText
