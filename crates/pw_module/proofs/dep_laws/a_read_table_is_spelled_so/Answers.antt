@@ -1,0 +1,5 @@
+use Rattle.pw_module.proofs.Tables.{read_table_is_spelled_so}
+use Rattle.pw_module.proofs.dep_laws.a_read_table_is_spelled_so.Goals as goal
+
+pub returns : goal.returns
+returns c = read_table_is_spelled_so

@@ -1,0 +1,5 @@
+use Rattle.pw_module.proofs.Tables.{spelled_table_is_read}
+use Rattle.pw_module.proofs.dep_laws.a_spelled_table_is_read.Goals as goal
+
+pub returns : goal.returns
+returns c = spelled_table_is_read
