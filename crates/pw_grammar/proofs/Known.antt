@@ -4,7 +4,8 @@ use Rattle.pw_grammar.specs.Declarations.{UnitDerivation, spelled_unit, IsUnit, 
 use Rattle.pw_grammar.specs.Reading.Steps.{ReadResult}
 use Rattle.pw_grammar.specs.Reading.Expressions.{expression}
 use Rattle.pw_grammar.specs.Reading.Declarations.{unit}
-use Rattle.pw_grammar.specs.Laws.{ReadingTells, OneTree}
+use Rattle.pw_grammar.specs.Laws.{OneTree}
+use Rattle.pw_grammar.specs.Reading.Whole.{ReadingTells}
 use Rattle.pw_grammar.proofs.Lawful.{Within, within}
 use Rattle.pw_grammar.proofs.LawfulUnits as b
 use Rattle.pw_grammar.proofs.CompleteExpressions.{reads_expression}

@@ -5,7 +5,7 @@ use Rattle.std.specs.List.{list_all}
 use Rattle.std.proofs.lemmas.Bool.{and_parts, not-true, both_ways}
 use Rattle.pw_grammar.specs.declared.sort.Sort.{Sort}
 use Rattle.pw_grammar.specs.declared.sort.Sort.TheVariants as s
-use Rattle.pw_grammar.specs.Terminals.{keywords, punctuators, symbols, sort, sort_of, first_sort, is_same}
+use Rattle.pw_grammar.specs.Terminals.{keyword_symbols, punctuator_symbols, sort, sort_of, first_sort, is_same}
 use Rattle.pw_grammar.specs.Declarations as g
 use Rattle.pw_grammar.specs.Reading.Steps.{Position, ReadResult, Parser, and_then, pure, refuse, sees, either}
 use Rattle.pw_grammar.specs.Reading.Expressions.{expression}
@@ -130,8 +130,8 @@ unfolding is_same sort_of
 kind_no_end (t.Word name) = refl
 kind_no_end (t.Number value u) = refl
 kind_no_end (t.Char value) = refl
-kind_no_end (t.Keyword number) = number_no_end (symbols keywords) number refl
-kind_no_end (t.Punct number) = number_no_end (symbols punctuators) number refl
+kind_no_end (t.Keyword number) = number_no_end keyword_symbols number refl
+kind_no_end (t.Punct number) = number_no_end punctuator_symbols number refl
 
 -- no token is the end
 pub no_token_is_end : (t : Token) → sort t ≡ s.End → ⊥

@@ -93,6 +93,11 @@ IsFault tokens (TooNested t) = (t < length tokens) × (opens_by (first_sort (dro
 IsFault tokens (TooLong t) = (t < length tokens) × GoesOnTooLong tokens t
 IsFault tokens NoMemory = ⊥
 
+-- the tokens have no fault
+abbrev pub IsFaultless : List Token → Type 0
+IsFaultless tokens = (fault : SyntaxError) → IsFault tokens fault → ⊥
+
+-- the number of the faulty token; 0 where memory was refused
 abbrev pub token_of : SyntaxError → ℕ
 token_of (At t) = t
 token_of (TooNested t) = t

@@ -24,12 +24,12 @@ stands_in text before bytes rest kind is token =
     let len : length bytes ≡ length before + length bytes - length before = omega arith in
     let slice : slice_range text (length before) (length before + length bytes) ≡ bytes =
     ap (take (length before + length bytes - length before)) left ∙ take_at bytes rest (length before + length bytes - length before) len in
-    let front : take (length before) text ≡ before = ap (take (length before)) is ∙ take_at before (bytes ++ rest) (length before) refl in
+    let prefix : take (length before) text ≡ before = ap (take (length before)) is ∙ take_at before (bytes ++ rest) (length before) refl in
     record {
       some = omega arith;
       within = omega arith;
       is = subst (λ b. IsToken b kind) (sym slice) token;
-      line_is = ap line_after (sym front);
+      line_is = ap line_after (sym prefix);
     }
 
 all_stand : (text before : Text) (pieces : List Piece) → text ≡ before ++ spelled pieces → Stand pieces [] → All (StandsIn text) (tokens_after before pieces)

@@ -32,6 +32,6 @@ runs_on Other = false
 abbrev pub is_run_byte : ℕ → Bool
 is_run_byte byte = runs_on (class_of byte)
 
--- the letters and digits at the front of a text, as many as stand together
+-- the letters and digits at the beginning of a text, as many as stand together
 abbrev pub run : Text → Text
 run text = take_while is_run_byte text

@@ -18,7 +18,7 @@ is_digit_in Hexadecimal byte = is_from 48 57 byte || is_from 65 70 byte || is_fr
 abbrev pub digit_value : ℕ → ℕ
 digit_value byte = if nat_le byte 57 then byte - 48 else (if nat_le byte 70 then byte - 55 else byte - 87)
 
--- the value of digits, the most significant first, behind digits of the value `above`
+-- the value of digits, the most significant first, after digits of the value `above`
 abbrev pub value_after : Radix → ℕ → Text → ℕ
 value_after radix above [] = above
 value_after radix above (digit ∷ digits) = value_after radix (base radix * above + digit_value digit) digits

@@ -10,7 +10,7 @@ use Rattle.pw_lex.specs.Fault.{Piece, white, line_comment, block_comment, token,
 abbrev pub is_newline : ℕ → Bool
 is_newline byte = byte == 10
 
--- the line, from 1, of what stands behind a text: a line ends at a byte 10
+-- the line, from 1, of what stands after a text: a line ends at a byte 10
 abbrev pub line_after : Text → ℕ
 line_after before = 1 + count_by is_newline before
 
@@ -28,7 +28,7 @@ abbrev pub Stand : List Piece → Text → Type 0
 Stand [] rest = ⊤
 Stand (piece ∷ pieces) rest = StandsBefore piece (spelled pieces ++ rest) × Stand pieces rest
 
--- the token that a piece behind `before` is, if it is one
+-- the token that a piece after `before` is, if it is one
 abbrev pub tokens_of_piece : Text → Piece → List Token
 tokens_of_piece before (white _) = []
 tokens_of_piece before (line_comment _) = []
@@ -36,7 +36,7 @@ tokens_of_piece before (block_comment _) = []
 tokens_of_piece before (token bytes kind) =
     record { kind = kind; first = length before; end = length before + length bytes; line = line_after before } ∷ []
 
--- the tokens among pieces that stand behind `before`
+-- the tokens among pieces that stand after `before`
 abbrev pub tokens_after : Text → List Piece → List Token
 tokens_after before [] = []
 tokens_after before (piece ∷ pieces) = tokens_of_piece before piece ++ tokens_after (before ++ bytes_of piece) pieces
@@ -48,7 +48,7 @@ pub record HasTokens (text : Text) (tokens : List Token) : Type 0 where
   pub text_is : text ≡ spelled pieces
   pub tokens_are : tokens ≡ tokens_after [] pieces
 
--- the fault stands at the front of `rest`, at the place `at`
+-- the fault stands at the beginning of `rest`, at the place `at`
 abbrev pub FaultStands : ℕ → Text → LexError → Type 0
 FaultStands at rest (BadByte place) = IsBadByte rest × (place ≡ at)
 FaultStands at rest (OpenComment place) = IsOpenComment rest × (place ≡ at)

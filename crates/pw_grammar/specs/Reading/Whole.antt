@@ -1,8 +1,10 @@
 -- The answer for a whole list of tokens: its declarations, or its first fault.
-use Rattle.std.specs.Prelude.{ℕ, suc, if◌then◌else◌, nat_le, List, take, Option, Some, None, Result, Ok, Err}
+use Rattle.std.specs.Prelude.{ℕ, suc, ◌<◌, if◌then◌else◌, nat_le, List, length, take, Option, Some, None, Result, Ok, Err}
 use Rattle.pw_grammar.specs.declared.error.SyntaxError.{SyntaxError}
 use Rattle.pw_grammar.specs.declared.error.SyntaxError.TheVariants.{TooNested, TooLong}
-use Rattle.pw_grammar.specs.Faults.{token_of}
+use Rattle.pw_grammar.specs.Declarations.{lines_of}
+use Rattle.pw_grammar.specs.Faults.{IsFirstFault, token_of}
+use Rattle.pw_grammar.specs.Laws.{HasTree}
 use Rattle.pw_grammar.specs.Reading.Limits.{first_nested, first_late, anew}
 use Rattle.pw_grammar.specs.Reading.Steps.{ReadResult}
 use Rattle.pw_grammar.specs.Reading.Declarations.{unit}
@@ -41,3 +43,12 @@ judged (Some limit) outcome = judged_by limit outcome
 -- the declarations of a list of fewer than n tokens, or its first fault
 unfoldable pub parsed : ℕ → List Token → Result (List Decl) SyntaxError
 parsed n tokens = judged (first_limit tokens) (unit n (record { at = 0; rest = up_to (first_limit tokens) tokens }))
+
+-- what an answer says of the tokens: their declarations with their lines are their tree, or this is their first fault
+abbrev pub Tells : List Token → Result (List Decl) SyntaxError → Type 0
+Tells tokens (Ok decls) = HasTree tokens (record { decls = decls; lines = lines_of tokens })
+Tells tokens (Err fault) = IsFirstFault tokens fault
+
+-- reading from left to right gives the tree, or exactly the first fault
+abbrev pub ReadingTells : Type 0
+ReadingTells = (n : ℕ) (tokens : List Token) → length tokens < n → Tells tokens (parsed n tokens)
