@@ -10,7 +10,7 @@ use Rattle.pw_lex.specs.Bytes.{Text, class_of}
 use Rattle.pw_lex.specs.Fault.{Piece, white, line_comment, block_comment, token, bytes_of, StandsBefore}
 use Rattle.pw_lex.specs.Text.{HasTokens, Stand, is_newline, spelled, tokens_of_piece, tokens_after}
 use Rattle.pw_lex.specs.Token.{IsToken}
-use Rattle.pw_lex.proofs.FirstBytes.{kind_class, token_begins}
+use Rattle.pw_lex.proofs.Exports.{kind_class, token_begins}
 use Rattle.pw_grammar.specs.declared.error.SyntaxError.{SyntaxError}
 use Rattle.pw_grammar.specs.declared.error.SyntaxError.TheVariants.{At, TooNested, TooLong, NoMemory}
 use Rattle.pw_grammar.specs.Declarations.{IsUnit, spelled_unit}

@@ -95,7 +95,7 @@ pub reads_for : (n : ℕ) (expr : Parser Expr) (stmt : Parser Stmt) → ReadsExp
     → (at : ℕ) (t o : Token) (start : ForStartDerivation) (a : Option ExpressionDerivation) (e : Token) (step : Option SimpleDerivation) (c : Token) (y : st.StatementDerivation) (ts : List Token)
     → sort o ≡ s.LeftParen → IsStart start → IsMaybe a → sort e ≡ s.Semicolon → IsStep step → sort c ≡ s.RightParen
     → length (st.spelled_statement (st.for_do t o start a e step c y) ++ ts) < n
-    → ReadsPart stmt y (st.behind_head at start a step) ts
+    → ReadsPart stmt y (st.after_head at start a step) ts
     → r.for_loop expr stmt (spot at (st.spelled_statement (st.for_do t o start a e step c y) ++ ts))
     ≡ Ok (st.kind_of at (st.for_do t o start a e step c y), spot (at + length (st.spelled_statement (st.for_do t o start a e step c y))) ts)
 unfolding r.for_loop st.spelled_statement st.kind_of

@@ -54,3 +54,4 @@ pub mod PlacedDeclarations
 pub mod Typed
 pub mod Written
 pub mod Weighed
+pub mod Exports

@@ -44,6 +44,7 @@ sort_of (t.Char value) = s.Character
 sort_of (t.Keyword number) = numbered keyword_symbols number
 sort_of (t.Punct number) = numbered punctuator_symbols number
 
+-- the symbol of a token
 abbrev pub sort : Token → Sort
 sort token = sort_of token.kind
 

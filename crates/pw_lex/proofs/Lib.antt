@@ -9,3 +9,4 @@ pub mod Prefixes
 pub mod Whole
 pub mod OneWay
 pub mod Places
+pub mod Exports

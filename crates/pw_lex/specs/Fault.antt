@@ -28,6 +28,7 @@ abbrev pub closes : Text → Bool
 closes [] = false
 closes (byte ∷ text) = (nat_eq byte 42 && nat_eq (slice_index text 0) 47) || closes text
 
+-- whether the byte does not end a line
 abbrev pub not_newline : ℕ → Bool
 not_newline byte = not (nat_eq byte 10)
 

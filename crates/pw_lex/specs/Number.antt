@@ -6,10 +6,12 @@ use Rattle.pw_lex.specs.declared.number.Radix.{Radix}
 use Rattle.pw_lex.specs.declared.number.Radix.TheVariants.{Decimal, Hexadecimal}
 use Rattle.pw_lex.specs.Bytes.{Text}
 
+-- the number that each digit counts
 abbrev pub base : Radix → ℕ
 base Decimal = 10
 base Hexadecimal = 16
 
+-- whether the byte is a digit of the base: 0 to 9, and in base sixteen A to F and a to f too
 abbrev pub is_digit_in : Radix → ℕ → Bool
 is_digit_in Decimal byte = is_from 48 57 byte
 is_digit_in Hexadecimal byte = is_from 48 57 byte || is_from 65 70 byte || is_from 97 102 byte
@@ -23,6 +25,7 @@ abbrev pub value_after : Radix → ℕ → Text → ℕ
 value_after radix above [] = above
 value_after radix above (digit ∷ digits) = value_after radix (base radix * above + digit_value digit) digits
 
+-- the value of digits
 abbrev pub value : Radix → Text → ℕ
 value radix digits = value_after radix 0 digits
 
@@ -37,9 +40,11 @@ has_leading_zero Decimal (first ∷ second ∷ _) = nat_eq first 48
 has_leading_zero Decimal _ = false
 has_leading_zero Hexadecimal _ = false
 
+-- u or U
 abbrev pub is_u : ℕ → Bool
 is_u byte = nat_eq byte 117 || nat_eq byte 85
 
+-- l or L
 abbrev pub is_l : ℕ → Bool
 is_l byte = nat_eq byte 108 || nat_eq byte 76
 

@@ -7,6 +7,7 @@ use Rattle.pw_lex.specs.declared.error.LexError.TheVariants.{BadByte, OpenCommen
 use Rattle.pw_lex.specs.Bytes.{Text}
 use Rattle.pw_lex.specs.Fault.{Piece, white, line_comment, block_comment, token, bytes_of, StandsBefore, IsBadByte, IsOpenComment, IsBadNumber, IsTooWide, IsLongName}
 
+-- whether the byte ends a line
 abbrev pub is_newline : ℕ → Bool
 is_newline byte = byte == 10
 

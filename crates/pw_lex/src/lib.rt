@@ -22,6 +22,3 @@ pub use laws::{a_text_reads_in_one_way, tokens_go_by_their_spellings, tokens_sta
 pub use lexer::tokens;
 pub use line::{end_line, line_at};
 pub use token::{Token, TokenKind};
-
-#[cfg(test)]
-mod tests;

@@ -201,7 +201,7 @@ is_void ty.Long = false
 is_void ty.Ulong = false
 is_void (ty.Fn n) = false
 
--- what comes behind the name
+-- what comes after the name
 unfoldable pub declarator : Parser Expr → Parser Stmt → ℕ → Linkage → Ty → Parser (ℕ × DeclKind)
 declarator expr stmt n linkage ty = λ i.
     if sees s.LeftParen i then function expr stmt n linkage ty i
