@@ -45,7 +45,7 @@ fn is_run_byte(byte: u8) -> bool
     }
 }
 
-/// How many letters and digits stand together at the front.
+/// How many letters and digits stand together at the beginning.
 pub fn run_len(text: &[u8]) -> usize
     ensures value { result ≡ prefix_len spec.is_run_byte text.now }
     ensures within { result ≤ length text.now }

@@ -11,7 +11,7 @@ pub enum LexError {
     /// No white space, comment or token begins here.
     #[error("bad byte")]
     BadByte(u32),
-    /// A `/*` with no `*/` behind it.
+    /// A `/*` with no `*/` after it.
     #[error("open comment")]
     OpenComment(u32),
     /// A run of letters, digits and `_` that begins with a digit and is no integer constant.

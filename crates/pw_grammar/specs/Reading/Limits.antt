@@ -1,6 +1,6 @@
 -- Reading the limits from left to right: the first bracket that nests too deep, and the first token of a function that
 -- is too long. Nothing of the grammar is asked but where a declaration ends: at a `;` outside brackets, or at the brace
--- that closes a function's body, which a brace outside brackets and behind a `)` opens.
+-- that closes a function's body, which a brace outside brackets and after a `)` opens.
 use Rattle.std.specs.Prelude.{ℕ, suc, ◌+◌, Bool, false, ◌||◌, ◌&&◌, if◌then◌else◌, ◌==◌, nat_le, List, [], ◌∷◌, Option, Some, None}
 use Rattle.pw_grammar.specs.declared.sort.Sort.TheVariants as s
 use Rattle.pw_grammar.specs.Terminals.{sort, is_same}
@@ -50,7 +50,7 @@ onward w t = record {
 unfoldable pub step : Walk → Token → Walk
 step w t = if is_last w t then anew (suc w.at) else onward w t
 
--- the first token that stands in a function's body behind 8,192 others of the function
+-- the first token that stands in a function's body after 8,192 others of the function
 unfoldable pub first_late : Walk → List Token → Option ℕ
 first_late w [] = None
 first_late w (t ∷ ts) = if is_late w t then Some w.at else first_late (step w t) ts
