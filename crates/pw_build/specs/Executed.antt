@@ -9,7 +9,7 @@ use Rattle.pw_hart.specs.declared.ends.End.{End}
 use Rattle.pw_hart.specs.declared.ends.End.TheVariants as ends
 use Rattle.pw_hart.specs.Harts.{registers}
 use Rattle.pw_hart.specs.State.{set}
-use Rattle.pw_hart.specs.Runs.{Moment, Runs}
+use Rattle.pw_hart.specs.Runs.{ExecutionState, Runs}
 use Rattle.pw_agree.specs.Image.{text_start, stack_start, stack_len, all_words, main_writer}
 use Rattle.pw_build.specs.declared.run.Ended.{Ended}
 use Rattle.pw_build.specs.declared.run.Ended.TheVariants.{Exit, ReadFault, WriteFault}
@@ -23,7 +23,7 @@ pub record Given : Type 0 where
   pub out : SinkState
 
 -- the moment at which a processor has this given
-abbrev pub moment : Hart → Given → Moment
+abbrev pub moment : Hart → Given → ExecutionState
 moment hart g = record { hart = hart; mem = g.mem; fetches = g.fetches; told = g.told; input = g.input; out = g.out }
 
 -- There is a function named `main`.

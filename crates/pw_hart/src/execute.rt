@@ -4,7 +4,7 @@ ghost use Rattle.std.specs.Prelude.{◌≡◌, ◌≢◌, ℕ, List};
 ghost use Rattle.pw_isa.specs.Encoding.{IsEncodable};
 ghost use Rattle.pw_mem.specs.Memory.{Mem};
 ghost use Rattle.pw_hart.specs.Exec.{exec};
-ghost use Rattle.pw_hart.specs.Harts.{Does};
+ghost use Rattle.pw_hart.specs.Steps.Does.{Does};
 
 use crate::access::Load;
 use crate::ends::End;
@@ -15,6 +15,7 @@ use crate::multiply::{
 };
 use crate::word::{addw, sign_extended, sllw, sraw, srlw, subw};
 use pw_isa::Inst;
+use pw_isa::registers::ZERO;
 use pw_mem::Memory;
 
 impl Hart {
@@ -63,7 +64,7 @@ impl Hart {
             Inst::Sra { rd, rs1, rs2 } => self.write(rd, sra(self.get(rs1), self.get(rs2))),
             Inst::Or { rd, rs1, rs2 } => self.write(rd, self.get(rs1) | self.get(rs2)),
             Inst::And { rd, rs1, rs2 } => self.write(rd, self.get(rs1) & self.get(rs2)),
-            Inst::Fence => self.write(0, 0),
+            Inst::Fence => self.write(ZERO, 0),
             Inst::Ecall => unreachable!(),
             Inst::Ebreak => Some(End::Trap {
                 cause: 3,

@@ -19,8 +19,6 @@ mod hart;
 mod integer;
 mod multiply;
 mod run;
-#[cfg(test)]
-mod tests;
 mod word;
 
 pub use ends::End;

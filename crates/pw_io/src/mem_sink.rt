@@ -112,25 +112,3 @@ impl Sink for MemSink {
         Ok(())
     }
 }
-
-#[cfg(test)]
-mod tests {
-    use super::*;
-    use std::test::Fail;
-
-    #[test]
-    fn a_sink_fails_at_its_third_call_and_where_it_is_full(rt: HostRuntime) -> Result<(), Fail> {
-        let alloc = rt.alloc();
-        let mut sink = MemSink::new(alloc, 3, vec![in alloc; 3]?)?;
-        assert_eq!(rt; sink.put(b'a'), Ok(()));
-        assert_eq!(rt; sink.put(b'b'), Ok(()));
-        assert_eq!(rt; sink.put(b'c'), Err(Failed));
-        assert_eq!(rt; sink.written(), b"ab".as_slice());
-        assert_eq!(rt; sink.flush(), Ok(()));
-        assert_eq!(rt; sink.put(b'c'), Ok(()));
-        assert_eq!(rt; sink.put(b'd'), Err(Failed));
-        assert_eq!(rt; sink.written(), b"abc".as_slice());
-        assert_eq!(rt; (sink.flushed(), sink.faults()), (2, 2));
-        Ok(())
-    }
-}

@@ -60,30 +60,3 @@ impl<R: Read> Source for StdSource<R> {
         }
     }
 }
-
-#[cfg(test)]
-mod tests {
-    use super::*;
-    use std::io;
-
-    /// A reader that each call fails of.
-    #[derive(Drop)]
-    struct Broken;
-
-    impl Read for Broken {
-        fn read(&mut self, _buf: &mut [u8]) -> io::Result<usize> {
-            Err(io::Error::from(io::ErrorKind::Interrupted))
-        }
-    }
-
-    #[test]
-    fn a_source_over_a_reader_gives_its_bytes_and_counts_its_errors(rt: HostRuntime) {
-        let mut source = StdSource::new(b"a".as_slice());
-        assert_eq!(rt; source.next(), Next::Byte(b'a'));
-        assert_eq!(rt; source.next(), Next::End);
-        assert_eq!(rt; source.faults(), 0);
-        let mut broken = StdSource::new(Broken);
-        assert_eq!(rt; broken.next(), Next::Failed);
-        assert_eq!(rt; broken.faults(), 1);
-    }
-}

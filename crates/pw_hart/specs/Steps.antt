@@ -1,0 +1,4 @@
+-- The words of private contracts: what a call does of one instruction.
+pub mod Access
+pub mod Does
+pub mod Advances
