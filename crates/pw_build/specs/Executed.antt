@@ -1,6 +1,7 @@
 -- What the run of an image answers, and what it leaves of its memory, its input and its output.
 use Rattle.std.specs.Prelude.{◌≡◌, ℕ, ◌+◌, ◌*◌, ◌⊎◌, List, Option, Some}
 use Rattle.pw_first.specs.declared.writer.Writer.{Writer}
+use Rattle.pw_isa.specs.Registers.{sp}
 use Rattle.pw_mem.specs.Memory.{Mem}
 use Rattle.pw_io.specs.Source.{SourceState}
 use Rattle.pw_io.specs.Sink.{SinkState, SinkFails, flushed_all}
@@ -35,7 +36,7 @@ pub record HasMain (funs : List Writer) : Type 0 where
 pub record IsFresh (steps : ℕ) (hart : Hart) : Type 0 where
   pub pc : hart.pc ≡ text_start
   pub steps_left : hart.steps ≡ steps
-  pub x : registers hart ≡ set (λ _. 0) 2 (stack_start + stack_len)
+  pub x : registers hart ≡ set (λ _. 0) sp (stack_start + stack_len)
 
 -- The machine's run from the start, of at most as many instructions as the words for each counted step and once more,
 -- ends so and leaves that.

@@ -13,7 +13,7 @@ use pw_isa::registers::ZERO;
 use pw_mem::{Access, Memory};
 
 /// What is loaded: a number of 1, 2, 4 or 8 bytes, sign-extended or not.
-#[derive(Clone, Copy, PartialEq, Eq, Debug)]
+#[derive(Clone, Copy)]
 pub(crate) enum Load {
     Byte,
     Half,

@@ -14,7 +14,6 @@ use pw_io::{Failed, Next, Sink, Source};
 use pw_isa::environment_calls::{EXIT, FAULT, INPUT, OUTPUT};
 use pw_isa::registers::{A0, A1, A7, ZERO};
 
-
 impl Hart {
     /// Takes the next byte of the input into a0, or all ones at its end. An input that came to its end is not asked
     /// again.

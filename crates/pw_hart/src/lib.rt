@@ -12,12 +12,14 @@
 #![tactic(auto)]
 
 mod access;
+mod compute;
 mod ends;
 mod environment;
 mod execute;
 mod hart;
 mod integer;
 mod multiply;
+mod operation;
 mod run;
 mod word;
 

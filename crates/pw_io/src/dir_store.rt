@@ -16,7 +16,7 @@ use std::{fs, str};
 const CHUNK_BYTES: usize = 4096;
 
 /// The files of the current folder. A name is given to the system as it is, so one with `/` or `..` may lead elsewhere.
-/// It tells nothing of files and calls. Whatever the system refuses is a failure, an interruption and something that is
+/// It reports nothing of files and calls. Whatever the system refuses is a failure, an interruption and something that is
 /// no regular file included, and so is a write that takes nothing.
 #[derive(Drop)]
 pub struct DirStore<'a, F: Files> {

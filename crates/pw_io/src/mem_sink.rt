@@ -1,4 +1,4 @@
-//! A sink of bytes in memory, which fails at the calls that it is told to, and where it is full.
+//! A sink of bytes in memory, which fails at the calls that it is asked to, and where it is full.
 ghost use Rattle.std.specs.Prelude.{◌≡◌, ◌⊎◌, ◌↔◌, [], ◌∷◌, IsErr, OnOk, OnErr, IfOk};
 ghost use Rattle.pw_io.specs.Faults.{risen};
 ghost use Rattle.pw_io.specs.Sink.{SinkFails, wrote, flushed_all};

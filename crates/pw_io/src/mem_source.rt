@@ -1,4 +1,4 @@
-//! A source of bytes in memory, which fails at the calls that it is told to.
+//! A source of bytes in memory, which fails at the calls that it is asked to.
 ghost use Rattle.std.specs.Prelude.{◌≡◌, ◌↔◌};
 ghost use Rattle.pw_io.specs.Faults.{risen};
 ghost use Rattle.pw_io.specs.Source.{Gives};

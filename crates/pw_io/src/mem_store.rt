@@ -1,4 +1,4 @@
-//! A store of files in memory, which fails at the calls that it is told to, and where a file to be read is missing.
+//! A store of files in memory, which fails at the calls that it is asked to, and where a file to be read is missing.
 ghost use Rattle.std.specs.Prelude.{◌≡◌, ◌⊎◌, ◌↔◌, ◌<◌, ℕ, List, [], vec_len, position, IsTrue, OnErr, option_copied};
 ghost use Rattle.std.specs.Str.{bytes_eq};
 ghost use Rattle.pw_io.specs.Faults.{risen};

@@ -9,7 +9,7 @@ use crate::ports::{Failed, Sink};
 use std::io::Write;
 use std::marker::Model;
 
-/// A sink over any writer of std. It tells nothing of its bytes. Each byte is written by itself; an error of the
+/// A sink over any writer of std. It reports nothing of its bytes. Each byte is written by itself; an error of the
 /// writer, an interruption included, is a failure, and so is a write that takes nothing.
 #[derive(Drop)]
 pub struct StdSink<W> {

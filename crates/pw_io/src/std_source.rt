@@ -8,7 +8,7 @@ use crate::ports::{Next, Source};
 use std::io::Read;
 use std::marker::Model;
 
-/// A source over any reader of std. It tells nothing of its bytes. Each call reads one byte; an error of the reader,
+/// A source over any reader of std. It reports nothing of its bytes. Each call reads one byte; an error of the reader,
 /// an interruption included, is a failure.
 #[derive(Drop)]
 pub struct StdSource<R> {

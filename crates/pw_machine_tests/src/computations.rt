@@ -7,9 +7,10 @@ use std::process::Abort;
 use std::test::Fail;
 
 const MIN: i64 = i64::MIN;
+
 const MAX: i64 = i64::MAX;
 
-/// Each instruction word leaves its last number in a0 for its values of t0 and t1, goes on behind itself and takes no
+/// Each instruction word leaves its last number in a0 for its values of t0 and t1, goes on after itself and takes no
 /// step.
 fn expect(rt: &impl Abort, alloc: Global, table: &[(u32, i64, i64, i64)]) -> Result<(), Fail> {
     let (mut input, mut out) = no_ports(alloc)?;
@@ -18,8 +19,16 @@ fn expect(rt: &impl Abort, alloc: Global, table: &[(u32, i64, i64, i64)]) -> Res
         let mut hart = hart(t0.cast_unsigned(), t1.cast_unsigned(), 0, 0, 2);
         let end = hart.step(&mut mem, &mut input, &mut out);
         assert_eq!(rt; end, None, "{word:#010x} of {t0} and {t1}");
-        assert_eq!(rt; hart.x[10], a0.cast_unsigned(), "{word:#010x} of {t0} and {t1}");
-        assert_eq!(rt; (hart.pc, hart.steps), (AT + 4, 2), "{word:#010x} of {t0} and {t1}");
+        assert_eq!(rt;
+            hart.x[10],
+            a0.cast_unsigned(),
+            "{word:#010x} of {t0} and {t1}"
+        );
+        assert_eq!(rt;
+            (hart.pc, hart.steps),
+            (AT + 4, 2),
+            "{word:#010x} of {t0} and {t1}"
+        );
     }
     Ok(())
 }
@@ -50,7 +59,12 @@ fn integer_instructions_on_two_registers(rt: HostRuntime) -> Result<(), Fail> {
         (0x0062b533, MIN, MAX, 0),
         (0x0062b533, 5, 5, 0),
         // xor a0, t0, t1: bit by bit
-        (0x0062c533, 0x7f00_ff00_ff00_ff00, 0x0ff0_0ff0_0ff0_0ff0, 0x70f0_f0f0_f0f0_f0f0),
+        (
+            0x0062c533,
+            0x7f00_ff00_ff00_ff00,
+            0x0ff0_0ff0_0ff0_0ff0,
+            0x70f0_f0f0_f0f0_f0f0,
+        ),
         (0x0062c533, -1, -1, 0),
         // srl a0, t0, t1: zeros are shifted in
         (0x0062d533, MIN, 63, 1),
@@ -62,10 +76,20 @@ fn integer_instructions_on_two_registers(rt: HostRuntime) -> Result<(), Fail> {
         (0x4062d533, MAX, 1, 0x3fff_ffff_ffff_ffff),
         (0x4062d533, -1, 64, -1),
         // or a0, t0, t1: bit by bit
-        (0x0062e533, 0x7f00_ff00_ff00_ff00, 0x0ff0_0ff0_0ff0_0ff0, 0x7ff0_fff0_fff0_fff0),
+        (
+            0x0062e533,
+            0x7f00_ff00_ff00_ff00,
+            0x0ff0_0ff0_0ff0_0ff0,
+            0x7ff0_fff0_fff0_fff0,
+        ),
         (0x0062e533, 0, -1, -1),
         // and a0, t0, t1: bit by bit
-        (0x0062f533, 0x7f00_ff00_ff00_ff00, 0x0ff0_0ff0_0ff0_0ff0, 0x0f00_0f00_0f00_0f00),
+        (
+            0x0062f533,
+            0x7f00_ff00_ff00_ff00,
+            0x0ff0_0ff0_0ff0_0ff0,
+            0x0f00_0f00_0f00_0f00,
+        ),
         (0x0062f533, 0, -1, 0),
     ];
     expect(&rt, rt.alloc(), &table)

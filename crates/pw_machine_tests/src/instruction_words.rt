@@ -4,128 +4,232 @@
 use pw_isa::laws::encode_decoded;
 use pw_isa::{Inst, decode};
 use std::process::Abort;
+use std::test::Fail;
 
-/// The instruction word is read as its instruction, and that is written as the instruction word again.
-fn row(rt: &impl Abort, word: u32, is_read: bool) {
-    assert!(rt; is_read, "{word:#010x} is another instruction");
-    assert_eq!(rt; encode_decoded(word), Some(word));
+/// The name of an instruction, its registers rd, rs1 and rs2, and its immediate or count; 0 where it has none.
+fn parts(inst: Inst) -> (&'static str, [u8; 3], i32) {
+    match inst {
+        Inst::Lui { rd, imm } => ("lui", [rd, 0, 0], imm),
+        Inst::Auipc { rd, imm } => ("auipc", [rd, 0, 0], imm),
+        Inst::Jal { rd, imm } => ("jal", [rd, 0, 0], imm),
+        Inst::Jalr { rd, rs1, imm } => ("jalr", [rd, rs1, 0], imm),
+        Inst::Beq { rs1, rs2, imm } => ("beq", [0, rs1, rs2], imm),
+        Inst::Bne { rs1, rs2, imm } => ("bne", [0, rs1, rs2], imm),
+        Inst::Blt { rs1, rs2, imm } => ("blt", [0, rs1, rs2], imm),
+        Inst::Bge { rs1, rs2, imm } => ("bge", [0, rs1, rs2], imm),
+        Inst::Bltu { rs1, rs2, imm } => ("bltu", [0, rs1, rs2], imm),
+        Inst::Bgeu { rs1, rs2, imm } => ("bgeu", [0, rs1, rs2], imm),
+        Inst::Lb { rd, rs1, imm } => ("lb", [rd, rs1, 0], imm),
+        Inst::Lh { rd, rs1, imm } => ("lh", [rd, rs1, 0], imm),
+        Inst::Lw { rd, rs1, imm } => ("lw", [rd, rs1, 0], imm),
+        Inst::Lbu { rd, rs1, imm } => ("lbu", [rd, rs1, 0], imm),
+        Inst::Lhu { rd, rs1, imm } => ("lhu", [rd, rs1, 0], imm),
+        Inst::Sb { rs1, rs2, imm } => ("sb", [0, rs1, rs2], imm),
+        Inst::Sh { rs1, rs2, imm } => ("sh", [0, rs1, rs2], imm),
+        Inst::Sw { rs1, rs2, imm } => ("sw", [0, rs1, rs2], imm),
+        Inst::Addi { rd, rs1, imm } => ("addi", [rd, rs1, 0], imm),
+        Inst::Slti { rd, rs1, imm } => ("slti", [rd, rs1, 0], imm),
+        Inst::Sltiu { rd, rs1, imm } => ("sltiu", [rd, rs1, 0], imm),
+        Inst::Xori { rd, rs1, imm } => ("xori", [rd, rs1, 0], imm),
+        Inst::Ori { rd, rs1, imm } => ("ori", [rd, rs1, 0], imm),
+        Inst::Andi { rd, rs1, imm } => ("andi", [rd, rs1, 0], imm),
+        Inst::Add { rd, rs1, rs2 } => ("add", [rd, rs1, rs2], 0),
+        Inst::Sub { rd, rs1, rs2 } => ("sub", [rd, rs1, rs2], 0),
+        Inst::Sll { rd, rs1, rs2 } => ("sll", [rd, rs1, rs2], 0),
+        Inst::Slt { rd, rs1, rs2 } => ("slt", [rd, rs1, rs2], 0),
+        Inst::Sltu { rd, rs1, rs2 } => ("sltu", [rd, rs1, rs2], 0),
+        Inst::Xor { rd, rs1, rs2 } => ("xor", [rd, rs1, rs2], 0),
+        Inst::Srl { rd, rs1, rs2 } => ("srl", [rd, rs1, rs2], 0),
+        Inst::Sra { rd, rs1, rs2 } => ("sra", [rd, rs1, rs2], 0),
+        Inst::Or { rd, rs1, rs2 } => ("or", [rd, rs1, rs2], 0),
+        Inst::And { rd, rs1, rs2 } => ("and", [rd, rs1, rs2], 0),
+        Inst::Fence => ("fence", [0, 0, 0], 0),
+        Inst::Ecall => ("ecall", [0, 0, 0], 0),
+        Inst::Ebreak => ("ebreak", [0, 0, 0], 0),
+        Inst::Lwu { rd, rs1, imm } => ("lwu", [rd, rs1, 0], imm),
+        Inst::Ld { rd, rs1, imm } => ("ld", [rd, rs1, 0], imm),
+        Inst::Sd { rs1, rs2, imm } => ("sd", [0, rs1, rs2], imm),
+        Inst::Slli { rd, rs1, count } => ("slli", [rd, rs1, 0], i32::from(count)),
+        Inst::Srli { rd, rs1, count } => ("srli", [rd, rs1, 0], i32::from(count)),
+        Inst::Srai { rd, rs1, count } => ("srai", [rd, rs1, 0], i32::from(count)),
+        Inst::Addiw { rd, rs1, imm } => ("addiw", [rd, rs1, 0], imm),
+        Inst::Slliw { rd, rs1, count } => ("slliw", [rd, rs1, 0], i32::from(count)),
+        Inst::Srliw { rd, rs1, count } => ("srliw", [rd, rs1, 0], i32::from(count)),
+        Inst::Sraiw { rd, rs1, count } => ("sraiw", [rd, rs1, 0], i32::from(count)),
+        Inst::Addw { rd, rs1, rs2 } => ("addw", [rd, rs1, rs2], 0),
+        Inst::Subw { rd, rs1, rs2 } => ("subw", [rd, rs1, rs2], 0),
+        Inst::Sllw { rd, rs1, rs2 } => ("sllw", [rd, rs1, rs2], 0),
+        Inst::Srlw { rd, rs1, rs2 } => ("srlw", [rd, rs1, rs2], 0),
+        Inst::Sraw { rd, rs1, rs2 } => ("sraw", [rd, rs1, rs2], 0),
+        Inst::Mul { rd, rs1, rs2 } => ("mul", [rd, rs1, rs2], 0),
+        Inst::Mulh { rd, rs1, rs2 } => ("mulh", [rd, rs1, rs2], 0),
+        Inst::Mulhsu { rd, rs1, rs2 } => ("mulhsu", [rd, rs1, rs2], 0),
+        Inst::Mulhu { rd, rs1, rs2 } => ("mulhu", [rd, rs1, rs2], 0),
+        Inst::Div { rd, rs1, rs2 } => ("div", [rd, rs1, rs2], 0),
+        Inst::Divu { rd, rs1, rs2 } => ("divu", [rd, rs1, rs2], 0),
+        Inst::Rem { rd, rs1, rs2 } => ("rem", [rd, rs1, rs2], 0),
+        Inst::Remu { rd, rs1, rs2 } => ("remu", [rd, rs1, rs2], 0),
+        Inst::Mulw { rd, rs1, rs2 } => ("mulw", [rd, rs1, rs2], 0),
+        Inst::Divw { rd, rs1, rs2 } => ("divw", [rd, rs1, rs2], 0),
+        Inst::Divuw { rd, rs1, rs2 } => ("divuw", [rd, rs1, rs2], 0),
+        Inst::Remw { rd, rs1, rs2 } => ("remw", [rd, rs1, rs2], 0),
+        Inst::Remuw { rd, rs1, rs2 } => ("remuw", [rd, rs1, rs2], 0),
+    }
+}
+
+/// Each instruction word is read as the instruction with these parts, which is written as that instruction word.
+fn expect(rt: &impl Abort, table: &[(u32, &str, [u8; 3], i32)]) -> Result<(), Fail> {
+    for (word, name, registers, number) in table {
+        let inst = decode(*word).ok_or("a word of no instruction")?;
+        let read = parts(inst);
+        assert_eq!(rt; read.0, *name, "{word:#010x}");
+        assert_eq!(rt; read.1, *registers, "{word:#010x}");
+        assert_eq!(rt; read.2, *number, "{word:#010x}");
+        assert_eq!(rt; encode_decoded(*word), Some(*word));
+    }
+    Ok(())
 }
 
 #[test]
-fn every_jump_branch_load_and_store_has_its_word(rt: HostRuntime) {
-    row(&rt, 0x00001537, matches!(decode(0x00001537), Some(Inst::Lui { rd: 10, imm: 1 })));
-    row(&rt, 0x80000097, matches!(decode(0x80000097), Some(Inst::Auipc { rd: 1, imm: -524288 })));
-    row(&rt, 0x7fffffef, matches!(decode(0x7fffffef), Some(Inst::Jal { rd: 31, imm: 1048574 })));
-    row(&rt, 0x7ff88467, matches!(decode(0x7ff88467), Some(Inst::Jalr { rd: 8, rs1: 17, imm: 2047 })));
-    row(&rt, 0x00b280e3, matches!(decode(0x00b280e3), Some(Inst::Beq { rs1: 5, rs2: 11, imm: 2048 })));
-    row(&rt, 0xfe311fe3, matches!(decode(0xfe311fe3), Some(Inst::Bne { rs1: 2, rs2: 3, imm: -2 })));
-    row(&rt, 0x01df4863, matches!(decode(0x01df4863), Some(Inst::Blt { rs1: 30, rs2: 29, imm: 16 })));
-    row(&rt, 0x8188d063, matches!(decode(0x8188d063), Some(Inst::Bge { rs1: 17, rs2: 24, imm: -4096 })));
-    row(&rt, 0x7eb2efe3, matches!(decode(0x7eb2efe3), Some(Inst::Bltu { rs1: 5, rs2: 11, imm: 4094 })));
-    row(&rt, 0xfe317ae3, matches!(decode(0xfe317ae3), Some(Inst::Bgeu { rs1: 2, rs2: 3, imm: -12 })));
-    row(&rt, 0xffcf0f83, matches!(decode(0xffcf0f83), Some(Inst::Lb { rd: 31, rs1: 30, imm: -4 })));
-    row(&rt, 0x3e889403, matches!(decode(0x3e889403), Some(Inst::Lh { rd: 8, rs1: 17, imm: 1000 })));
-    row(&rt, 0x8002a503, matches!(decode(0x8002a503), Some(Inst::Lw { rd: 10, rs1: 5, imm: -2048 })));
-    row(&rt, 0x7ff14083, matches!(decode(0x7ff14083), Some(Inst::Lbu { rd: 1, rs1: 2, imm: 2047 })));
-    row(&rt, 0x008f5f83, matches!(decode(0x008f5f83), Some(Inst::Lhu { rd: 31, rs1: 30, imm: 8 })));
-    row(&rt, 0x7f888fa3, matches!(decode(0x7f888fa3), Some(Inst::Sb { rs1: 17, rs2: 24, imm: 2047 })));
-    row(&rt, 0x00b29423, matches!(decode(0x00b29423), Some(Inst::Sh { rs1: 5, rs2: 11, imm: 8 })));
-    row(&rt, 0xfe312c23, matches!(decode(0xfe312c23), Some(Inst::Sw { rs1: 2, rs2: 3, imm: -8 })));
+fn every_jump_branch_load_and_store_has_its_word(rt: HostRuntime) -> Result<(), Fail> {
+    let table = [
+        (0x0000_1537, "lui", [10, 0, 0], 1),
+        (0x8000_0097, "auipc", [1, 0, 0], -524288),
+        (0x7fff_ffef, "jal", [31, 0, 0], 1048574),
+        (0x7ff8_8467, "jalr", [8, 17, 0], 2047),
+        (0x00b2_80e3, "beq", [0, 5, 11], 2048),
+        (0xfe31_1fe3, "bne", [0, 2, 3], -2),
+        (0x01df_4863, "blt", [0, 30, 29], 16),
+        (0x8188_d063, "bge", [0, 17, 24], -4096),
+        (0x7eb2_efe3, "bltu", [0, 5, 11], 4094),
+        (0xfe31_7ae3, "bgeu", [0, 2, 3], -12),
+        (0xffcf_0f83, "lb", [31, 30, 0], -4),
+        (0x3e88_9403, "lh", [8, 17, 0], 1000),
+        (0x8002_a503, "lw", [10, 5, 0], -2048),
+        (0x7ff1_4083, "lbu", [1, 2, 0], 2047),
+        (0x008f_5f83, "lhu", [31, 30, 0], 8),
+        (0x7f88_8fa3, "sb", [0, 17, 24], 2047),
+        (0x00b2_9423, "sh", [0, 5, 11], 8),
+        (0xfe31_2c23, "sw", [0, 2, 3], -8),
+    ];
+    expect(&rt, &table)
 }
 
 #[test]
-fn every_rv32i_computation_has_its_word(rt: HostRuntime) {
-    row(&rt, 0x7fff0f93, matches!(decode(0x7fff0f93), Some(Inst::Addi { rd: 31, rs1: 30, imm: 2047 })));
-    row(&rt, 0x0088a413, matches!(decode(0x0088a413), Some(Inst::Slti { rd: 8, rs1: 17, imm: 8 })));
-    row(&rt, 0xffc2b513, matches!(decode(0xffc2b513), Some(Inst::Sltiu { rd: 10, rs1: 5, imm: -4 })));
-    row(&rt, 0x3e814093, matches!(decode(0x3e814093), Some(Inst::Xori { rd: 1, rs1: 2, imm: 1000 })));
-    row(&rt, 0x800f6f93, matches!(decode(0x800f6f93), Some(Inst::Ori { rd: 31, rs1: 30, imm: -2048 })));
-    row(&rt, 0x7ff8f413, matches!(decode(0x7ff8f413), Some(Inst::Andi { rd: 8, rs1: 17, imm: 2047 })));
-    row(&rt, 0x00b28533, matches!(decode(0x00b28533), Some(Inst::Add { rd: 10, rs1: 5, rs2: 11 })));
-    row(&rt, 0x403100b3, matches!(decode(0x403100b3), Some(Inst::Sub { rd: 1, rs1: 2, rs2: 3 })));
-    row(&rt, 0x01df1fb3, matches!(decode(0x01df1fb3), Some(Inst::Sll { rd: 31, rs1: 30, rs2: 29 })));
-    row(&rt, 0x0188a433, matches!(decode(0x0188a433), Some(Inst::Slt { rd: 8, rs1: 17, rs2: 24 })));
-    row(&rt, 0x00b2b533, matches!(decode(0x00b2b533), Some(Inst::Sltu { rd: 10, rs1: 5, rs2: 11 })));
-    row(&rt, 0x003140b3, matches!(decode(0x003140b3), Some(Inst::Xor { rd: 1, rs1: 2, rs2: 3 })));
-    row(&rt, 0x01df5fb3, matches!(decode(0x01df5fb3), Some(Inst::Srl { rd: 31, rs1: 30, rs2: 29 })));
-    row(&rt, 0x4188d433, matches!(decode(0x4188d433), Some(Inst::Sra { rd: 8, rs1: 17, rs2: 24 })));
-    row(&rt, 0x00b2e533, matches!(decode(0x00b2e533), Some(Inst::Or { rd: 10, rs1: 5, rs2: 11 })));
-    row(&rt, 0x003170b3, matches!(decode(0x003170b3), Some(Inst::And { rd: 1, rs1: 2, rs2: 3 })));
+fn every_rv32i_computation_has_its_word(rt: HostRuntime) -> Result<(), Fail> {
+    let table = [
+        (0x7fff_0f93, "addi", [31, 30, 0], 2047),
+        (0x0088_a413, "slti", [8, 17, 0], 8),
+        (0xffc2_b513, "sltiu", [10, 5, 0], -4),
+        (0x3e81_4093, "xori", [1, 2, 0], 1000),
+        (0x800f_6f93, "ori", [31, 30, 0], -2048),
+        (0x7ff8_f413, "andi", [8, 17, 0], 2047),
+        (0x00b2_8533, "add", [10, 5, 11], 0),
+        (0x4031_00b3, "sub", [1, 2, 3], 0),
+        (0x01df_1fb3, "sll", [31, 30, 29], 0),
+        (0x0188_a433, "slt", [8, 17, 24], 0),
+        (0x00b2_b533, "sltu", [10, 5, 11], 0),
+        (0x0031_40b3, "xor", [1, 2, 3], 0),
+        (0x01df_5fb3, "srl", [31, 30, 29], 0),
+        (0x4188_d433, "sra", [8, 17, 24], 0),
+        (0x00b2_e533, "or", [10, 5, 11], 0),
+        (0x0031_70b3, "and", [1, 2, 3], 0),
+    ];
+    expect(&rt, &table)
 }
 
 #[test]
-fn every_fence_call_and_rv64i_instruction_has_its_word(rt: HostRuntime) {
-    row(&rt, 0x0ff0000f, matches!(decode(0x0ff0000f), Some(Inst::Fence)));
-    row(&rt, 0x00000073, matches!(decode(0x00000073), Some(Inst::Ecall)));
-    row(&rt, 0x00100073, matches!(decode(0x00100073), Some(Inst::Ebreak)));
-    row(&rt, 0x80016083, matches!(decode(0x80016083), Some(Inst::Lwu { rd: 1, rs1: 2, imm: -2048 })));
-    row(&rt, 0x7fff3f83, matches!(decode(0x7fff3f83), Some(Inst::Ld { rd: 31, rs1: 30, imm: 2047 })));
-    row(&rt, 0x7f88bfa3, matches!(decode(0x7f88bfa3), Some(Inst::Sd { rs1: 17, rs2: 24, imm: 2047 })));
-    row(&rt, 0x03f29513, matches!(decode(0x03f29513), Some(Inst::Slli { rd: 10, rs1: 5, count: 63 })));
-    row(&rt, 0x02015093, matches!(decode(0x02015093), Some(Inst::Srli { rd: 1, rs1: 2, count: 32 })));
-    row(&rt, 0x401f5f93, matches!(decode(0x401f5f93), Some(Inst::Srai { rd: 31, rs1: 30, count: 1 })));
-    row(&rt, 0x7ff8841b, matches!(decode(0x7ff8841b), Some(Inst::Addiw { rd: 8, rs1: 17, imm: 2047 })));
-    row(&rt, 0x0112951b, matches!(decode(0x0112951b), Some(Inst::Slliw { rd: 10, rs1: 5, count: 17 })));
-    row(&rt, 0x0011509b, matches!(decode(0x0011509b), Some(Inst::Srliw { rd: 1, rs1: 2, count: 1 })));
-    row(&rt, 0x41ff5f9b, matches!(decode(0x41ff5f9b), Some(Inst::Sraiw { rd: 31, rs1: 30, count: 31 })));
-    row(&rt, 0x0188843b, matches!(decode(0x0188843b), Some(Inst::Addw { rd: 8, rs1: 17, rs2: 24 })));
-    row(&rt, 0x40b2853b, matches!(decode(0x40b2853b), Some(Inst::Subw { rd: 10, rs1: 5, rs2: 11 })));
-    row(&rt, 0x003110bb, matches!(decode(0x003110bb), Some(Inst::Sllw { rd: 1, rs1: 2, rs2: 3 })));
-    row(&rt, 0x01df5fbb, matches!(decode(0x01df5fbb), Some(Inst::Srlw { rd: 31, rs1: 30, rs2: 29 })));
-    row(&rt, 0x4188d43b, matches!(decode(0x4188d43b), Some(Inst::Sraw { rd: 8, rs1: 17, rs2: 24 })));
+fn every_fence_call_and_rv64i_instruction_has_its_word(rt: HostRuntime) -> Result<(), Fail> {
+    let table = [
+        (0x0ff0_000f, "fence", [0, 0, 0], 0),
+        (0x0000_0073, "ecall", [0, 0, 0], 0),
+        (0x0010_0073, "ebreak", [0, 0, 0], 0),
+        (0x8001_6083, "lwu", [1, 2, 0], -2048),
+        (0x7fff_3f83, "ld", [31, 30, 0], 2047),
+        (0x7f88_bfa3, "sd", [0, 17, 24], 2047),
+        (0x03f2_9513, "slli", [10, 5, 0], 63),
+        (0x0201_5093, "srli", [1, 2, 0], 32),
+        (0x401f_5f93, "srai", [31, 30, 0], 1),
+        (0x7ff8_841b, "addiw", [8, 17, 0], 2047),
+        (0x0112_951b, "slliw", [10, 5, 0], 17),
+        (0x0011_509b, "srliw", [1, 2, 0], 1),
+        (0x41ff_5f9b, "sraiw", [31, 30, 0], 31),
+        (0x0188_843b, "addw", [8, 17, 24], 0),
+        (0x40b2_853b, "subw", [10, 5, 11], 0),
+        (0x0031_10bb, "sllw", [1, 2, 3], 0),
+        (0x01df_5fbb, "srlw", [31, 30, 29], 0),
+        (0x4188_d43b, "sraw", [8, 17, 24], 0),
+    ];
+    expect(&rt, &table)
 }
 
 #[test]
-fn every_multiplication_and_division_has_its_word(rt: HostRuntime) {
-    row(&rt, 0x02b28533, matches!(decode(0x02b28533), Some(Inst::Mul { rd: 10, rs1: 5, rs2: 11 })));
-    row(&rt, 0x023110b3, matches!(decode(0x023110b3), Some(Inst::Mulh { rd: 1, rs1: 2, rs2: 3 })));
-    row(&rt, 0x03df2fb3, matches!(decode(0x03df2fb3), Some(Inst::Mulhsu { rd: 31, rs1: 30, rs2: 29 })));
-    row(&rt, 0x0388b433, matches!(decode(0x0388b433), Some(Inst::Mulhu { rd: 8, rs1: 17, rs2: 24 })));
-    row(&rt, 0x02b2c533, matches!(decode(0x02b2c533), Some(Inst::Div { rd: 10, rs1: 5, rs2: 11 })));
-    row(&rt, 0x023150b3, matches!(decode(0x023150b3), Some(Inst::Divu { rd: 1, rs1: 2, rs2: 3 })));
-    row(&rt, 0x03df6fb3, matches!(decode(0x03df6fb3), Some(Inst::Rem { rd: 31, rs1: 30, rs2: 29 })));
-    row(&rt, 0x0388f433, matches!(decode(0x0388f433), Some(Inst::Remu { rd: 8, rs1: 17, rs2: 24 })));
-    row(&rt, 0x02b2853b, matches!(decode(0x02b2853b), Some(Inst::Mulw { rd: 10, rs1: 5, rs2: 11 })));
-    row(&rt, 0x023140bb, matches!(decode(0x023140bb), Some(Inst::Divw { rd: 1, rs1: 2, rs2: 3 })));
-    row(&rt, 0x03df5fbb, matches!(decode(0x03df5fbb), Some(Inst::Divuw { rd: 31, rs1: 30, rs2: 29 })));
-    row(&rt, 0x0388e43b, matches!(decode(0x0388e43b), Some(Inst::Remw { rd: 8, rs1: 17, rs2: 24 })));
-    row(&rt, 0x02b2f53b, matches!(decode(0x02b2f53b), Some(Inst::Remuw { rd: 10, rs1: 5, rs2: 11 })));
+fn every_multiplication_and_division_has_its_word(rt: HostRuntime) -> Result<(), Fail> {
+    let table = [
+        (0x02b2_8533, "mul", [10, 5, 11], 0),
+        (0x0231_10b3, "mulh", [1, 2, 3], 0),
+        (0x03df_2fb3, "mulhsu", [31, 30, 29], 0),
+        (0x0388_b433, "mulhu", [8, 17, 24], 0),
+        (0x02b2_c533, "div", [10, 5, 11], 0),
+        (0x0231_50b3, "divu", [1, 2, 3], 0),
+        (0x03df_6fb3, "rem", [31, 30, 29], 0),
+        (0x0388_f433, "remu", [8, 17, 24], 0),
+        (0x02b2_853b, "mulw", [10, 5, 11], 0),
+        (0x0231_40bb, "divw", [1, 2, 3], 0),
+        (0x03df_5fbb, "divuw", [31, 30, 29], 0),
+        (0x0388_e43b, "remw", [8, 17, 24], 0),
+        (0x02b2_f53b, "remuw", [10, 5, 11], 0),
+    ];
+    expect(&rt, &table)
 }
 
 #[test]
-fn immediates_and_counts_reach_the_ends_of_their_ranges(rt: HostRuntime) {
-    row(&rt, 0x80010093, matches!(decode(0x80010093), Some(Inst::Addi { rd: 1, rs1: 2, imm: -2048 })));
-    row(&rt, 0x7ff10093, matches!(decode(0x7ff10093), Some(Inst::Addi { rd: 1, rs1: 2, imm: 2047 })));
-    row(&rt, 0xfff10093, matches!(decode(0xfff10093), Some(Inst::Addi { rd: 1, rs1: 2, imm: -1 })));
-    row(&rt, 0x80113023, matches!(decode(0x80113023), Some(Inst::Sd { rs1: 2, rs2: 1, imm: -2048 })));
-    row(&rt, 0x7e113fa3, matches!(decode(0x7e113fa3), Some(Inst::Sd { rs1: 2, rs2: 1, imm: 2047 })));
-    row(&rt, 0xfe113fa3, matches!(decode(0xfe113fa3), Some(Inst::Sd { rs1: 2, rs2: 1, imm: -1 })));
-    row(&rt, 0x80208063, matches!(decode(0x80208063), Some(Inst::Beq { rs1: 1, rs2: 2, imm: -4096 })));
-    row(&rt, 0x7e208fe3, matches!(decode(0x7e208fe3), Some(Inst::Beq { rs1: 1, rs2: 2, imm: 4094 })));
-    row(&rt, 0xfe208fe3, matches!(decode(0xfe208fe3), Some(Inst::Beq { rs1: 1, rs2: 2, imm: -2 })));
-    row(&rt, 0x002080e3, matches!(decode(0x002080e3), Some(Inst::Beq { rs1: 1, rs2: 2, imm: 2048 })));
-    row(&rt, 0x800000ef, matches!(decode(0x800000ef), Some(Inst::Jal { rd: 1, imm: -1048576 })));
-    row(&rt, 0x7ffff0ef, matches!(decode(0x7ffff0ef), Some(Inst::Jal { rd: 1, imm: 1048574 })));
-    row(&rt, 0xfffff0ef, matches!(decode(0xfffff0ef), Some(Inst::Jal { rd: 1, imm: -2 })));
-    row(&rt, 0x001000ef, matches!(decode(0x001000ef), Some(Inst::Jal { rd: 1, imm: 2048 })));
-    row(&rt, 0x000010ef, matches!(decode(0x000010ef), Some(Inst::Jal { rd: 1, imm: 4096 })));
-    row(&rt, 0x800000b7, matches!(decode(0x800000b7), Some(Inst::Lui { rd: 1, imm: -524288 })));
-    row(&rt, 0x7ffff0b7, matches!(decode(0x7ffff0b7), Some(Inst::Lui { rd: 1, imm: 524287 })));
-    row(&rt, 0xfffff0b7, matches!(decode(0xfffff0b7), Some(Inst::Lui { rd: 1, imm: -1 })));
-    row(&rt, 0x03f11093, matches!(decode(0x03f11093), Some(Inst::Slli { rd: 1, rs1: 2, count: 63 })));
-    row(&rt, 0x40105013, matches!(decode(0x40105013), Some(Inst::Srai { rd: 0, rs1: 0, count: 1 })));
-    row(&rt, 0x41ffdf9b, matches!(decode(0x41ffdf9b), Some(Inst::Sraiw { rd: 31, rs1: 31, count: 31 })));
-    row(&rt, 0x02a28533, matches!(decode(0x02a28533), Some(Inst::Mul { rd: 10, rs1: 5, rs2: 10 })));
+fn immediates_and_counts_reach_the_ends_of_their_ranges(rt: HostRuntime) -> Result<(), Fail> {
+    let table = [
+        // I: the least, the greatest, and all bits set
+        (0x8001_0093, "addi", [1, 2, 0], -2048),
+        (0x7ff1_0093, "addi", [1, 2, 0], 2047),
+        (0xfff1_0093, "addi", [1, 2, 0], -1),
+        // S: the same
+        (0x8011_3023, "sd", [0, 2, 1], -2048),
+        (0x7e11_3fa3, "sd", [0, 2, 1], 2047),
+        (0xfe11_3fa3, "sd", [0, 2, 1], -1),
+        // B: the same, and bit 11, which stands lowest
+        (0x8020_8063, "beq", [0, 1, 2], -4096),
+        (0x7e20_8fe3, "beq", [0, 1, 2], 4094),
+        (0xfe20_8fe3, "beq", [0, 1, 2], -2),
+        (0x0020_80e3, "beq", [0, 1, 2], 2048),
+        // J: the same, bit 11, and bit 12
+        (0x8000_00ef, "jal", [1, 0, 0], -1048576),
+        (0x7fff_f0ef, "jal", [1, 0, 0], 1048574),
+        (0xffff_f0ef, "jal", [1, 0, 0], -2),
+        (0x0010_00ef, "jal", [1, 0, 0], 2048),
+        (0x0000_10ef, "jal", [1, 0, 0], 4096),
+        // U: the same
+        (0x8000_00b7, "lui", [1, 0, 0], -524288),
+        (0x7fff_f0b7, "lui", [1, 0, 0], 524287),
+        (0xffff_f0b7, "lui", [1, 0, 0], -1),
+        // counts of 6 bits and of 5
+        (0x03f1_1093, "slli", [1, 2, 0], 63),
+        (0x4010_5013, "srai", [0, 0, 0], 1),
+        (0x41ff_df9b, "sraiw", [31, 31, 0], 31),
+        // rd, rs1 and rs2 in their places
+        (0x02a2_8533, "mul", [10, 5, 10], 0),
+    ];
+    expect(&rt, &table)
 }
 
 #[test]
-fn a_program_is_read_as_other_tools_wrote_it(rt: HostRuntime) {
-    row(&rt, 0x3e800493, matches!(decode(0x3e800493), Some(Inst::Addi { rd: 9, rs1: 0, imm: 1000 })));
-    row(&rt, 0x01000297, matches!(decode(0x01000297), Some(Inst::Auipc { rd: 5, imm: 4096 })));
-    row(&rt, 0xffc2b283, matches!(decode(0xffc2b283), Some(Inst::Ld { rd: 5, rs1: 5, imm: -4 })));
-    row(&rt, 0x000280e7, matches!(decode(0x000280e7), Some(Inst::Jalr { rd: 1, rs1: 5, imm: 0 })));
-    row(&rt, 0x05d00893, matches!(decode(0x05d00893), Some(Inst::Addi { rd: 17, rs1: 0, imm: 93 })));
-    row(&rt, 0x00000073, matches!(decode(0x00000073), Some(Inst::Ecall)));
+fn a_program_is_read_as_other_tools_wrote_it(rt: HostRuntime) -> Result<(), Fail> {
+    let table = [
+        (0x3e80_0493, "addi", [9, 0, 0], 1000),
+        (0x0100_0297, "auipc", [5, 0, 0], 4096),
+        (0xffc2_b283, "ld", [5, 5, 0], -4),
+        (0x0002_80e7, "jalr", [1, 5, 0], 0),
+        (0x05d0_0893, "addi", [17, 0, 0], 93),
+        (0x0000_0073, "ecall", [0, 0, 0], 0),
+    ];
+    expect(&rt, &table)
 }
 
 #[test]

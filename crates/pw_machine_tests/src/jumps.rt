@@ -17,7 +17,11 @@ fn expect_branches(
         let mut hart = hart(t0.cast_unsigned(), t1.cast_unsigned(), 0, 0, 2);
         let end = hart.step(&mut mem, &mut input, &mut out);
         assert_eq!(rt; end, None, "{word:#010x} of {t0} and {t1}");
-        assert_eq!(rt; (hart.pc, hart.steps), (*pc, *steps), "{word:#010x} of {t0} and {t1}");
+        assert_eq!(rt;
+            (hart.pc, hart.steps),
+            (*pc, *steps),
+            "{word:#010x} of {t0} and {t1}"
+        );
     }
     Ok(())
 }
@@ -102,7 +106,13 @@ fn jumps_link_and_take_a_step_for_a_call_and_for_the_way_back(rt: HostRuntime) -
         // jal zero, -8: back: a step
         (0xff9ff06f, 0, [0, 0, 0], AT - 8, 1),
         // jalr ra, 3(t0): a call takes a step; bit 0 of the target is dropped in the sum
-        (0x003280e7, 0x0200_0001, [AT + 4, 0x0200_0001, 0], 0x0200_0004, 1),
+        (
+            0x003280e7,
+            0x0200_0001,
+            [AT + 4, 0x0200_0001, 0],
+            0x0200_0004,
+            1,
+        ),
         // jalr zero, -1(t0): back without a link: no step
         (0xfff28067, AT - 15, [0, AT - 15, 0], AT - 16, 2),
         // jalr zero, 0(t0): forward without a link: no step
@@ -136,7 +146,11 @@ fn fence_and_a_write_to_x0_change_no_register(rt: HostRuntime) -> Result<(), Fai
         let mut after = before;
         let end = after.step(&mut mem, &mut input, &mut out);
         assert_eq!(rt; end, None, "{word:#010x}");
-        assert_eq!(rt; (after.x, after.pc, after.steps), (before.x, AT + 4, 2), "{word:#010x}");
+        assert_eq!(rt;
+            (after.x, after.pc, after.steps),
+            (before.x, AT + 4, 2),
+            "{word:#010x}"
+        );
     }
     Ok(())
 }

@@ -9,7 +9,7 @@ use std::test::Fail;
 
 /// Where the text stands.
 const TEXT: u64 = 0x0100_0000;
-/// Where the instruction stands that is tried, behind four others.
+/// Where the instruction stands that is tried, after four others.
 pub(crate) const AT: u64 = TEXT + 16;
 /// Where the data stand.
 pub(crate) const DATA: u64 = 0x0200_0000;

@@ -3,7 +3,7 @@
 use pw_mem::{Access, FlatMemory, MapError, Memory, Recorder, Region, Rights};
 use std::test::Fail;
 
-/// The address behind the last one that a region may hold.
+/// The address after the last one that a region may hold.
 const TOP: u64 = u64::MAX - 7;
 
 /// A region with these rights.
@@ -208,7 +208,11 @@ fn fetches_are_told_until_they_are_too_many(rt: HostRuntime) -> Result<(), Fail>
         assert_eq!(rt; mem.fetch(at), answer, "at {at}");
     }
     let told = [16, 20, 18, 0, 28, 32, TOP + 4, TOP + 6];
-    assert_eq!(rt; mem.told(), Some(told.as_slice()), "refused fetches are told too");
+    assert_eq!(rt;
+        mem.told(),
+        Some(told.as_slice()),
+        "refused fetches are told too"
+    );
     for _ in 8..Recorder::MOST {
         let _ = mem.fetch(16);
     }
@@ -216,6 +220,10 @@ fn fetches_are_told_until_they_are_too_many(rt: HostRuntime) -> Result<(), Fail>
     let _ = mem.fetch(16);
     assert!(rt; mem.told().is_none());
     map_four(&mut mem)?;
-    assert_eq!(rt; mem.told(), Some([].as_slice()), "a new mapping begins anew");
+    assert_eq!(rt;
+        mem.told(),
+        Some([].as_slice()),
+        "a new mapping begins anew"
+    );
     Ok(())
 }

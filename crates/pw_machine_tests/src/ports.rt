@@ -2,13 +2,12 @@
 
 use pw_base::Name;
 use pw_io::{
-    Asked, DirStore, Failed, MemSink, MemSource, MemStore, Next, Sink, Source, StdSink, StdSource, Store,
-    StoreError,
+    Asked, DirStore, Failed, MemSink, MemSource, MemStore, Next, Sink, Source, StdSink, StdSource,
+    Store, StoreError,
 };
-use std::fs;
-use std::io;
 use std::io::{Read, Write};
 use std::test::Fail;
+use std::{fs, io};
 
 #[test]
 fn a_failed_call_takes_nothing_and_the_end_comes_after_the_last_byte(

@@ -39,7 +39,11 @@ fn a_run_takes_input_and_puts_output(rt: HostRuntime) -> Result<(), Fail> {
         let mut out = MemSink::new(rt.alloc(), 4, [bad_out].to_vec(rt.alloc())?)?;
         let mut hart = hart(0, 0, 0, 0, 0);
         let end = hart.run(&mut mem, &mut input, &mut out, limit);
-        assert_eq!(rt; end, want, "limit {limit}, failing {bad_input} and {bad_out}");
+        assert_eq!(rt;
+            end,
+            want,
+            "limit {limit}, failing {bad_input} and {bad_out}"
+        );
         assert_eq!(rt; hart.pc, AT + 4 * instructions, "limit {limit}");
         assert_eq!(rt; out.written().len(), put, "limit {limit}");
     }

@@ -14,7 +14,7 @@ use crate::memory::Memory;
 use crate::region::Region;
 use std::alloc::Global;
 
-/// A memory that keeps one vector a region. It does not tell the addresses of its fetches.
+/// A memory that keeps one vector a region. It does not report the addresses of its fetches.
 #[derive(Drop)]
 pub struct FlatMemory {
     alloc: Global,

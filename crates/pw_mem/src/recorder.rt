@@ -1,4 +1,4 @@
-//! A memory that also tells the addresses of its fetches, up to a number of them.
+//! A memory that also reports the addresses of its fetches, up to a number of them.
 
 ghost use Rattle.std.specs.Prelude.{◌≡◌, Some, [], IfOk, option_copied, false};
 ghost use Rattle.pw_mem.specs.Flat.{mem_of, fetches_of};
@@ -11,7 +11,7 @@ use crate::region::Region;
 use pw_base::NoMemory;
 use std::alloc::Global;
 
-/// A memory that keeps one vector a region, and tells the addresses of its fetches since the last `map`, up to
+/// A memory that keeps one vector a region, and reports the addresses of its fetches since the last `map`, up to
 /// [`Recorder::MOST`] of them. It is for whoever tries what a run fetches.
 #[derive(Drop)]
 pub struct Recorder {
@@ -21,7 +21,7 @@ pub struct Recorder {
 }
 
 impl Recorder {
-    /// How many addresses are told; with one more the memory ceases to tell.
+    /// How many addresses are reported; with one more the memory ceases to report.
     pub const MOST: usize = 65_536;
 
     /// A memory with no region and no fetch. Takes the room for the addresses, of 8 bytes each; `NoMemory` where that is
@@ -37,7 +37,7 @@ impl Recorder {
         })
     }
 
-    /// The addresses fetched from since the last `map`, in order, where they are told.
+    /// The addresses fetched from since the last `map`, in order, where they are reported.
     pub fn told(&self) -> Option<&[u64]>
         ensures { option_copied result ≡ told_of self.now }
     {
