@@ -100,10 +100,10 @@ module _ (w : World) (apart : IsApart w) (sp : ℕ) (frame : HasFrame w sp) wher
       let go3 : Moves w s2 s3 = moves_on w apart s2 (Addi 2 2 (negsuc 15)) (set s2.x 2 (sp - 16)) a.ready code1.1.0 (ap (λ v. goes_on (set s2.x 2 v) s2) down) in
       let place : effective 2 (pos 0) s3 ≡ sp - 16 = omega arith in
       let was = a.ready.stack (sp - 16) frame.in_it.from frame.in_it.to frame.in_it.even in
-      let m = Words.put_word s.mem (sp - 16) (s.x 1) in
+      let m = Words.put_doubleword s.mem (sp - 16) (s.x 1) in
       let s4 : MachineState = record s3 { mem = m; pc = s3.pc + 4 } in
       let stores = moves_store w apart s3 2 1 (pos 0) was.value a.ready code1.1.1.0 (subst (λ p. Words.doubleword s.mem p ≡ Some was.value) (sym place) was.is) in
-      let go4 : Moves w s3 s4 = subst (λ p. Moves w s3 (record s3 { mem = Words.put_word s3.mem p (s.x 1); pc = s3.pc + 4 })) place stores in
+      let go4 : Moves w s3 s4 = subst (λ p. Moves w s3 (record s3 { mem = Words.put_doubleword s3.mem p (s.x 1); pc = s3.pc + 4 })) place stores in
       record {
         lands = record {
           end = s4;

@@ -90,17 +90,17 @@ pub record InStack (w : World) (at : ℕ) : Type 0 where
 fetches_same : (m n : Mem) (at : ℕ) (i : Inst) → fetch n at ≡ fetch m at → Fetches m at i → Fetches n at i
 fetches_same m n at i e h = record { value = h.value; fetched = e ∙ h.fetched; reads = h.reads }
 
-stack_after : (m : Mem) (a v x at : ℕ) → x < 2 ^ 64 → Words.doubleword m a ≡ Some v → HasSomeWord m at → (t : Bool) → eqb a at ≡ t → HasSomeWord (Words.put_word m a x) at
-stack_after m a v x at small h was true e = let same : a ≡ at = grind (arith, nat_tests) in record { value = x; is = subst (λ b. Words.doubleword (Words.put_word m a x) b ≡ Some x) same (word-put_same m a v x small h) }
+stack_after : (m : Mem) (a v x at : ℕ) → x < 2 ^ 64 → Words.doubleword m a ≡ Some v → HasSomeWord m at → (t : Bool) → eqb a at ≡ t → HasSomeWord (Words.put_doubleword m a x) at
+stack_after m a v x at small h was true e = let same : a ≡ at = grind (arith, nat_tests) in record { value = x; is = subst (λ b. Words.doubleword (Words.put_doubleword m a x) b ≡ Some x) same (word-put_same m a v x small h) }
 stack_after m a v x at small h was false e = let apart : a ≢ at = grind (arith, nat_tests) in record { value = was.value; is = word-put_other m a at v x h apart ∙ was.is }
 
 -- a word stored in the stack leaves the memory ready
-pub ready_put : (w : World) → IsApart w → (m : Mem) (a x : ℕ) → Ready w m → InStack w a → x < 2 ^ 64 → Ready w (Words.put_word m a x)
+pub ready_put : (w : World) → IsApart w → (m : Mem) (a x : ℕ) → Ready w m → InStack w a → x < 2 ^ 64 → Ready w (Words.put_doubleword m a x)
 ready_put w apart m a x r in_it small =
     let was = r.stack a in_it.from in_it.to in_it.even in
     record {
       sealed = r.sealed;
-      text = λ at i h. fetches_same m (Words.put_word m a x) at i (fetch-put_word m a at was.value x r.sealed was.is) (r.text at i h);
+      text = λ at i h. fetches_same m (Words.put_doubleword m a x) at i (fetch-put_word m a at was.value x r.sealed was.is) (r.text at i h);
       slots = λ name h.
           let beside : a ≢ w.slot name = let b = apart.slot_low name h in let c = in_it.from in omega arith in
           word-put_other m a (w.slot name) was.value x was.is beside ∙ r.slots name h;
@@ -108,5 +108,5 @@ ready_put w apart m a x r in_it small =
     }
 
 -- and the words at other addresses
-pub keeps_put : (w : World) (m : Mem) (a x : ℕ) (K : ℕ → Type 0) → Ready w m → InStack w a → ((at : ℕ) → K at → a ≢ at) → Keeps K m (Words.put_word m a x)
+pub keeps_put : (w : World) (m : Mem) (a x : ℕ) (K : ℕ → Type 0) → Ready w m → InStack w a → ((at : ℕ) → K at → a ≢ at) → Keeps K m (Words.put_doubleword m a x)
 keeps_put w m a x K r in_it apart at k = let was = r.stack a in_it.from in_it.to in_it.even in word-put_other m a at was.value x was.is (apart at k)

@@ -58,10 +58,10 @@ moves_load w apart s rd rs1 imm value r here has =
     moves_on w apart s (Ld rd rs1 imm) (set s.x rd value) r here (ap (λ v. loaded (λ k. k) rd (effective rs1 imm s) s v) (load_word s.mem (effective rs1 imm s) value has))
 
 -- a store of a word
-pub moves_store : (w : World) → IsApart w → (s : MachineState) (rs1 rs2 : ℕ) (imm : ℤ) (was : ℕ) → Ready w s.mem → w.code s.pc ≡ Some (Sd rs1 rs2 imm) → Words.doubleword s.mem (effective rs1 imm s) ≡ Some was → Moves w s (record s { mem = Words.put_word s.mem (effective rs1 imm s) (get s.x rs2); pc = s.pc + 4 })
+pub moves_store : (w : World) → IsApart w → (s : MachineState) (rs1 rs2 : ℕ) (imm : ℤ) (was : ℕ) → Ready w s.mem → w.code s.pc ≡ Some (Sd rs1 rs2 imm) → Words.doubleword s.mem (effective rs1 imm s) ≡ Some was → Moves w s (record s { mem = Words.put_doubleword s.mem (effective rs1 imm s) (get s.x rs2); pc = s.pc + 4 })
 moves_store w apart s rs1 rs2 imm was r here has =
     let at = effective rs1 imm s in
-    let m = Words.put_word s.mem at (get s.x rs2) in
+    let m = Words.put_doubleword s.mem at (get s.x rs2) in
     record {
       here = record { inst = Sd rs1 rs2 imm; there = here };
       goes =

@@ -61,7 +61,7 @@ module _ (funs : List Writer) (main : Writer) (has : main_writer funs ≡ Some m
       small at n top h k = omega arith
 
   slot_word : Words.doubleword (image funs) data_start ≡ Some (main_address funs)
-  slot_word = ap (λ r. Words.word_in true r data_start) slot_seen ∙ ap Some (le-le_bytes 8 (main_address funs) address_small)
+  slot_word = ap (λ r. Words.doubleword_in true r data_start) slot_seen ∙ ap Some (le-le_bytes 8 (main_address funs) address_small)
 
   stack_seen : (at : ℕ) → stack_start ≤ at → at + 8 ≤ stack_start + stack_len → region_at (image funs).regions at 8 ≡ Some (stack_region (zeros stack_len))
   stack_seen at from to =
@@ -81,7 +81,7 @@ module _ (funs : List Writer) (main : Writer) (has : main_writer funs ≡ Some m
       let aligned : eqb (at % 8) 0 ≡ true = grind (arith, nat_tests) in
       record {
         value = le (bytes_at (stack_region (zeros stack_len)) at 8);
-        is = ap (λ t. cond t (Words.word_in true (region_at (image funs).regions at 8) at) None) aligned ∙ ap (λ r. Words.word_in true r at) (stack_seen at from to);
+        is = ap (λ t. cond t (Words.doubleword_in true (region_at (image funs).regions at 8) at) None) aligned ∙ ap (λ r. Words.doubleword_in true r at) (stack_seen at from to);
       }
 
   pub image_ready : Ready (world_of funs main) (image funs)

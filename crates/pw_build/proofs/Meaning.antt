@@ -11,7 +11,7 @@ use Rattle.pw_hart.specs.declared.hart.Hart.{Hart}
 use Rattle.pw_hart.specs.declared.ends.End.{End}
 use Rattle.pw_hart.specs.declared.ends.End.TheVariants as ends
 use Rattle.pw_hart.specs.Run.{RunResult, run}
-use Rattle.pw_hart.specs.Runs.{Moment, state_at, Leaves, RunsTo, RunsUpTo, FailsToRead, FailsToWrite}
+use Rattle.pw_hart.specs.Runs.{ExecutionState, state_at, HasResult, RunsTo, RunsUpTo, FailsToRead, FailsToWrite}
 use Rattle.pw_agree.specs.Image.{CanPlace, image, main_writer, all_words}
 use Rattle.pw_agree.specs.Start.{start}
 use Rattle.pw_agree.specs.Meaning.{output_of, value_of}
@@ -41,11 +41,11 @@ nothing_before input (b ∷ taken) rest e f =
     absurd (omega (arith, n, m))
 
 -- what a run takes of the input, where its outcome has the input whole, is nothing
-takes_nothing : (old new : Moment) (input : List ℕ) (o : RunResult) → o.state.input ≡ input → Leaves old input o new → new.input ≡ old.input
+takes_nothing : (old new : ExecutionState) (input : List ℕ) (o : RunResult) → o.state.input ≡ input → HasResult old input o new → new.input ≡ old.input
 takes_nothing old new input o whole l = l.left ∙ ap (λ t. after t old.input) (nothing_before input l.taken o.state.input l.took whole) ∙ after_nothing old.input
 
 -- the memory that a run leaves keeps the text
-keeps_text : (funs : List Writer) (steps k : ℕ) (fresh : Hart) (old : Given) (new : Moment) (input : List ℕ) → IsFresh steps fresh → old.mem ≡ image funs → Leaves (moment fresh old) input (run k (state_at (moment fresh old) input)) new → KeepsText funs new.mem
+keeps_text : (funs : List Writer) (steps k : ℕ) (fresh : Hart) (old : Given) (new : ExecutionState) (input : List ℕ) → IsFresh steps fresh → old.mem ≡ image funs → HasResult (moment fresh old) input (run k (state_at (moment fresh old) input)) new → KeepsText funs new.mem
 keeps_text funs steps k fresh old new input is_fresh is l =
     let P : Mem → Type 0 = λ m. KeepsText funs m in
     let stays = text_stays funs input [] steps k in
@@ -140,27 +140,27 @@ is_meant funs steps old new WriteFault placed has bound is (inr f) =
     let r = f.runs in broke_off_behind funs has.main steps f.value r.fresh r.last old new f.mid placed has.is bound r.is_fresh is r.runs f.flushes
 
 -- what a moment gives beside the processor
-abbrev pub given_at : Moment → Given
+abbrev pub given_at : ExecutionState → Given
 given_at m = record { mem = m.mem; fetches = m.fetches; told = m.told; input = m.input; out = m.out }
 
 -- no other end of the machine's run than the exit with the value of `main`
-pub only_exit : (funs : List Writer) (steps n : ℕ) (old new : Moment) (end : End) → CanPlace funs → (has : HasMain funs) → 1 ≤ steps → IsFresh steps old.hart → old.mem ≡ image funs → n ≡ (steps + 1) * all_words funs → RunsTo n old new end → end ≡ ends.Exit (value_of has.main)
+pub only_exit : (funs : List Writer) (steps n : ℕ) (old new : ExecutionState) (end : End) → CanPlace funs → (has : HasMain funs) → 1 ≤ steps → IsFresh steps old.hart → old.mem ≡ image funs → n ≡ (steps + 1) * all_words funs → RunsTo n old new end → end ≡ ends.Exit (value_of has.main)
 only_exit funs steps n old new end placed has bound is_fresh is limit r =
     ends_with_main funs has.main steps old.hart new.hart (given_at old) (given_at new) end placed has.is bound is_fresh is (subst (λ k. RunsTo k old new end) limit r)
 
 -- a run that ended with a value, and the flush behind it, are as meant
-pub meant_at_exit : (funs : List Writer) (steps n value : ℕ) (old mid : Moment) (out : SinkState) (ended : Ended) → CanPlace funs → HasMain funs → 1 ≤ steps → IsFresh steps old.hart → old.mem ≡ image funs → n ≡ (steps + 1) * all_words funs → RunsTo n old mid (ends.Exit value) → Flushes value mid.out out ended → IsMeant funs (given_at old) (record { mem = mid.mem; fetches = mid.fetches; told = mid.told; input = mid.input; out = out }) ended
+pub meant_at_exit : (funs : List Writer) (steps n value : ℕ) (old mid : ExecutionState) (out : SinkState) (ended : Ended) → CanPlace funs → HasMain funs → 1 ≤ steps → IsFresh steps old.hart → old.mem ≡ image funs → n ≡ (steps + 1) * all_words funs → RunsTo n old mid (ends.Exit value) → Flushes value mid.out out ended → IsMeant funs (given_at old) (record { mem = mid.mem; fetches = mid.fetches; told = mid.told; input = mid.input; out = out }) ended
 meant_at_exit funs steps n value old mid out ended placed has bound is_fresh is limit r flushes =
     is_meant funs steps (given_at old) _ ended placed has bound is
     (finishes funs steps value old.hart mid.hart (given_at old) (record { mem = mid.mem; fetches = mid.fetches; told = mid.told; input = mid.input; out = out }) mid.out ended is_fresh
     (subst (λ k. RunsTo k old mid (ends.Exit value)) limit r) flushes)
 
 -- so is a run whose output failed at a byte
-pub meant_at_fault : (funs : List Writer) (steps n : ℕ) (old new : Moment) → CanPlace funs → (has : HasMain funs) → 1 ≤ steps → IsFresh steps old.hart → old.mem ≡ image funs → n ≡ (steps + 1) * all_words funs → RunsUpTo n FailsToWrite old new → BreaksOffAsMeant funs (given_at old) (given_at new)
+pub meant_at_fault : (funs : List Writer) (steps n : ℕ) (old new : ExecutionState) → CanPlace funs → (has : HasMain funs) → 1 ≤ steps → IsFresh steps old.hart → old.mem ≡ image funs → n ≡ (steps + 1) * all_words funs → RunsUpTo n FailsToWrite old new → BreaksOffAsMeant funs (given_at old) (given_at new)
 meant_at_fault funs steps n old new placed has bound is_fresh is limit r =
     broke_off_at funs has.main steps old.hart new.hart (given_at old) (given_at new) placed has.is bound is_fresh is (subst (λ k. RunsUpTo k FailsToWrite old new) limit r)
 
 -- and a run whose input failed
-pub meant_at_read_fault : (funs : List Writer) (steps n : ℕ) (old new : Moment) → CanPlace funs → (has : HasMain funs) → 1 ≤ steps → IsFresh steps old.hart → old.mem ≡ image funs → n ≡ (steps + 1) * all_words funs → RunsUpTo n FailsToRead old new → StopsAsMeant funs (given_at old) (given_at new)
+pub meant_at_read_fault : (funs : List Writer) (steps n : ℕ) (old new : ExecutionState) → CanPlace funs → (has : HasMain funs) → 1 ≤ steps → IsFresh steps old.hart → old.mem ≡ image funs → n ≡ (steps + 1) * all_words funs → RunsUpTo n FailsToRead old new → StopsAsMeant funs (given_at old) (given_at new)
 meant_at_read_fault funs steps n old new placed has bound is_fresh is limit r =
     stopped_at funs has.main steps old.hart new.hart (given_at old) (given_at new) placed has.is bound is_fresh is (subst (λ k. RunsUpTo k FailsToRead old new) limit r)

@@ -1,6 +1,7 @@
 -- What the run of an image answers, and what it leaves of its memory, its input and its output.
 use Rattle.std.specs.Prelude.{◌≡◌, ℕ, ◌+◌, ◌*◌, ◌⊎◌, List, Option, Some}
 use Rattle.pw_first.specs.declared.writer.Writer.{Writer}
+use Rattle.pw_isa.specs.Registers.{sp}
 use Rattle.pw_mem.specs.Memory.{Mem}
 use Rattle.pw_io.specs.Source.{SourceState}
 use Rattle.pw_io.specs.Sink.{SinkState, SinkFails, flushed_all}
@@ -9,7 +10,7 @@ use Rattle.pw_hart.specs.declared.ends.End.{End}
 use Rattle.pw_hart.specs.declared.ends.End.TheVariants as ends
 use Rattle.pw_hart.specs.Harts.{registers}
 use Rattle.pw_hart.specs.State.{set}
-use Rattle.pw_hart.specs.Runs.{Moment, Runs}
+use Rattle.pw_hart.specs.Runs.{ExecutionState, Runs}
 use Rattle.pw_agree.specs.Image.{text_start, stack_start, stack_len, all_words, main_writer}
 use Rattle.pw_build.specs.declared.run.Ended.{Ended}
 use Rattle.pw_build.specs.declared.run.Ended.TheVariants.{Exit, ReadFault, WriteFault}
@@ -23,7 +24,7 @@ pub record Given : Type 0 where
   pub out : SinkState
 
 -- the moment at which a processor has this given
-abbrev pub moment : Hart → Given → Moment
+abbrev pub moment : Hart → Given → ExecutionState
 moment hart g = record { hart = hart; mem = g.mem; fetches = g.fetches; told = g.told; input = g.input; out = g.out }
 
 -- There is a function named `main`.
@@ -35,7 +36,7 @@ pub record HasMain (funs : List Writer) : Type 0 where
 pub record IsFresh (steps : ℕ) (hart : Hart) : Type 0 where
   pub pc : hart.pc ≡ text_start
   pub steps_left : hart.steps ≡ steps
-  pub x : registers hart ≡ set (λ _. 0) 2 (stack_start + stack_len)
+  pub x : registers hart ≡ set (λ _. 0) sp (stack_start + stack_len)
 
 -- The machine's run from the start, of at most as many instructions as the words for each counted step and once more,
 -- ends so and leaves that.

@@ -9,6 +9,7 @@ use pw_base::Limits;
 use pw_first::Writer;
 use pw_hart::{End, Hart};
 use pw_io::{Sink, Source};
+use pw_isa::registers::SP;
 use pw_mem::Memory;
 
 /// How the run of an image ended.
@@ -21,9 +22,6 @@ pub enum Ended {
     /// The output failed, at a byte or at the flush behind the last.
     WriteFault,
 }
-
-/// The number of the register that is the stack pointer (psABI, "Integer Register Convention").
-const SP: usize = 2;
 
 /// Runs the image of the functions with so many counted steps, and flushes the output. No memory is taken.
 pub fn execute<M: Memory, I: Source, O: Sink>(
@@ -72,7 +70,7 @@ fn fresh(steps: u64) -> Hart
     ensures { IsFresh steps result }
 {
     let mut x = [0; 32];
-    x[SP] = Limits::STACK_START + Limits::STACK_BYTES;
+    x[usize::from(SP)] = Limits::STACK_START + Limits::STACK_BYTES;
     Hart {
         x,
         pc: TEXT_START,

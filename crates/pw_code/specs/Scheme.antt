@@ -2,49 +2,27 @@
 use Rattle.std.specs.Prelude.{◌≡◌, ℕ, ◌+◌, ◌*◌, ◌≤◌, pos, negsuc, List, [], ◌∷◌, ◌++◌, flat_map, codes, All, length}
 use Rattle.pw_isa.specs.declared.instruction.Inst.{Inst}
 use Rattle.pw_isa.specs.declared.instruction.Inst.TheVariants.{Jal, Jalr, Bne, Ld, Sd, Addi, Ecall}
+use Rattle.pw_isa.specs.Registers.{x0, ra, sp, t0, s1, a0, a1, a7}
+use Rattle.pw_isa.specs.EnvironmentCalls.{exit_call, output_call, fault_call}
+use Rattle.pw_base.specs.Limits.{calls}
 use Rattle.pw_first.specs.declared.writer.Writer.{Writer}
 use Rattle.pw_code.specs.Items.{Item, word, address, size, words_at}
 
--- registers by their names (psABI, "Integer Register Convention"); s1 holds the calls that may still be made
-abbrev pub x0 : ℕ
-x0 = 0
-
-abbrev pub ra : ℕ
-ra = 1
-
-abbrev pub sp : ℕ
-sp = 2
-
-abbrev pub t0 : ℕ
-t0 = 5
-
-abbrev pub s1 : ℕ
-s1 = 9
-
-abbrev pub a0 : ℕ
-a0 = 10
-
-abbrev pub a1 : ℕ
-a1 = 11
-
-abbrev pub a7 : ℕ
-a7 = 17
-
 -- a checked fault of a kind in a line
 abbrev pub fault : (kind line : ℕ) → List Item
-fault kind line = word (Addi a0 x0 (pos kind)) ∷ word (Addi a1 x0 (pos line)) ∷ word (Addi a7 x0 (pos 1026)) ∷ word Ecall ∷ []
+fault kind line = word (Addi a0 x0 (pos kind)) ∷ word (Addi a1 x0 (pos line)) ∷ word (Addi a7 x0 (pos fault_call)) ∷ word Ecall ∷ []
 
 -- a call that may not be made is the fault 4 in the line of the function's name
 abbrev pub checks_depth : ℕ → List Item
 checks_depth line = word (Bne s1 x0 (pos (4 + 4 * size (fault 4 line)))) ∷ fault 4 line
 
--- the call is taken, and its frame of 16 bytes holds the address that it returns to
+-- s1 holds the calls that may still be made: the call is taken, and its frame of 16 bytes holds the address that it returns to
 abbrev pub opens_frame : List Item
 opens_frame = word (Addi s1 s1 (negsuc 0)) ∷ word (Addi sp sp (negsuc 15)) ∷ word (Sd sp ra (pos 0)) ∷ []
 
 -- `__out ( D ) ;`
 abbrev pub output : ℕ → List Item
-output value = word (Addi a0 x0 (pos value)) ∷ word (Addi a7 x0 (pos 1025)) ∷ word Ecall ∷ []
+output value = word (Addi a0 x0 (pos value)) ∷ word (Addi a7 x0 (pos output_call)) ∷ word Ecall ∷ []
 
 -- `return D ;` goes past the value of a function that falls off its end
 abbrev pub falls_off : List Item
@@ -63,11 +41,11 @@ abbrev pub function_items : Writer → List Item
 function_items f =
     checks_depth f.line ++ (opens_frame ++ (flat_map output f.outs ++ (returns f.ret ++ (falls_off ++ closes_frame))))
 
--- a program's entry: `main` is called, with 1,000 calls that may be alive, and what it returns is the exit's value
+-- a program's entry: `main` is called, with as many calls as may be alive, and what it returns is the exit's value
 abbrev pub entry_items : List Item
 entry_items =
-    word (Addi s1 x0 (pos 1000)) ∷ address t0 (codes "main") ∷ word (Jalr ra t0 (pos 0))
-    ∷ word (Addi a7 x0 (pos 93)) ∷ word Ecall ∷ []
+    word (Addi s1 x0 (pos calls)) ∷ address t0 (codes "main") ∷ word (Jalr ra t0 (pos 0))
+    ∷ word (Addi a7 x0 (pos exit_call)) ∷ word Ecall ∷ []
 
 -- the words of items that refer to no name, which are the same at each place
 abbrev pub words : List Item → List ℕ

@@ -5,10 +5,11 @@ ghost use Rattle.pw_code.specs.Scheme.{entry_words};
 ghost use Rattle.pw_code.specs.Appends.{Appends};
 
 use crate::address::{lower_part, upper_part};
-use crate::registers::{A7, RA, S1, T0, X0};
 use crate::words::put;
-use pw_base::NoMemory;
+use pw_base::{Limits, NoMemory};
 use pw_isa::Inst;
+use pw_isa::environment_calls::EXIT;
+use pw_isa::registers::{A7, RA, S1, T0, ZERO};
 
 /// Appends the six words of the entry, which stands at `place`, where the slot of `main` is at `slot`; where memory is
 /// refused, a front of them. Both are addresses in bytes.
@@ -20,8 +21,8 @@ pub fn put_entry(place: u32, slot: u32, to: &mut Vec<u32>) -> Result<(), NoMemor
     let entry = [
         Inst::Addi {
             rd: S1,
-            rs1: X0,
-            imm: 1000,
+            rs1: ZERO,
+            imm: Limits::CALLS as i32,
         },
         Inst::Auipc {
             rd: T0,
@@ -39,8 +40,8 @@ pub fn put_entry(place: u32, slot: u32, to: &mut Vec<u32>) -> Result<(), NoMemor
         },
         Inst::Addi {
             rd: A7,
-            rs1: X0,
-            imm: 93,
+            rs1: ZERO,
+            imm: EXIT as i32,
         },
         Inst::Ecall,
     ];

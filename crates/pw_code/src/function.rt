@@ -4,11 +4,12 @@ ghost use Rattle.pw_code.specs.Items.{size};
 ghost use Rattle.pw_code.specs.Scheme.{function_items, words, head_words, output_words, tail_words, HasSmallNumbers};
 ghost use Rattle.pw_code.specs.Appends.{Appends};
 
-use crate::registers::{A0, A1, A7, RA, S1, SP, X0};
 use crate::words::put;
 use pw_base::NoMemory;
 use pw_first::Writer;
 use pw_isa::Inst;
+use pw_isa::environment_calls::{FAULT, OUTPUT};
+use pw_isa::registers::{A0, A1, A7, RA, S1, SP, ZERO};
 
 /// The number of words of a function: 15, and 3 for each output.
 pub fn function_size(fun: &Writer) -> u64
@@ -26,23 +27,23 @@ fn put_head(line: u16, to: &mut Vec<u32>) -> Result<(), NoMemory>
     let head = [
         Inst::Bne {
             rs1: S1,
-            rs2: X0,
+            rs2: ZERO,
             imm: 20,
         },
         Inst::Addi {
             rd: A0,
-            rs1: X0,
+            rs1: ZERO,
             imm: 4,
         },
         Inst::Addi {
             rd: A1,
-            rs1: X0,
+            rs1: ZERO,
             imm: i32::from(line),
         },
         Inst::Addi {
             rd: A7,
-            rs1: X0,
-            imm: 1026,
+            rs1: ZERO,
+            imm: FAULT as i32,
         },
         Inst::Ecall,
         Inst::Addi {
@@ -72,13 +73,13 @@ fn put_output(value: u16, to: &mut Vec<u32>) -> Result<(), NoMemory>
     let output = [
         Inst::Addi {
             rd: A0,
-            rs1: X0,
+            rs1: ZERO,
             imm: i32::from(value),
         },
         Inst::Addi {
             rd: A7,
-            rs1: X0,
-            imm: 1025,
+            rs1: ZERO,
+            imm: OUTPUT as i32,
         },
         Inst::Ecall,
     ];
@@ -104,13 +105,13 @@ fn put_tail(value: u16, to: &mut Vec<u32>) -> Result<(), NoMemory>
     let tail = [
         Inst::Addi {
             rd: A0,
-            rs1: X0,
+            rs1: ZERO,
             imm: i32::from(value),
         },
-        Inst::Jal { rd: X0, imm: 8 },
+        Inst::Jal { rd: ZERO, imm: 8 },
         Inst::Addi {
             rd: A0,
-            rs1: X0,
+            rs1: ZERO,
             imm: 0,
         },
         Inst::Ld {
@@ -129,7 +130,7 @@ fn put_tail(value: u16, to: &mut Vec<u32>) -> Result<(), NoMemory>
             imm: 1,
         },
         Inst::Jalr {
-            rd: X0,
+            rd: ZERO,
             rs1: RA,
             imm: 0,
         },

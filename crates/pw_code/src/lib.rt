@@ -5,7 +5,6 @@
 mod address;
 mod entry;
 mod function;
-mod registers;
 #[cfg(test)]
 mod tests;
 mod words;

@@ -3,6 +3,8 @@ use Rattle.std.proofs.Common.{◌≡◌, ℕ, Bool, List, [], ◌∷◌, Option,
 use Rattle.pw_isa.specs.declared.instruction.Inst.{Inst}
 use Rattle.pw_isa.specs.declared.instruction.Inst.TheVariants.{Ecall}
 use Rattle.pw_isa.specs.Encoding.{decoded}
+use Rattle.pw_isa.specs.Registers.{a7}
+use Rattle.pw_isa.specs.EnvironmentCalls.{input_call, output_call}
 use Rattle.pw_mem.specs.Memory.{Mem, fetch}
 use Rattle.pw_mem.specs.Fetches.{counted, Told}
 use Rattle.pw_mem.specs.declared.errors.Access.{Access}
@@ -14,16 +16,17 @@ use Rattle.pw_hart.specs.declared.ends.End.TheVariants.{Exit, Checked, Spent, Tr
 use Rattle.pw_hart.specs.State.{MachineState, Next, Goes, Ends, get}
 use Rattle.pw_hart.specs.Exec.{exec, takes_input, puts_output}
 use Rattle.pw_hart.specs.Run.{fetches, carries_out, step}
-use Rattle.pw_hart.specs.Harts.{registers, state_of, next_of, Does}
-use Rattle.pw_hart.specs.Runs.{Moment}
-use Rattle.pw_hart.specs.Advances.{IsMachines, Ports, Uses, Takes, Puts, Calls, Steps, Advances}
+use Rattle.pw_hart.specs.Harts.{registers, state_of}
+use Rattle.pw_hart.specs.Steps.Does.{next_of, Does}
+use Rattle.pw_hart.specs.Runs.{ExecutionState}
+use Rattle.pw_hart.specs.Steps.Advances.{IsMachines, Ports, Uses, Takes, Puts, Calls, MachineStep, Advances}
 use Rattle.pw_hart.proofs.Uses.{uses_nothing, Uses-same}
 use Rattle.pw_hart.proofs.MachineEnds.{IsMachinesNext, exec_is}
 
 -- ---- environment calls
 
 module _ (hart hart' : Hart) (old new : SourceState) (used_up used_up' : Bool) (out : SinkState) where
-  pub calls_take : (result : Option End) → get (registers hart) 17 ≡ 1024 → Takes old used_up hart new used_up' hart' result →
+  pub calls_take : (result : Option End) → get (registers hart) a7 ≡ input_call → Takes old used_up hart new used_up' hart' result →
       Calls (record { input = old; used_up = used_up; out = out }) hart (record { input = new; used_up = used_up'; out = out }) hart' result
   calls_take None call takes = λ mem.
       Uses-same (exec Ecall) (λ s. takes_input s.input s) _ hart mem _ hart' mem Goes (λ input output. rw call refl) (takes mem out)
@@ -36,7 +39,7 @@ module _ (hart hart' : Hart) (old new : SourceState) (used_up used_up' : Bool) (
   calls_take (Some Limit) call takes = absurd takes
 
 module _ (hart hart' : Hart) (old new : SinkState) (input : SourceState) (used_up : Bool) where
-  pub calls_put : (result : Option End) → get (registers hart) 17 ≡ 1025 → Puts old hart new hart' result →
+  pub calls_put : (result : Option End) → get (registers hart) a7 ≡ output_call → Puts old hart new hart' result →
       Calls (record { input = input; used_up = used_up; out = old }) hart (record { input = input; used_up = used_up; out = new }) hart' result
   calls_put None call puts = λ mem.
       Uses-same (exec Ecall) puts_output _ hart mem _ hart' mem Goes (λ i output. rw call refl) (puts mem input used_up)
@@ -68,14 +71,14 @@ step-decoded : (hart : Hart) (mem : Mem) (word : ℕ) (inst : Inst) → fetch me
 step-decoded hart mem word inst fetched decodes input output =
     ap (fetches (state_of hart mem input output)) fetched ∙ ap (carries_out word (state_of hart mem input output)) decodes
 
-abbrev pub moment : Hart → Mem → ℕ → Option (List ℕ) → Ports → Moment
+abbrev pub moment : Hart → Mem → ℕ → Option (List ℕ) → Ports → ExecutionState
 moment hart mem count told p = record { hart = hart; mem = mem; fetches = count; told = told; input = p.input; out = p.out }
 
 -- an environment call that was fetched and decoded
 module _ (hart hart' : Hart) (mem : Mem) (count : ℕ) (told told' : Option (List ℕ)) (p q : Ports) (word : ℕ) (fetched : fetch mem hart.pc ≡ Ok word)
     (decodes : decoded word ≡ Some Ecall) (tells : Told told (hart.pc ∷ []) told') where
   steps_call : (next : MachineState → Next) → Uses (exec Ecall) p hart mem q hart' mem next →
-      Steps (moment hart mem count told p) p.used_up (moment hart' mem (counted count 1) told' q) q.used_up next
+      MachineStep (moment hart mem count told p) p.used_up (moment hart' mem (counted count 1) told' q) q.used_up next
   steps_call next uses = record {
     fetches = record { counts = refl; tells = tells };
     uses = Uses-same step (exec Ecall) p hart mem q hart' mem next (step-decoded hart mem word Ecall fetched decodes) uses;
@@ -112,7 +115,7 @@ module _ (hart hart' : Hart) (mem : Mem) (count : ℕ) (told told' : Option (Lis
 module _ (hart hart' : Hart) (mem mem' : Mem) (count : ℕ) (told told' : Option (List ℕ)) (p : Ports) (tells : Told told (hart.pc ∷ []) told') where
   pub steps_quietly : (next : MachineState → Next) →
       ((input output : List ℕ) → step (state_of hart mem input output) ≡ next (state_of hart' mem' input output)) →
-      Steps (moment hart mem count told p) p.used_up (moment hart' mem' (counted count 1) told' p) p.used_up next
+      MachineStep (moment hart mem count told p) p.used_up (moment hart' mem' (counted count 1) told' p) p.used_up next
   steps_quietly next does = record {
     fetches = record { counts = refl; tells = tells };
     uses = uses_nothing step p hart mem hart' mem' next does;
@@ -144,21 +147,21 @@ module _ (hart hart' : Hart) (mem mem' : Mem) (count : ℕ) (told told' : Option
 -- a fetch that is refused traps
 pub steps_refused : (hart : Hart) (mem mem' : Mem) (count count' : ℕ) (told told' : Option (List ℕ)) (p : Ports) (refusal : Access) →
     fetch mem hart.pc ≡ Err refusal → mem' ≡ mem → count' ≡ counted count 1 → Told told (hart.pc ∷ []) told' →
-    Steps (moment hart mem count told p) p.used_up (moment hart mem' count' told' p) p.used_up (Ends (Trap 1 hart.pc hart.pc))
+    MachineStep (moment hart mem count told p) p.used_up (moment hart mem' count' told' p) p.used_up (Ends (Trap 1 hart.pc hart.pc))
 steps_refused hart mem mem' count count' told told' p refusal refused same counts tells =
-    subst (λ m. Steps (moment hart mem count told p) p.used_up (moment hart m count' told' p) p.used_up (Ends (Trap 1 hart.pc hart.pc))) (sym same)
-    (subst (λ n. Steps (moment hart mem count told p) p.used_up (moment hart mem n told' p) p.used_up (Ends (Trap 1 hart.pc hart.pc))) (sym counts)
+    subst (λ m. MachineStep (moment hart mem count told p) p.used_up (moment hart m count' told' p) p.used_up (Ends (Trap 1 hart.pc hart.pc))) (sym same)
+    (subst (λ n. MachineStep (moment hart mem count told p) p.used_up (moment hart mem n told' p) p.used_up (Ends (Trap 1 hart.pc hart.pc))) (sym counts)
     (steps_quietly hart hart mem mem count told told' p tells (Ends (Trap 1 hart.pc hart.pc))
     (λ input output. ap (fetches (state_of hart mem input output)) refused)))
 
 -- a word that is no instruction traps
 pub steps_illegal : (hart : Hart) (mem mem' : Mem) (count count' : ℕ) (told told' : Option (List ℕ)) (p : Ports) (word value : ℕ) →
     fetch mem hart.pc ≡ Ok word → decoded word ≡ None → value ≡ word → mem' ≡ mem → count' ≡ counted count 1 → Told told (hart.pc ∷ []) told' →
-    Steps (moment hart mem count told p) p.used_up (moment hart mem' count' told' p) p.used_up (Ends (Trap 2 hart.pc value))
+    MachineStep (moment hart mem count told p) p.used_up (moment hart mem' count' told' p) p.used_up (Ends (Trap 2 hart.pc value))
 steps_illegal hart mem mem' count count' told told' p word value fetched illegal is same counts tells =
-    subst (λ m. Steps (moment hart mem count told p) p.used_up (moment hart m count' told' p) p.used_up (Ends (Trap 2 hart.pc value))) (sym same)
-    (subst (λ n. Steps (moment hart mem count told p) p.used_up (moment hart mem n told' p) p.used_up (Ends (Trap 2 hart.pc value))) (sym counts)
-    (subst (λ v. Steps (moment hart mem count told p) p.used_up (moment hart mem (counted count 1) told' p) p.used_up (Ends (Trap 2 hart.pc v))) (sym is)
+    subst (λ m. MachineStep (moment hart mem count told p) p.used_up (moment hart m count' told' p) p.used_up (Ends (Trap 2 hart.pc value))) (sym same)
+    (subst (λ n. MachineStep (moment hart mem count told p) p.used_up (moment hart mem n told' p) p.used_up (Ends (Trap 2 hart.pc value))) (sym counts)
+    (subst (λ v. MachineStep (moment hart mem count told p) p.used_up (moment hart mem (counted count 1) told' p) p.used_up (Ends (Trap 2 hart.pc v))) (sym is)
     (steps_quietly hart hart mem mem count told told' p tells (Ends (Trap 2 hart.pc word))
     (λ input output. ap (fetches (state_of hart mem input output)) fetched ∙ ap (carries_out word (state_of hart mem input output)) illegal))))
 

@@ -9,7 +9,7 @@ use Rattle.pw_mem.specs.declared.errors.Access.TheVariants.{Misaligned, Unmapped
 use Rattle.pw_hart.specs.declared.ends.End.TheVariants.{Exit, Checked, Trap}
 use Rattle.pw_hart.specs.State.{MachineState, Next, Goes, Ends, get}
 use Rattle.pw_hart.specs.Exec.{exec, jumps, takes_step, branches_if, loaded, stored, effective, takes_input, puts_output}
-use Rattle.pw_hart.specs.Advances.{IsMachines}
+use Rattle.pw_hart.specs.Steps.Advances.{IsMachines}
 
 -- what is next is a state, or an end of the machine's own
 abbrev pub IsMachinesNext : Next → Type 0

@@ -11,8 +11,8 @@ use Rattle.pw_hart.specs.declared.ends.End.TheVariants.{Exit, Checked, Spent, Tr
 use Rattle.pw_hart.specs.State.{MachineState, Next, Goes, Ends}
 use Rattle.pw_hart.specs.Run.{RunResult, fetching, then, run}
 use Rattle.pw_hart.specs.Harts.{state_of}
-use Rattle.pw_hart.specs.Runs.{Moment, IsLeft, RunsTo, Runs}
-use Rattle.pw_hart.specs.Advances.{CanBeLeft, Steps, Advances}
+use Rattle.pw_hart.specs.Runs.{ExecutionState, IsLeft, RunsTo, Runs}
+use Rattle.pw_hart.specs.Steps.Advances.{CanBeLeft, MachineStep, Advances}
 
 -- ---- counts of fetches, one after another
 
@@ -59,7 +59,7 @@ told_more (Some xs) (Some ys) (Some list) before behind h g =
 
 -- ---- what an outcome leaves, from a moment with this input left and this output put
 
-pub record Ended (old : Moment) (input output : List ℕ) (o : RunResult) (new : Moment) (end : End) : Type 0 where
+pub record Ended (old : ExecutionState) (input output : List ℕ) (o : RunResult) (new : ExecutionState) (end : End) : Type 0 where
   pub taken : List ℕ
   pub put : List ℕ
   pub ends : o.end ≡ end
@@ -72,7 +72,7 @@ pub record Ended (old : Moment) (input output : List ℕ) (o : RunResult) (new :
   pub tells : Told old.told o.fetched new.told
 
 -- a run of no instruction
-ended_none : (m : Moment) (input output : List ℕ) →
+ended_none : (m : ExecutionState) (input output : List ℕ) →
     Ended m input output (record { end = Limit; state = state_of m.hart m.mem input output; fetched = [] }) m Limit
 ended_none m input output = record {
   taken = [];
@@ -88,8 +88,8 @@ ended_none m input output = record {
 }
 
 -- an instruction, and then an outcome
-module _ (old : Moment) (used_up : Bool) (mid : Moment) (used_up' : Bool) (next : MachineState → Next) where
-  ended_after : (s : Steps old used_up mid used_up' next) (rest output : List ℕ) (o : RunResult) (new : Moment) (end : End) →
+module _ (old : ExecutionState) (used_up : Bool) (mid : ExecutionState) (used_up' : Bool) (next : MachineState → Next) where
+  ended_after : (s : MachineStep old used_up mid used_up' next) (rest output : List ℕ) (o : RunResult) (new : ExecutionState) (end : End) →
       Ended mid rest (output ++ s.uses.put) o new end →
       Ended old (s.uses.taken ++ rest) output (fetching old.hart.pc o) new end
   ended_after s rest output o new end e = record {
@@ -106,15 +106,15 @@ module _ (old : Moment) (used_up : Bool) (mid : Moment) (used_up' : Bool) (next 
   }
 
 -- the machine's run from a moment
-abbrev pub RunsFrom : ℕ → List ℕ → List ℕ → Moment → Moment → End → Type 0
+abbrev pub RunsFrom : ℕ → List ℕ → List ℕ → ExecutionState → ExecutionState → End → Type 0
 RunsFrom n input output old new end = Ended old input output (run n (state_of old.hart old.mem input output)) new end
 
-runs_none : (m : Moment) (input output : List ℕ) → RunsFrom 0 input output m m Limit
+runs_none : (m : ExecutionState) (input output : List ℕ) → RunsFrom 0 input output m m Limit
 runs_none m input output = ended_none m input output
 
 -- a step that goes on, and then a run
-module _ (old : Moment) (used_up : Bool) (mid : Moment) (used_up' : Bool) where
-  runs_on : (s : Steps old used_up mid used_up' Goes) (n : ℕ) (rest output : List ℕ) (new : Moment) (end : End) →
+module _ (old : ExecutionState) (used_up : Bool) (mid : ExecutionState) (used_up' : Bool) where
+  runs_on : (s : MachineStep old used_up mid used_up' Goes) (n : ℕ) (rest output : List ℕ) (new : ExecutionState) (end : End) →
       CanBeLeft mid.input used_up' rest → RunsFrom n rest (output ++ s.uses.put) mid new end →
       RunsFrom (suc n) (s.uses.taken ++ rest) output old new end
   runs_on s n rest output new end can runs =
@@ -123,7 +123,7 @@ module _ (old : Moment) (used_up : Bool) (mid : Moment) (used_up' : Bool) where
       (ended_after old used_up mid used_up' Goes s rest output _ new end runs)
 
   -- a step that ends the run
-  runs_end : (end : End) (s : Steps old used_up mid used_up' (Ends end)) (n : ℕ) (rest output : List ℕ) →
+  runs_end : (end : End) (s : MachineStep old used_up mid used_up' (Ends end)) (n : ℕ) (rest output : List ℕ) →
       CanBeLeft mid.input used_up' rest → RunsFrom (suc n) (s.uses.taken ++ rest) output old mid end
   runs_end end s n rest output can =
       subst (λ next. Ended old (s.uses.taken ++ rest) output (fetching old.hart.pc (then (run n) next)) mid end)
@@ -147,13 +147,13 @@ module _ (old : Moment) (used_up : Bool) (mid : Moment) (used_up' : Bool) where
 -- ---- a run so far
 
 -- after `k` instructions the run is at a moment, and whatever run follows there is the rest of one from the first moment
-pub record Follows (k : ℕ) (first now : Moment) (used_up : Bool) : Type 0 where
+pub record Follows (k : ℕ) (first now : ExecutionState) (used_up : Bool) : Type 0 where
   pub taken : List ℕ
   pub put : List ℕ
   pub left : List ℕ
   pub can : CanBeLeft now.input used_up left
   pub offered : (rest : List ℕ) → CanBeLeft now.input used_up rest → IsLeft (taken ++ rest) first.input
-  pub on : (n : ℕ) (rest : List ℕ) (new : Moment) (end : End) → CanBeLeft now.input used_up rest →
+  pub on : (n : ℕ) (rest : List ℕ) (new : ExecutionState) (end : End) → CanBeLeft now.input used_up rest →
       RunsFrom n rest put now new end → RunsFrom (k + n) (taken ++ rest) [] first new end
 
 -- what is left at first: what the input tells, or nothing
@@ -161,7 +161,7 @@ left_at : (left : Option (List ℕ)) (faults : ℕ) → (bytes : List ℕ) × Ca
 left_at None faults = ([], record { is_left = tt; none = λ e. absurd (cc e) })
 left_at (Some bytes) faults = (bytes, record { is_left = refl; none = λ e. absurd (cc e) })
 
-pub follows_none : (first : Moment) → Follows 0 first first false
+pub follows_none : (first : ExecutionState) → Follows 0 first first false
 follows_none first =
     let start = left_at first.input.left first.input.faults in
     record {
@@ -173,8 +173,8 @@ follows_none first =
       on = λ n rest new end can runs. subst (λ k. RunsFrom k rest [] first new end) (none_more n) runs;
     }
 
-pub follows_more : (k : ℕ) (first now next : Moment) (used_up used_up' : Bool) → Follows k first now used_up →
-    Steps now used_up next used_up' Goes → Follows (k + 1) first next used_up'
+pub follows_more : (k : ℕ) (first now next : ExecutionState) (used_up used_up' : Bool) → Follows k first now used_up →
+    MachineStep now used_up next used_up' Goes → Follows (k + 1) first next used_up'
 follows_more k first now next used_up used_up' f s =
     let over = s.uses.leaves f.left f.can in
     record {
@@ -195,7 +195,7 @@ follows_more k first now next used_up used_up' f s =
 -- ---- what a call answers
 
 -- a run from the first moment, with its input
-runs_to : (n : ℕ) (input : List ℕ) (first new : Moment) (end : End) → IsLeft input first.input →
+runs_to : (n : ℕ) (input : List ℕ) (first new : ExecutionState) (end : End) → IsLeft input first.input →
     RunsFrom n input [] first new end → RunsTo n first new end
 runs_to n input first new end is_left e = record {
   input = input;
@@ -213,18 +213,18 @@ runs_to n input first new end is_left e = record {
 }
 
 -- so many instructions went on
-reaches : (k : ℕ) (first now : Moment) (used_up : Bool) → Follows k first now used_up → RunsTo k first now Limit
+reaches : (k : ℕ) (first now : ExecutionState) (used_up : Bool) → Follows k first now used_up → RunsTo k first now Limit
 reaches k first now used_up f =
     runs_to k (f.taken ++ f.left) first now Limit (f.offered f.left f.can)
     (subst (λ n. RunsFrom n (f.taken ++ f.left) [] first now Limit) (no_more k)
     (f.on 0 f.left now Limit f.can (runs_none now f.left f.put)))
 
-pub answers_limit : (k n : ℕ) (first now : Moment) (used_up : Bool) → k ≤ n → n ≤ k → Follows k first now used_up → Runs n first now Limit
+pub answers_limit : (k n : ℕ) (first now : ExecutionState) (used_up : Bool) → k ≤ n → n ≤ k → Follows k first now used_up → Runs n first now Limit
 answers_limit k n first now used_up le ge f = subst (λ i. Runs i first now Limit) (same_number k n le ge) (reaches k first now used_up f)
 
 -- the machine ends the run
-ends_at : (k n : ℕ) (first now new : Moment) (used_up used_up' : Bool) (end : End) → k < n → Follows k first now used_up →
-    Steps now used_up new used_up' (Ends end) → RunsTo n first new end
+ends_at : (k n : ℕ) (first now new : ExecutionState) (used_up used_up' : Bool) (end : End) → k < n → Follows k first now used_up →
+    MachineStep now used_up new used_up' (Ends end) → RunsTo n first new end
 ends_at k n first now new used_up used_up' end below f s =
     let over = s.uses.leaves f.left f.can in
     runs_to n (f.taken ++ (s.uses.taken ++ over.0)) first new end (f.offered _ (s.uses.offered over.0 over.1))
@@ -232,7 +232,7 @@ ends_at k n first now new used_up used_up' end below f s =
     (f.on (suc (n - k - 1)) (s.uses.taken ++ over.0) new end (s.uses.offered over.0 over.1)
     (runs_end now used_up new used_up' end s (n - k - 1) over.0 f.put over.1)))
 
-pub answers_end : (k n : ℕ) (first now new : Moment) (used_up used_up' : Bool) (end : End) → k < n → Follows k first now used_up →
+pub answers_end : (k n : ℕ) (first now new : ExecutionState) (used_up used_up' : Bool) (end : End) → k < n → Follows k first now used_up →
     Advances now used_up new used_up' (Some end) → Runs n first new end
 answers_end k n first now new used_up used_up' (Exit value) below f a = ends_at k n first now new used_up used_up' _ below f a
 answers_end k n first now new used_up used_up' (Checked kind line pc) below f a = ends_at k n first now new used_up used_up' _ below f a
@@ -243,7 +243,7 @@ answers_end k n first now new used_up used_up' WriteFault below f a = record { k
 answers_end k n first now new used_up used_up' Limit below f a = absurd a
 
 -- one instruction
-pub answers_step : (first new : Moment) (used_up' : Bool) (result : Option End) → Advances first false new used_up' result →
+pub answers_step : (first new : ExecutionState) (used_up' : Bool) (result : Option End) → Advances first false new used_up' result →
     Runs 1 first new (unwrap_or result Limit)
 answers_step first new used_up' None a =
     answers_limit 1 1 first new used_up' (lit≤ tt) (lit≤ tt) (follows_more 0 first first new false used_up' (follows_none first) a)

@@ -12,7 +12,7 @@ use Rattle.pw_hart.specs.State.{MachineState, Next, Goes, writes, goes_on, get}
 use Rattle.pw_hart.specs.Exec.{takes_input, puts_output}
 use Rattle.pw_hart.specs.Harts.{registers, state_of}
 use Rattle.pw_hart.specs.Runs.{IsLeft}
-use Rattle.pw_hart.specs.Advances.{Ports, Uses}
+use Rattle.pw_hart.specs.Steps.Advances.{Ports, Uses}
 
 -- an instruction that is the same whatever the input and the output are uses nothing of them
 pub uses_nothing : (f : MachineState → Next) (p : Ports) (hart : Hart) (mem : Mem) (hart' : Hart) (mem' : Mem) (next : MachineState → Next) →

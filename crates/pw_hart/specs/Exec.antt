@@ -3,6 +3,8 @@ use Rattle.std.specs.Prelude.{ℕ, zero, suc, ◌-◌, ◌*◌, ◌%◌, ◌^◌
 use Rattle.std.specs.Int.{w8, w16, w32}
 use Rattle.pw_isa.specs.declared.instruction.Inst.{Inst}
 use Rattle.pw_isa.specs.declared.instruction.Inst.TheVariants.{Lui, Auipc, Jal, Jalr, Beq, Bne, Blt, Bge, Bltu, Bgeu, Lb, Lh, Lw, Ld, Lbu, Lhu, Lwu, Sb, Sh, Sw, Sd, Addi, Slti, Sltiu, Xori, Ori, Andi, Slli, Srli, Srai, Add, Sub, Sll, Slt, Sltu, Xor, Srl, Sra, Or, And, Mul, Mulh, Mulhsu, Mulhu, Div, Divu, Rem, Remu, Addiw, Slliw, Srliw, Sraiw, Addw, Subw, Sllw, Srlw, Sraw, Mulw, Divw, Divuw, Remw, Remuw, Fence, Ecall, Ebreak}
+use Rattle.pw_isa.specs.Registers.{ra, a0, a1, a7}
+use Rattle.pw_isa.specs.EnvironmentCalls.{exit_call, input_call, output_call, fault_call}
 use Rattle.pw_mem.specs.Memory.{Mem, load, store}
 use Rattle.pw_mem.specs.declared.errors.Access.{Access}
 use Rattle.pw_mem.specs.declared.errors.Access.TheVariants.{Misaligned, Unmapped, Denied}
@@ -54,7 +56,7 @@ goes_back target s = nat_le target s.pc
 
 -- a jump that writes the address behind it to rd: a call, with rd = x1, and a jump back are counted
 abbrev pub jumps_and_links : ℕ → ℕ → Bool → MachineState → Next
-jumps_and_links rd target counted s = jumps (rd == 1 || counted) target (set s.x rd (following s)) s
+jumps_and_links rd target counted s = jumps (rd == ra || counted) target (set s.x rd (following s)) s
 
 -- a branch that is taken or not: taken backwards it is counted
 abbrev pub branches_if : Bool → ℤ → MachineState → Next
@@ -99,24 +101,24 @@ stores width rs1 rs2 imm s =
 
 -- the next byte of the input goes to a0, or all ones at its end
 abbrev pub takes_input : List ℕ → MachineState → Next
-takes_input [] s = writes 10 all_ones s
-takes_input (byte ∷ rest) s = writes 10 byte (record s { input = rest })
+takes_input [] s = writes a0 all_ones s
+takes_input (byte ∷ rest) s = writes a0 byte (record s { input = rest })
 
 -- the lowest byte of a0 is put behind the output
 abbrev pub puts_output : MachineState → Next
-puts_output s = goes_on s.x (record s { output = s.output ++ zero_extend w8 (get s.x 10) ∷ [] })
+puts_output s = goes_on s.x (record s { output = s.output ++ zero_extend w8 (get s.x a0) ∷ [] })
 
 -- whether a number names a kind of checked fault
 abbrev pub is_fault_kind : ℕ → Bool
 is_fault_kind kind = nat_le 1 kind && nat_le kind 4
 
--- 93 exits with a0, 1024 takes input, 1025 puts output, 1026 is a checked fault of the kind a0 in the line a1; others trap
+-- an exit with a0, a byte of input, a byte of output, or a checked fault of the kind a0 in the line a1; other numbers trap
 abbrev pub calls_environment : ℕ → MachineState → Next
 calls_environment number s =
-    if number == 93 then Ends (Exit (get s.x 10)) s
-    else (if number == 1024 then takes_input s.input s
-    else (if number == 1025 then puts_output s
-    else (if number == 1026 && is_fault_kind (get s.x 10) then Ends (Checked (get s.x 10) (get s.x 11) s.pc) s
+    if number == exit_call then Ends (Exit (get s.x a0)) s
+    else (if number == input_call then takes_input s.input s
+    else (if number == output_call then puts_output s
+    else (if number == fault_call && is_fault_kind (get s.x a0) then Ends (Checked (get s.x a0) (get s.x a1) s.pc) s
     else Ends (Trap 8 s.pc number) s)))
 
 -- ---- the table
@@ -171,7 +173,7 @@ exec (Sh rs1 rs2 imm) = stores 2 rs1 rs2 imm
 exec (Sb rs1 rs2 imm) = stores 1 rs1 rs2 imm
 -- memory ordering, environment call and breakpoint
 exec Fence = λ s. goes_on s.x s
-exec Ecall = λ s. calls_environment (get s.x 17) s
+exec Ecall = λ s. calls_environment (get s.x a7) s
 exec Ebreak = λ s. Ends (Trap 3 s.pc 0) s
 -- RV64I: the W forms
 exec (Addiw rd rs1 imm) = by_immediate addw rd rs1 imm

@@ -2,6 +2,8 @@
 use Rattle.std.specs.Prelude.{◌≡◌, ℕ, ◌<◌, List, [], ◌∷◌, ◌++◌, length, Option, Some, Ok, IfSome}
 use Rattle.pw_isa.specs.Encoding.{decoded}
 use Rattle.pw_isa.specs.declared.instruction.Inst.TheVariants.{Ecall}
+use Rattle.pw_isa.specs.Registers.{a7}
+use Rattle.pw_isa.specs.EnvironmentCalls.{input_call, output_call}
 use Rattle.pw_mem.specs.Memory.{Mem, fetch}
 use Rattle.pw_mem.specs.Fetches.{counted, Told}
 use Rattle.pw_io.specs.Source.{SourceState, SourceFails, after}
@@ -14,7 +16,7 @@ use Rattle.pw_hart.specs.Run.{RunResult, run}
 use Rattle.pw_hart.specs.Harts.{state_of}
 
 -- a processor and what it is given, at one moment: a memory with its fetches, an input, and an output
-pub record Moment : Type 0 where
+pub record ExecutionState : Type 0 where
   pub hart : Hart
   pub mem : Mem
   pub fetches : ℕ
@@ -27,11 +29,11 @@ abbrev pub IsLeft : List ℕ → SourceState → Type 0
 IsLeft bytes input = IfSome input.left (λ left. left ≡ bytes)
 
 -- the machine's state at a moment, where this input is left and nothing is put yet
-abbrev pub state_at : Moment → List ℕ → MachineState
+abbrev pub state_at : ExecutionState → List ℕ → MachineState
 state_at m input = state_of m.hart m.mem input []
 
 -- what an outcome of the machine leaves: its state, the input without what was taken, the output with what was put, and its fetches counted
-pub record Leaves (old : Moment) (input : List ℕ) (o : RunResult) (new : Moment) : Type 0 where
+pub record HasResult (old : ExecutionState) (input : List ℕ) (o : RunResult) (new : ExecutionState) : Type 0 where
   pub taken : List ℕ
   pub took : input ≡ taken ++ o.state.input
   pub left : new.input ≡ after taken old.input
@@ -41,22 +43,22 @@ pub record Leaves (old : Moment) (input : List ℕ) (o : RunResult) (new : Momen
   pub tells : Told old.told o.fetched new.told
 
 -- the machine's run of at most `n` instructions ends so and leaves that, with the input that is left, or with some input where it is not told
-pub record RunsTo (n : ℕ) (old new : Moment) (end : End) : Type 0 where
+pub record RunsTo (n : ℕ) (old new : ExecutionState) (end : End) : Type 0 where
   pub input : List ℕ
   pub is_left : IsLeft input old.input
   pub ends : (run n (state_at old input)).end ≡ end
-  pub leaves : Leaves old input (run n (state_at old input)) new
+  pub leaves : HasResult old input (run n (state_at old input)) new
 
 -- the next instruction is the environment call of this number
-pub record IsAtCall (number : ℕ) (m : Moment) : Type 0 where
+pub record IsAtCall (number : ℕ) (m : ExecutionState) : Type 0 where
   pub word : ℕ
   pub fetched : fetch m.mem m.hart.pc ≡ Ok word
   pub call : decoded word ≡ Some Ecall
-  pub number_is : get (state_at m []).x 17 ≡ number
+  pub number_is : get (state_at m []).x a7 ≡ number
 
 -- the environment call of input is fetched and not carried out, since the input failed
-pub record FailsToRead (old new : Moment) : Type 0 where
-  pub call : IsAtCall 1024 old
+pub record FailsToRead (old new : ExecutionState) : Type 0 where
+  pub call : IsAtCall input_call old
   pub hart : new.hart ≡ old.hart
   pub mem : new.mem ≡ old.mem
   pub counts : new.fetches ≡ counted old.fetches 1
@@ -65,8 +67,8 @@ pub record FailsToRead (old new : Moment) : Type 0 where
   pub out : new.out ≡ old.out
 
 -- the environment call of output is fetched and not carried out, since the output failed
-pub record FailsToWrite (old new : Moment) : Type 0 where
-  pub call : IsAtCall 1025 old
+pub record FailsToWrite (old new : ExecutionState) : Type 0 where
+  pub call : IsAtCall output_call old
   pub hart : new.hart ≡ old.hart
   pub mem : new.mem ≡ old.mem
   pub counts : new.fetches ≡ counted old.fetches 1
@@ -75,15 +77,15 @@ pub record FailsToWrite (old new : Moment) : Type 0 where
   pub out : SinkFails old.out new.out
 
 -- the run up to some instruction before the `n`th, and then that failure
-pub record RunsUpTo (n : ℕ) (fails : Moment → Moment → Type 0) (old new : Moment) : Type 0 where
+pub record RunsUpTo (n : ℕ) (fails : ExecutionState → ExecutionState → Type 0) (old new : ExecutionState) : Type 0 where
   pub k : ℕ
   pub below : k < n
-  pub at : Moment
+  pub at : ExecutionState
   pub before : RunsTo k old at Limit
   pub failure : fails at new
 
 -- a run of at most `n` instructions: as the machine's ends, or up to the call at which the input or the output failed
-abbrev pub Runs : ℕ → Moment → Moment → End → Type 0
+abbrev pub Runs : ℕ → ExecutionState → ExecutionState → End → Type 0
 Runs n old new ReadFault = RunsUpTo n FailsToRead old new
 Runs n old new WriteFault = RunsUpTo n FailsToWrite old new
 Runs n old new end = RunsTo n old new end

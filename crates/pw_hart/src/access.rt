@@ -2,17 +2,18 @@
 
 ghost use Rattle.std.specs.Prelude.{◌≡◌, ◌<◌, ℕ, List, IsTrue};
 ghost use Rattle.pw_mem.specs.Memory.{Mem, is_width};
-ghost use Rattle.pw_hart.specs.Access.{width_of, extension_of};
+ghost use Rattle.pw_hart.specs.Steps.Access.{width_of, extension_of};
 ghost use Rattle.pw_hart.specs.Exec.{loads, stores};
-ghost use Rattle.pw_hart.specs.Harts.{Does};
+ghost use Rattle.pw_hart.specs.Steps.Does.{Does};
 
 use crate::ends::End;
 use crate::hart::Hart;
 use crate::word::{low_word, sign_extend_byte, sign_extend_half, sign_extend_word};
+use pw_isa::registers::ZERO;
 use pw_mem::{Access, Memory};
 
 /// What is loaded: a number of 1, 2, 4 or 8 bytes, sign-extended or not.
-#[derive(Clone, Copy, PartialEq, Eq, Debug)]
+#[derive(Clone, Copy)]
 pub(crate) enum Load {
     Byte,
     Half,
@@ -100,7 +101,7 @@ impl Hart {
     {
         let at = self.effective(rs1, imm);
         match mem.store(at, width, self.get(rs2)) {
-            Ok(()) => self.write(0, 0),
+            Ok(()) => self.write(ZERO, 0),
             Err(Access::Misaligned) => Some(End::Trap {
                 cause: 6,
                 pc: self.pc,

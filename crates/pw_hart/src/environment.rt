@@ -1,24 +1,18 @@
 //! Environment calls, by the number in a7.
 
 ghost use Rattle.std.specs.Prelude.{◌≡◌, ◌≢◌, ℕ, List};
+ghost use Rattle.pw_isa.specs.EnvironmentCalls.{input_call, output_call};
 ghost use Rattle.pw_mem.specs.Memory.{Mem};
 ghost use Rattle.pw_hart.specs.State as Machine;
 ghost use Rattle.pw_hart.specs.Exec.{calls_environment};
 ghost use Rattle.pw_hart.specs.Harts.{state_of};
-ghost use Rattle.pw_hart.specs.Advances.{IsMachines, Takes, Puts, Calls};
+ghost use Rattle.pw_hart.specs.Steps.Advances.{IsMachines, Takes, Puts, Calls};
 
 use crate::ends::End;
 use crate::hart::Hart;
 use pw_io::{Failed, Next, Sink, Source};
-
-/// The number of the call that ends the program with a0.
-const EXIT: u64 = 93;
-/// The number of the call that takes the next byte of the input into a0.
-const INPUT: u64 = 1024;
-/// The number of the call that puts the lowest byte of a0 behind the output.
-const OUTPUT: u64 = 1025;
-/// The number of the call that ends the program with a checked fault of the kind a0 in the line a1.
-const FAULT: u64 = 1026;
+use pw_isa::environment_calls::{EXIT, FAULT, INPUT, OUTPUT};
+use pw_isa::registers::{A0, A1, A7, ZERO};
 
 impl Hart {
     /// Takes the next byte of the input into a0, or all ones at its end. An input that came to its end is not asked
@@ -27,31 +21,31 @@ impl Hart {
         ensures { Takes (I.state input.old) used_up.old self.old (I.state input.new) used_up.new self.new result }
     {
         if *used_up {
-            self.advance(10, u64::MAX);
+            self.advance(A0, u64::MAX);
             return None;
         }
         match input.next() {
             Next::Byte(byte) => {
-                self.advance(10, u64::from(byte));
+                self.advance(A0, u64::from(byte));
                 None
             }
             Next::End => {
                 *used_up = true;
-                self.advance(10, u64::MAX);
+                self.advance(A0, u64::MAX);
                 None
             }
             Next::Failed => Some(End::ReadFault),
         }
     }
 
-    /// Puts the lowest byte of a0 behind the output.
+    /// Appends the lowest byte of a0 to the output.
     fn put_output<O: Sink>(&mut self, out: &mut O) -> Option<End>
         ensures { Puts (O.state out.old) self.old (O.state out.new) self.new result }
     {
-        let byte = (self.get(10) % (1 << 8)) as u8;
+        let byte = (self.get(A0) % (1 << 8)) as u8;
         match out.put(byte) {
             Ok(()) => {
-                self.advance(0, 0);
+                self.advance(ZERO, 0);
                 None
             }
             Err(Failed) => Some(End::WriteFault),
@@ -60,20 +54,20 @@ impl Hart {
 
     /// How a call ends the run that neither takes nor puts.
     fn end_of_call(&self, number: u64) -> End
-        requires no_input { number ≢ 1024 }
-        requires no_output { number ≢ 1025 }
+        requires no_input { number ≢ input_call }
+        requires no_output { number ≢ output_call }
         ensures machines { IsMachines result }
         ensures ends { (mem : Mem) (input output : List ℕ) →
             calls_environment number (state_of self.now mem input output) ≡ Machine.Ends result (state_of self.now mem input output) }
     {
-        let value = self.get(10);
+        let value = self.get(A0);
         if number == EXIT {
             return End::Exit(value);
         }
         if number == FAULT && value >= 1 && value <= 4 {
             return End::Checked {
                 kind: value as u8,
-                line: self.get(11),
+                line: self.get(A1),
                 pc: self.pc,
             };
         }
@@ -94,7 +88,7 @@ impl Hart {
         ensures { Calls (record { input = I.state input.old; used_up = used_up.old; out = O.state out.old }) self.old
             (record { input = I.state input.new; used_up = used_up.new; out = O.state out.new }) self.new result }
     {
-        let number = self.get(17);
+        let number = self.get(A7);
         if number == INPUT {
             return self.take_input(input, used_up);
         }

@@ -4,17 +4,14 @@ ghost use Rattle.std.specs.Prelude.{◌≡◌, ◌≢◌, ℕ, List};
 ghost use Rattle.pw_isa.specs.Encoding.{IsEncodable};
 ghost use Rattle.pw_mem.specs.Memory.{Mem};
 ghost use Rattle.pw_hart.specs.Exec.{exec};
-ghost use Rattle.pw_hart.specs.Harts.{Does};
+ghost use Rattle.pw_hart.specs.Steps.Does.{Does};
 
 use crate::access::Load;
 use crate::ends::End;
 use crate::hart::Hart;
-use crate::integer::{add, sll, slt, sltu, sra, srl, sub};
-use crate::multiply::{
-    div, divu, divuw, divw, mul, mulh, mulhsu, mulhu, mulw, rem, remu, remuw, remw,
-};
-use crate::word::{addw, sign_extended, sllw, sraw, srlw, subw};
+use crate::operation::{Condition, Operation};
 use pw_isa::Inst;
+use pw_isa::registers::ZERO;
 use pw_mem::Memory;
 
 impl Hart {
@@ -26,19 +23,16 @@ impl Hart {
         ensures no_fetch { (M.fetches mem.new ≡ M.fetches mem.old) × (M.told mem.new ≡ M.told mem.old) }
     {
         match inst {
-            Inst::Lui { rd, imm } => self.write(rd, sign_extended(imm).wrapping_mul(1 << 12)),
-            Inst::Auipc { rd, imm } => self.write(
-                rd,
-                add(self.pc, sign_extended(imm).wrapping_mul(1 << 12)),
-            ),
+            Inst::Lui { rd, imm } => self.lui(rd, imm),
+            Inst::Auipc { rd, imm } => self.auipc(rd, imm),
             Inst::Jal { rd, imm } => self.jal(rd, imm),
             Inst::Jalr { rd, rs1, imm } => self.jalr(rd, rs1, imm),
-            Inst::Beq { rs1, rs2, imm } => self.branch(self.get(rs1) == self.get(rs2), imm),
-            Inst::Bne { rs1, rs2, imm } => self.branch(self.get(rs1) != self.get(rs2), imm),
-            Inst::Blt { rs1, rs2, imm } => self.branch(slt(self.get(rs1), self.get(rs2)) == 1, imm),
-            Inst::Bge { rs1, rs2, imm } => self.branch(slt(self.get(rs1), self.get(rs2)) == 0, imm),
-            Inst::Bltu { rs1, rs2, imm } => self.branch(self.get(rs1) < self.get(rs2), imm),
-            Inst::Bgeu { rs1, rs2, imm } => self.branch(self.get(rs1) >= self.get(rs2), imm),
+            Inst::Beq { rs1, rs2, imm } => self.branch_on(Condition::Eq, rs1, rs2, imm),
+            Inst::Bne { rs1, rs2, imm } => self.branch_on(Condition::Ne, rs1, rs2, imm),
+            Inst::Blt { rs1, rs2, imm } => self.branch_on(Condition::Lt, rs1, rs2, imm),
+            Inst::Bge { rs1, rs2, imm } => self.branch_on(Condition::Ge, rs1, rs2, imm),
+            Inst::Bltu { rs1, rs2, imm } => self.branch_on(Condition::Ltu, rs1, rs2, imm),
+            Inst::Bgeu { rs1, rs2, imm } => self.branch_on(Condition::Geu, rs1, rs2, imm),
             Inst::Lb { rd, rs1, imm } => self.load(mem, Load::Byte, rd, rs1, imm),
             Inst::Lh { rd, rs1, imm } => self.load(mem, Load::Half, rd, rs1, imm),
             Inst::Lw { rd, rs1, imm } => self.load(mem, Load::Word, rd, rs1, imm),
@@ -47,23 +41,23 @@ impl Hart {
             Inst::Sb { rs1, rs2, imm } => self.store(mem, 1, rs1, rs2, imm),
             Inst::Sh { rs1, rs2, imm } => self.store(mem, 2, rs1, rs2, imm),
             Inst::Sw { rs1, rs2, imm } => self.store(mem, 4, rs1, rs2, imm),
-            Inst::Addi { rd, rs1, imm } => self.write(rd, add(self.get(rs1), sign_extended(imm))),
-            Inst::Slti { rd, rs1, imm } => self.write(rd, slt(self.get(rs1), sign_extended(imm))),
-            Inst::Sltiu { rd, rs1, imm } => self.write(rd, sltu(self.get(rs1), sign_extended(imm))),
-            Inst::Xori { rd, rs1, imm } => self.write(rd, self.get(rs1) ^ sign_extended(imm)),
-            Inst::Ori { rd, rs1, imm } => self.write(rd, self.get(rs1) | sign_extended(imm)),
-            Inst::Andi { rd, rs1, imm } => self.write(rd, self.get(rs1) & sign_extended(imm)),
-            Inst::Add { rd, rs1, rs2 } => self.write(rd, add(self.get(rs1), self.get(rs2))),
-            Inst::Sub { rd, rs1, rs2 } => self.write(rd, sub(self.get(rs1), self.get(rs2))),
-            Inst::Sll { rd, rs1, rs2 } => self.write(rd, sll(self.get(rs1), self.get(rs2))),
-            Inst::Slt { rd, rs1, rs2 } => self.write(rd, slt(self.get(rs1), self.get(rs2))),
-            Inst::Sltu { rd, rs1, rs2 } => self.write(rd, sltu(self.get(rs1), self.get(rs2))),
-            Inst::Xor { rd, rs1, rs2 } => self.write(rd, self.get(rs1) ^ self.get(rs2)),
-            Inst::Srl { rd, rs1, rs2 } => self.write(rd, srl(self.get(rs1), self.get(rs2))),
-            Inst::Sra { rd, rs1, rs2 } => self.write(rd, sra(self.get(rs1), self.get(rs2))),
-            Inst::Or { rd, rs1, rs2 } => self.write(rd, self.get(rs1) | self.get(rs2)),
-            Inst::And { rd, rs1, rs2 } => self.write(rd, self.get(rs1) & self.get(rs2)),
-            Inst::Fence => self.write(0, 0),
+            Inst::Addi { rd, rs1, imm } => self.by_immediate(Operation::Add, rd, rs1, imm),
+            Inst::Slti { rd, rs1, imm } => self.by_immediate(Operation::Slt, rd, rs1, imm),
+            Inst::Sltiu { rd, rs1, imm } => self.by_immediate(Operation::Sltu, rd, rs1, imm),
+            Inst::Xori { rd, rs1, imm } => self.by_immediate(Operation::Xor, rd, rs1, imm),
+            Inst::Ori { rd, rs1, imm } => self.by_immediate(Operation::Or, rd, rs1, imm),
+            Inst::Andi { rd, rs1, imm } => self.by_immediate(Operation::And, rd, rs1, imm),
+            Inst::Add { rd, rs1, rs2 } => self.by_register(Operation::Add, rd, rs1, rs2),
+            Inst::Sub { rd, rs1, rs2 } => self.by_register(Operation::Sub, rd, rs1, rs2),
+            Inst::Sll { rd, rs1, rs2 } => self.by_register(Operation::Sll, rd, rs1, rs2),
+            Inst::Slt { rd, rs1, rs2 } => self.by_register(Operation::Slt, rd, rs1, rs2),
+            Inst::Sltu { rd, rs1, rs2 } => self.by_register(Operation::Sltu, rd, rs1, rs2),
+            Inst::Xor { rd, rs1, rs2 } => self.by_register(Operation::Xor, rd, rs1, rs2),
+            Inst::Srl { rd, rs1, rs2 } => self.by_register(Operation::Srl, rd, rs1, rs2),
+            Inst::Sra { rd, rs1, rs2 } => self.by_register(Operation::Sra, rd, rs1, rs2),
+            Inst::Or { rd, rs1, rs2 } => self.by_register(Operation::Or, rd, rs1, rs2),
+            Inst::And { rd, rs1, rs2 } => self.by_register(Operation::And, rd, rs1, rs2),
+            Inst::Fence => self.write(ZERO, 0),
             Inst::Ecall => unreachable!(),
             Inst::Ebreak => Some(End::Trap {
                 cause: 3,
@@ -73,31 +67,31 @@ impl Hart {
             Inst::Lwu { rd, rs1, imm } => self.load(mem, Load::UnsignedWord, rd, rs1, imm),
             Inst::Ld { rd, rs1, imm } => self.load(mem, Load::Double, rd, rs1, imm),
             Inst::Sd { rs1, rs2, imm } => self.store(mem, 8, rs1, rs2, imm),
-            Inst::Slli { rd, rs1, count } => self.write(rd, sll(self.get(rs1), u64::from(count))),
-            Inst::Srli { rd, rs1, count } => self.write(rd, srl(self.get(rs1), u64::from(count))),
-            Inst::Srai { rd, rs1, count } => self.write(rd, sra(self.get(rs1), u64::from(count))),
-            Inst::Addiw { rd, rs1, imm } => self.write(rd, addw(self.get(rs1), sign_extended(imm))),
-            Inst::Slliw { rd, rs1, count } => self.write(rd, sllw(self.get(rs1), u64::from(count))),
-            Inst::Srliw { rd, rs1, count } => self.write(rd, srlw(self.get(rs1), u64::from(count))),
-            Inst::Sraiw { rd, rs1, count } => self.write(rd, sraw(self.get(rs1), u64::from(count))),
-            Inst::Addw { rd, rs1, rs2 } => self.write(rd, addw(self.get(rs1), self.get(rs2))),
-            Inst::Subw { rd, rs1, rs2 } => self.write(rd, subw(self.get(rs1), self.get(rs2))),
-            Inst::Sllw { rd, rs1, rs2 } => self.write(rd, sllw(self.get(rs1), self.get(rs2))),
-            Inst::Srlw { rd, rs1, rs2 } => self.write(rd, srlw(self.get(rs1), self.get(rs2))),
-            Inst::Sraw { rd, rs1, rs2 } => self.write(rd, sraw(self.get(rs1), self.get(rs2))),
-            Inst::Mul { rd, rs1, rs2 } => self.write(rd, mul(self.get(rs1), self.get(rs2))),
-            Inst::Mulh { rd, rs1, rs2 } => self.write(rd, mulh(self.get(rs1), self.get(rs2))),
-            Inst::Mulhsu { rd, rs1, rs2 } => self.write(rd, mulhsu(self.get(rs1), self.get(rs2))),
-            Inst::Mulhu { rd, rs1, rs2 } => self.write(rd, mulhu(self.get(rs1), self.get(rs2))),
-            Inst::Div { rd, rs1, rs2 } => self.write(rd, div(self.get(rs1), self.get(rs2))),
-            Inst::Divu { rd, rs1, rs2 } => self.write(rd, divu(self.get(rs1), self.get(rs2))),
-            Inst::Rem { rd, rs1, rs2 } => self.write(rd, rem(self.get(rs1), self.get(rs2))),
-            Inst::Remu { rd, rs1, rs2 } => self.write(rd, remu(self.get(rs1), self.get(rs2))),
-            Inst::Mulw { rd, rs1, rs2 } => self.write(rd, mulw(self.get(rs1), self.get(rs2))),
-            Inst::Divw { rd, rs1, rs2 } => self.write(rd, divw(self.get(rs1), self.get(rs2))),
-            Inst::Divuw { rd, rs1, rs2 } => self.write(rd, divuw(self.get(rs1), self.get(rs2))),
-            Inst::Remw { rd, rs1, rs2 } => self.write(rd, remw(self.get(rs1), self.get(rs2))),
-            Inst::Remuw { rd, rs1, rs2 } => self.write(rd, remuw(self.get(rs1), self.get(rs2))),
+            Inst::Slli { rd, rs1, count } => self.by_count(Operation::Sll, rd, rs1, count),
+            Inst::Srli { rd, rs1, count } => self.by_count(Operation::Srl, rd, rs1, count),
+            Inst::Srai { rd, rs1, count } => self.by_count(Operation::Sra, rd, rs1, count),
+            Inst::Addiw { rd, rs1, imm } => self.by_immediate(Operation::Addw, rd, rs1, imm),
+            Inst::Slliw { rd, rs1, count } => self.by_count(Operation::Sllw, rd, rs1, count),
+            Inst::Srliw { rd, rs1, count } => self.by_count(Operation::Srlw, rd, rs1, count),
+            Inst::Sraiw { rd, rs1, count } => self.by_count(Operation::Sraw, rd, rs1, count),
+            Inst::Addw { rd, rs1, rs2 } => self.by_register(Operation::Addw, rd, rs1, rs2),
+            Inst::Subw { rd, rs1, rs2 } => self.by_register(Operation::Subw, rd, rs1, rs2),
+            Inst::Sllw { rd, rs1, rs2 } => self.by_register(Operation::Sllw, rd, rs1, rs2),
+            Inst::Srlw { rd, rs1, rs2 } => self.by_register(Operation::Srlw, rd, rs1, rs2),
+            Inst::Sraw { rd, rs1, rs2 } => self.by_register(Operation::Sraw, rd, rs1, rs2),
+            Inst::Mul { rd, rs1, rs2 } => self.by_register(Operation::Mul, rd, rs1, rs2),
+            Inst::Mulh { rd, rs1, rs2 } => self.by_register(Operation::Mulh, rd, rs1, rs2),
+            Inst::Mulhsu { rd, rs1, rs2 } => self.by_register(Operation::Mulhsu, rd, rs1, rs2),
+            Inst::Mulhu { rd, rs1, rs2 } => self.by_register(Operation::Mulhu, rd, rs1, rs2),
+            Inst::Div { rd, rs1, rs2 } => self.by_register(Operation::Div, rd, rs1, rs2),
+            Inst::Divu { rd, rs1, rs2 } => self.by_register(Operation::Divu, rd, rs1, rs2),
+            Inst::Rem { rd, rs1, rs2 } => self.by_register(Operation::Rem, rd, rs1, rs2),
+            Inst::Remu { rd, rs1, rs2 } => self.by_register(Operation::Remu, rd, rs1, rs2),
+            Inst::Mulw { rd, rs1, rs2 } => self.by_register(Operation::Mulw, rd, rs1, rs2),
+            Inst::Divw { rd, rs1, rs2 } => self.by_register(Operation::Divw, rd, rs1, rs2),
+            Inst::Divuw { rd, rs1, rs2 } => self.by_register(Operation::Divuw, rd, rs1, rs2),
+            Inst::Remw { rd, rs1, rs2 } => self.by_register(Operation::Remw, rd, rs1, rs2),
+            Inst::Remuw { rd, rs1, rs2 } => self.by_register(Operation::Remuw, rd, rs1, rs2),
         }
     }
 }

@@ -6,12 +6,14 @@ ghost use Rattle.pw_hart.specs.State.{get, set, writes};
 ghost use Rattle.pw_hart.specs.Bits.{bits64};
 ghost use Rattle.pw_hart.specs.Exec.{jumps, lands, branches_if, exec};
 ghost use Rattle.pw_hart.specs.Integer.{add};
-ghost use Rattle.pw_hart.specs.Harts.{Does, registers};
+ghost use Rattle.pw_hart.specs.Harts.{registers};
+ghost use Rattle.pw_hart.specs.Steps.Does.{Does};
 
 use crate::ends::End;
 use crate::integer::add;
 use crate::word::sign_extended;
 use pw_isa::Inst;
+use pw_isa::registers::{RA, ZERO};
 
 /// A processor, as RISC-V calls it a hart: the registers, the program counter, and the counted steps that are left.
 /// Register 0 reads as 0 whatever stands in its place, and that stays as it is.
@@ -31,7 +33,7 @@ impl Hart {
         requires { r < 32 }
         ensures { result ≡ get (registers self.now) r }
     {
-        if r == 0 { 0 } else { self.x[usize::from(r)] }
+        if r == ZERO { 0 } else { self.x[usize::from(r)] }
     }
 
     /// Writes a register; a write to x0 is dropped.
@@ -40,7 +42,7 @@ impl Hart {
         ensures written { registers self.new ≡ set (registers self.old) rd value }
         ensures others { (self.new.pc ≡ self.old.pc) × (self.new.steps ≡ self.old.steps) }
     {
-        if rd != 0 {
+        if rd != ZERO {
             self.x[usize::from(rd)] = value;
         }
     }
@@ -117,9 +119,9 @@ impl Hart {
     {
         if taken {
             let target = self.target(imm);
-            return self.jump(target <= self.pc, target, 0, 0);
+            return self.jump(target <= self.pc, target, ZERO, 0);
         }
-        self.write(0, 0)
+        self.write(ZERO, 0)
     }
 
     /// Jumps, and writes the address behind to a register.
@@ -129,7 +131,7 @@ impl Hart {
     {
         let target = self.target(imm);
         self.jump(
-            rd == 1 || target <= self.pc,
+            rd == RA || target <= self.pc,
             target,
             rd,
             self.pc.wrapping_add(4),
@@ -145,7 +147,7 @@ impl Hart {
         let address = self.effective(rs1, imm);
         let target = address - address % 2;
         self.jump(
-            rd == 1 || rd != 0 && target <= self.pc,
+            rd == RA || rd != ZERO && target <= self.pc,
             target,
             rd,
             self.pc.wrapping_add(4),

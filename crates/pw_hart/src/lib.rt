@@ -12,15 +12,15 @@
 #![tactic(auto)]
 
 mod access;
+mod compute;
 mod ends;
 mod environment;
 mod execute;
 mod hart;
 mod integer;
 mod multiply;
+mod operation;
 mod run;
-#[cfg(test)]
-mod tests;
 mod word;
 
 pub use ends::End;

@@ -2,7 +2,7 @@
 
 ghost use Rattle.std.specs.Prelude.{◌≡◌, ◌≢◌, Option, unwrap_or};
 ghost use Rattle.pw_hart.specs.Runs.{Runs};
-ghost use Rattle.pw_hart.specs.Advances.{Advances};
+ghost use Rattle.pw_hart.specs.Steps.Advances.{Advances};
 
 use crate::ends::End;
 use crate::hart::Hart;

@@ -27,7 +27,7 @@ Offers_nothing s = nothing s.left
     nothing None = tt
     nothing (Some bytes) = refl
 
--- a text that is offered, and another behind it, are offered as one
+-- a text that is offered, and another after it, are offered as one
 pub Offers_more : (first second : List ℕ) (s : SourceState) → Offers first s → Offers second (after first s) → Offers (first ++ second) s
 Offers_more first second s = more s.left
   where

@@ -11,11 +11,11 @@ pub record Adapter (Inner : Type 0) : Type 0 where
   pub inner : Inner
   pub faults : ℕ
 
--- as a source it tells nothing but the count
+-- as a source it reports nothing but the count
 abbrev pub silent_source : {Inner : Type 0} → Adapter Inner → SourceState
 silent_source a = record { left = None; faults = a.faults }
 
--- as a sink it tells nothing but the count
+-- as a sink it reports nothing but the count
 abbrev pub silent_sink : {Inner : Type 0} → Adapter Inner → SinkState
 silent_sink a = record { holds = None; faults = a.faults }
 

@@ -1,4 +1,4 @@
--- What the store of the current folder tells, and what reading one of its files answers.
+-- What the store of the current folder reports, and what reading one of its files answers.
 use Rattle.std.specs.Prelude.{◌≡◌, ℕ, ◌<◌, ◌≤◌, List, length, Option, None, Result, Ok, Err, Vec, IfSome}
 use Rattle.std.specs.declared.alloc.Global.{Global}
 use Rattle.pw_io.specs.declared.ports.StoreError.{StoreError}
@@ -6,7 +6,7 @@ use Rattle.pw_io.specs.declared.ports.StoreError.TheVariants.{Failed, TooLong}
 use Rattle.pw_io.specs.Faults.{Rises, risen}
 use Rattle.pw_io.specs.Store.{StoreState}
 
--- the store of the current folder, seen as its count of faults, tells nothing else
+-- the store of the current folder, seen as its count of faults, reports nothing else
 abbrev pub silent_store : ℕ → StoreState
 silent_store faults = record { files = None; calls = None; faults = faults }
 

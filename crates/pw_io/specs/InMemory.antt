@@ -1,4 +1,4 @@
--- What the implementations in memory hold, and what they tell of it as a source, a sink or a store.
+-- What the implementations in memory hold, and what they report of it as a source, a sink or a store.
 use Rattle.std.specs.Prelude.{◌≡◌, ◌≢◌, ℕ, ◌+◌, List, [], ◌∷◌, ◌++◌, length, Contains, find, Some, None, option_map, Result, Ok, Err, Vec}
 use Rattle.std.specs.Str.{bytes_eq}
 use Rattle.std.specs.declared.alloc.Global.{Global}
@@ -17,7 +17,7 @@ pub record SourceInMemory : Type 0 where
   pub planned : Planned
   pub faults : ℕ
 
--- it tells its bytes
+-- it reports its bytes
 abbrev pub told_source : SourceInMemory → SourceState
 told_source s = record { left = Some s.left; faults = s.faults }
 
@@ -28,7 +28,7 @@ pub record SinkInMemory : Type 0 where
   pub planned : Planned
   pub faults : ℕ
 
--- it tells what it holds
+-- it reports what it holds
 abbrev pub told_sink : SinkInMemory → SinkState
 told_sink s = record { holds = Some s.holds; faults = s.faults }
 
@@ -51,7 +51,7 @@ pub record StoreInMemory : Type 0 where
   pub calls : List Asked
   pub faults : ℕ
 
--- it tells its files and the calls made on it
+-- it reports its files and the calls made on it
 abbrev pub told_store : StoreInMemory → StoreState
 told_store s = record { files = Some (bytes_of s.files); calls = Some s.calls; faults = s.faults }
 

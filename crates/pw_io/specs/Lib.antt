@@ -1,5 +1,5 @@
 -- What the three ports of the outside mean, in the order to read: counts of faults, sources, sinks, stores, the
--- implementations in memory, which fail where they are told to, and the adapters over std.
+-- implementations in memory, which fail where they are asked to, and the adapters over std.
 pub mod Faults
 pub mod Source
 pub mod Sink

@@ -1,4 +1,4 @@
--- What a sink of bytes means: the bytes written and how many are flushed, where it tells them, and its count of faults.
+-- What a sink of bytes means: the bytes written and how many are flushed, where it reports them, and its count of faults.
 use Rattle.std.specs.Prelude.{◌≡◌, ℕ, List, ◌++◌, length, Option, option_map}
 use Rattle.pw_io.specs.Faults.{Rises}
 
@@ -7,7 +7,7 @@ pub record Holds : Type 0 where
   pub written : List ℕ
   pub flushed : ℕ
 
--- what the sink holds, where it tells that, and how many calls have failed
+-- what the sink holds, where it reports that, and how many calls have failed
 pub record SinkState : Type 0 where
   pub holds : Option Holds
   pub faults : ℕ

@@ -1,10 +1,10 @@
--- What a source of bytes means: the bytes left in it, where it tells them, and its count of faults.
+-- What a source of bytes means: the bytes left in it, where it reports them, and its count of faults.
 use Rattle.std.specs.Prelude.{◌≡◌, ℕ, List, [], ◌∷◌, ◌++◌, length, drop, Option, option_map, IfSome}
 use Rattle.pw_io.specs.declared.ports.Next.{Next}
 use Rattle.pw_io.specs.declared.ports.Next.TheVariants.{Byte, End, Failed}
 use Rattle.pw_io.specs.Faults.{Rises}
 
--- the bytes left, where they are told, and how many calls have failed
+-- the bytes left, where they are reported, and how many calls have failed
 pub record SourceState : Type 0 where
   pub left : Option (List ℕ)
   pub faults : ℕ
@@ -13,11 +13,11 @@ pub record SourceState : Type 0 where
 abbrev pub after : List ℕ → SourceState → SourceState
 after taken s = record { left = option_map (drop (length taken)) s.left; faults = s.faults }
 
--- what is left begins with these bytes, where it is told
+-- what is left begins with these bytes, where it is reported
 abbrev pub Offers : List ℕ → SourceState → Type 0
 Offers bytes s = IfSome s.left (λ left. left ≡ bytes ++ drop (length bytes) left)
 
--- nothing is left, where that is told
+-- nothing is left, where that is reported
 abbrev pub IsUsedUp : SourceState → Type 0
 IsUsedUp s = IfSome s.left (λ left. left ≡ [])
 

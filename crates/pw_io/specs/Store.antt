@@ -1,4 +1,4 @@
--- What a store of files means: the files by name and the calls made on it, where it tells them, and its count of faults.
+-- What a store of files means: the files by name and the calls made on it, where it reports them, and its count of faults.
 use Rattle.std.specs.Prelude.{◌≡◌, ◌≢◌, ℕ, ◌<◌, ◌≤◌, List, [], ◌∷◌, ◌++◌, length, Option, Some, None, option_map, Result, Ok, Err, Vec, IfSome, IsSomeAnd}
 use Rattle.std.specs.declared.alloc.Global.{Global}
 use Rattle.pw_io.specs.declared.ports.Asked.{Asked}
@@ -11,7 +11,7 @@ use Rattle.pw_io.specs.Faults.{Rises}
 abbrev pub Files : Type 0
 Files = List ℕ → Option (List ℕ)
 
--- the files and the calls made, where they are told, and how many calls have failed
+-- the files and the calls made, where they are reported, and how many calls have failed
 pub record StoreState : Type 0 where
   pub files : Option Files
   pub calls : Option (List Asked)
@@ -25,15 +25,15 @@ called_all asked s = record { files = s.files; calls = option_map (λ made. made
 abbrev pub called : Asked → StoreState → StoreState
 called asked s = called_all (asked ∷ []) s
 
--- the file of this name has these bytes, where the files are told
+-- the file of this name has these bytes, where the files are reported
 abbrev pub StandsIn : Option Files → List ℕ → List ℕ → Type 0
 StandsIn files name bytes = IfSome files (λ at. at name ≡ Some bytes)
 
--- the file of this name is there and has more bytes than the limit, where the files are told
+-- the file of this name is there and has more bytes than the limit, where the files are reported
 abbrev pub PassesLimit : Option Files → List ℕ → ℕ → Type 0
 PassesLimit files name limit = IfSome files (λ at. IsSomeAnd (at name) (λ bytes. limit < length bytes))
 
--- every file of another name is as before, and what was told of files is told still
+-- every file of another name is as before, and what was reported of files is reported still
 abbrev pub OthersStay : List ℕ → Option Files → Option Files → Type 0
 OthersStay name None None = Unit {0}
 OthersStay name (Some old) (Some new) = (other : List ℕ) → other ≢ name → new other ≡ old other
@@ -58,14 +58,14 @@ pub record WriteFails (old : StoreState) (name : List ℕ) (new : StoreState) : 
   pub calls : new.calls ≡ (called (Write name) old).calls
   pub faults : Rises old.faults new.faults
 
--- what a read answers and leaves: the whole file, of at most `limit` bytes; that it has more; a failure; or nothing done for want of memory
+-- what a read answers and leaves: the whole file, of at most `limit` bytes; that it has more; a failure; or nothing done since memory was refused
 abbrev pub Reads : StoreState → List ℕ → ℕ → StoreState → Result (Vec ℕ Global) StoreError → Type 0
 Reads old name limit new (Ok bytes) = (new ≡ called (Read name) old) × (length bytes.items ≤ limit) × StandsIn old.files name bytes.items
 Reads old name limit new (Err (TooLong most)) = (new ≡ called (Read name) old) × (most ≡ limit) × PassesLimit old.files name limit
 Reads old name limit new (Err Failed) = ReadFails old name new
 Reads old name limit new (Err NoMemory) = new ≡ old
 
--- what a write answers and leaves: the file replaced; a failure; or nothing done for want of memory
+-- what a write answers and leaves: the file replaced; a failure; or nothing done since memory was refused
 abbrev pub Writes : StoreState → List ℕ → List ℕ → StoreState → Result (Unit {0}) StoreError → Type 0
 Writes old name bytes new (Ok _) = Replaces old name bytes new
 Writes old name bytes new (Err (TooLong _)) = ⊥

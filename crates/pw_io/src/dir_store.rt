@@ -16,7 +16,7 @@ use std::{fs, str};
 const CHUNK_BYTES: usize = 4096;
 
 /// The files of the current folder. A name is given to the system as it is, so one with `/` or `..` may lead elsewhere.
-/// It tells nothing of files and calls. Whatever the system refuses is a failure, an interruption and something that is
+/// It reports nothing of files and calls. Whatever the system refuses is a failure, an interruption and something that is
 /// no regular file included, and so is a write that takes nothing.
 #[derive(Drop)]
 pub struct DirStore<'a, F: Files> {
@@ -155,42 +155,5 @@ impl<'a, F: Files> Store for DirStore<'a, F> {
                 Err(StoreError::Failed)
             }
         }
-    }
-}
-
-#[cfg(test)]
-mod tests {
-    use super::*;
-    use std::test::Fail;
-
-    #[test]
-    fn a_written_file_is_read_back_and_what_is_missing_or_a_folder_fails(
-        rt: HostRuntime,
-    ) -> Result<(), Fail> {
-        let alloc = rt.alloc();
-        let name = Name::read(alloc, b"pw_io-written-by-a-test")?;
-        let missing = Name::read(alloc, b"pw_io-written-by-no-test")?;
-        let folder = Name::read(alloc, b"..")?;
-        let mut store = DirStore::new(&rt);
-        store.write(&name, b"a longer text")?;
-        store.write(&name, b"text")?;
-        assert_eq!(rt; store.read(alloc, &name, 4)?.as_slice(), b"text".as_slice());
-        assert_eq!(rt;
-            store.read(alloc, &name, 3).err(),
-            Some(StoreError::TooLong(3))
-        );
-        assert_eq!(rt; store.faults(), 0);
-        assert_eq!(rt;
-            store.read(alloc, &missing, 4).err(),
-            Some(StoreError::Failed)
-        );
-        assert_eq!(rt;
-            store.read(alloc, &folder, 4).err(),
-            Some(StoreError::Failed)
-        );
-        assert_eq!(rt; store.write(&folder, b"text"), Err(StoreError::Failed));
-        assert_eq!(rt; store.faults(), 3);
-        fs::remove_file(&rt, "pw_io-written-by-a-test")?;
-        Ok(())
     }
 }

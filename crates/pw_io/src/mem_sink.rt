@@ -1,4 +1,4 @@
-//! A sink of bytes in memory, which fails at the calls that it is told to, and where it is full.
+//! A sink of bytes in memory, which fails at the calls that it is asked to, and where it is full.
 ghost use Rattle.std.specs.Prelude.{◌≡◌, ◌⊎◌, ◌↔◌, [], ◌∷◌, IsErr, OnOk, OnErr, IfOk};
 ghost use Rattle.pw_io.specs.Faults.{risen};
 ghost use Rattle.pw_io.specs.Sink.{SinkFails, wrote, flushed_all};
@@ -109,28 +109,6 @@ impl Sink for MemSink {
             return Err(Failed);
         }
         self.flushed = self.bytes.len() as u64;
-        Ok(())
-    }
-}
-
-#[cfg(test)]
-mod tests {
-    use super::*;
-    use std::test::Fail;
-
-    #[test]
-    fn a_sink_fails_at_its_third_call_and_where_it_is_full(rt: HostRuntime) -> Result<(), Fail> {
-        let alloc = rt.alloc();
-        let mut sink = MemSink::new(alloc, 3, vec![in alloc; 3]?)?;
-        assert_eq!(rt; sink.put(b'a'), Ok(()));
-        assert_eq!(rt; sink.put(b'b'), Ok(()));
-        assert_eq!(rt; sink.put(b'c'), Err(Failed));
-        assert_eq!(rt; sink.written(), b"ab".as_slice());
-        assert_eq!(rt; sink.flush(), Ok(()));
-        assert_eq!(rt; sink.put(b'c'), Ok(()));
-        assert_eq!(rt; sink.put(b'd'), Err(Failed));
-        assert_eq!(rt; sink.written(), b"abc".as_slice());
-        assert_eq!(rt; (sink.flushed(), sink.faults()), (2, 2));
         Ok(())
     }
 }

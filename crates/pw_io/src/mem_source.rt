@@ -1,4 +1,4 @@
-//! A source of bytes in memory, which fails at the calls that it is told to.
+//! A source of bytes in memory, which fails at the calls that it is asked to.
 ghost use Rattle.std.specs.Prelude.{◌≡◌, ◌↔◌};
 ghost use Rattle.pw_io.specs.Faults.{risen};
 ghost use Rattle.pw_io.specs.Source.{Gives};
@@ -78,26 +78,5 @@ impl Source for MemSource {
             }
             None => Next::End,
         }
-    }
-}
-
-#[cfg(test)]
-mod tests {
-    use super::*;
-    use std::test::Fail;
-
-    #[test]
-    fn a_failed_call_takes_nothing_and_the_end_comes_after_the_last_byte(
-        rt: HostRuntime,
-    ) -> Result<(), Fail> {
-        let alloc = rt.alloc();
-        let mut source = MemSource::new(vec![in alloc; b'a', b'b']?, vec![in alloc; 2]?);
-        assert_eq!(rt; source.next(), Next::Byte(b'a'));
-        assert_eq!(rt; source.next(), Next::Failed);
-        assert_eq!(rt; source.left(), b"b".as_slice());
-        assert_eq!(rt; source.next(), Next::Byte(b'b'));
-        assert_eq!(rt; source.next(), Next::End);
-        assert_eq!(rt; source.faults(), 1);
-        Ok(())
     }
 }

@@ -1,4 +1,4 @@
-//! A store of files in memory, which fails at the calls that it is told to, and where a file to be read is missing.
+//! A store of files in memory, which fails at the calls that it is asked to, and where a file to be read is missing.
 ghost use Rattle.std.specs.Prelude.{◌≡◌, ◌⊎◌, ◌↔◌, ◌<◌, ℕ, List, [], vec_len, position, IsTrue, OnErr, option_copied};
 ghost use Rattle.std.specs.Str.{bytes_eq};
 ghost use Rattle.pw_io.specs.Faults.{risen};
@@ -194,54 +194,6 @@ impl Store for MemStore {
         self.calls.reserve(1)?;
         write_file(self.alloc, &mut self.files, name, copy)?;
         self.calls.push(asked).unwrap();
-        Ok(())
-    }
-}
-
-#[cfg(test)]
-mod tests {
-    use super::*;
-    use std::test::Fail;
-
-    #[test]
-    fn a_store_reads_within_the_limit_and_fails_at_its_second_call(
-        rt: HostRuntime,
-    ) -> Result<(), Fail> {
-        let alloc = rt.alloc();
-        let name = Name::read(alloc, b"a")?;
-        let missing = Name::read(alloc, b"b")?;
-        let file = (Name::read(alloc, b"a")?, vec![in alloc; 1, 2, 3]?);
-        let mut store = MemStore::new(alloc, vec![in alloc; file]?, vec![in alloc; 2]?);
-        assert_eq!(rt;
-            store.read(alloc, &name, 3)?.as_slice(),
-            [1, 2, 3].as_slice()
-        );
-        assert_eq!(rt; store.read(alloc, &name, 3).err(), Some(StoreError::Failed));
-        assert_eq!(rt;
-            store.read(alloc, &name, 2).err(),
-            Some(StoreError::TooLong(2))
-        );
-        assert_eq!(rt;
-            store.read(alloc, &missing, 2).err(),
-            Some(StoreError::Failed)
-        );
-        assert_eq!(rt; (store.calls().len(), store.faults()), (4, 2));
-        Ok(())
-    }
-
-    #[test]
-    fn a_written_file_is_read_back_and_the_others_stay(rt: HostRuntime) -> Result<(), Fail> {
-        let alloc = rt.alloc();
-        let old = Name::read(alloc, b"old")?;
-        let new = Name::read(alloc, b"new")?;
-        let mut store = MemStore::new(alloc, vec![in alloc]?, vec![in alloc; 4]?);
-        store.write(&old, b"first")?;
-        store.write(&new, b"second")?;
-        store.write(&old, b"third")?;
-        assert_eq!(rt; store.write(&new, b"fourth"), Err(StoreError::Failed));
-        assert_eq!(rt; store.read(alloc, &old, 9)?.as_slice(), b"third".as_slice());
-        assert_eq!(rt; store.file(&new), Some(b"second".as_slice()));
-        assert_eq!(rt; matches!(store.calls().last(), Some(Asked::Read(_))), true);
         Ok(())
     }
 }

@@ -80,7 +80,7 @@ impl From<AllocError> for StoreError {
     }
 }
 
-/// A source of bytes. It means the bytes left, where it tells them, and a count of faults that never falls.
+/// A source of bytes. It means the bytes left, where it reports them, and a count of faults that never falls.
 pub trait Source {
     ghost state: { Self → SourceState };
 
@@ -89,7 +89,7 @@ pub trait Source {
         ensures { Gives (state self.old) result (state self.new) };
 }
 
-/// A sink of bytes. It means the bytes written and how many of them are flushed, where it tells them, and a count of
+/// A sink of bytes. It means the bytes written and how many of them are flushed, where it reports them, and a count of
 /// faults that never falls.
 pub trait Sink {
     ghost state: { Self → SinkState };
@@ -105,7 +105,7 @@ pub trait Sink {
         ensures err { OnErr result (SinkFails (state self.old) (state self.new)) };
 }
 
-/// A store of files. It means the files by name and the calls made on it, where it tells them, and a count of faults
+/// A store of files. It means the files by name and the calls made on it, where it reports them, and a count of faults
 /// that never falls. A call that is not refused for memory adds itself to the calls, however it ends.
 pub trait Store {
     ghost state: { Self → StoreState };

@@ -9,7 +9,7 @@ use crate::ports::{Failed, Sink};
 use std::io::Write;
 use std::marker::Model;
 
-/// A sink over any writer of std. It tells nothing of its bytes. Each byte is written by itself; an error of the
+/// A sink over any writer of std. It reports nothing of its bytes. Each byte is written by itself; an error of the
 /// writer, an interruption included, is a failure, and so is a write that takes nothing.
 #[derive(Drop)]
 pub struct StdSink<W> {
@@ -76,40 +76,5 @@ impl<W: Write> Sink for StdSink<W> {
                 Err(Failed)
             }
         }
-    }
-}
-
-#[cfg(test)]
-mod tests {
-    use super::*;
-    use std::io;
-
-    /// A writer that takes nothing, and cannot be flushed.
-    #[derive(Drop)]
-    struct Closed;
-
-    impl Write for Closed {
-        fn write(&mut self, _buf: &[u8]) -> io::Result<usize> {
-            Ok(0)
-        }
-
-        fn flush(&mut self) -> io::Result<()> {
-            Err(io::Error::from(io::ErrorKind::Interrupted))
-        }
-    }
-
-    #[test]
-    fn a_sink_over_a_writer_writes_each_byte_and_counts_what_is_not_taken(rt: HostRuntime) {
-        let mut written = Vec::new(rt.alloc());
-        let mut sink = StdSink::new(&mut written);
-        assert_eq!(rt; sink.put(b'a'), Ok(()));
-        assert_eq!(rt; sink.put(b'b'), Ok(()));
-        assert_eq!(rt; sink.flush(), Ok(()));
-        assert_eq!(rt; sink.faults(), 0);
-        assert_eq!(rt; written.as_slice(), b"ab".as_slice());
-        let mut closed = StdSink::new(Closed);
-        assert_eq!(rt; closed.put(b'a'), Err(Failed));
-        assert_eq!(rt; closed.flush(), Err(Failed));
-        assert_eq!(rt; closed.faults(), 2);
     }
 }

@@ -8,7 +8,7 @@ use crate::ports::{Next, Source};
 use std::io::Read;
 use std::marker::Model;
 
-/// A source over any reader of std. It tells nothing of its bytes. Each call reads one byte; an error of the reader,
+/// A source over any reader of std. It reports nothing of its bytes. Each call reads one byte; an error of the reader,
 /// an interruption included, is a failure.
 #[derive(Drop)]
 pub struct StdSource<R> {
@@ -58,32 +58,5 @@ impl<R: Read> Source for StdSource<R> {
                 Next::Failed
             }
         }
-    }
-}
-
-#[cfg(test)]
-mod tests {
-    use super::*;
-    use std::io;
-
-    /// A reader that each call fails of.
-    #[derive(Drop)]
-    struct Broken;
-
-    impl Read for Broken {
-        fn read(&mut self, _buf: &mut [u8]) -> io::Result<usize> {
-            Err(io::Error::from(io::ErrorKind::Interrupted))
-        }
-    }
-
-    #[test]
-    fn a_source_over_a_reader_gives_its_bytes_and_counts_its_errors(rt: HostRuntime) {
-        let mut source = StdSource::new(b"a".as_slice());
-        assert_eq!(rt; source.next(), Next::Byte(b'a'));
-        assert_eq!(rt; source.next(), Next::End);
-        assert_eq!(rt; source.faults(), 0);
-        let mut broken = StdSource::new(Broken);
-        assert_eq!(rt; broken.next(), Next::Failed);
-        assert_eq!(rt; broken.faults(), 1);
     }
 }

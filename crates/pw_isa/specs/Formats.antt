@@ -5,29 +5,37 @@ use Rattle.std.specs.Prelude.{ℕ, suc, ℤ, pos, negsuc, ◌≡◌, ◌+◌, �
 abbrev pub bits : ℕ → ℕ → ℕ → ℕ
 bits n high low = n / 2 ^ low % 2 ^ (suc high - low)
 
--- the fields of an instruction word (unprivileged manual, "Base Instruction Formats")
+-- ---- the fields of an instruction word (unprivileged manual, "Base Instruction Formats")
+
+-- the major opcode
 abbrev pub opcode_of : ℕ → ℕ
 opcode_of w = bits w 6 0
 
+-- the destination
 abbrev pub rd_of : ℕ → ℕ
 rd_of w = bits w 11 7
 
+-- the function code of three bits
 abbrev pub funct3_of : ℕ → ℕ
 funct3_of w = bits w 14 12
 
+-- the first source
 abbrev pub rs1_of : ℕ → ℕ
 rs1_of w = bits w 19 15
 
+-- the second source
 abbrev pub rs2_of : ℕ → ℕ
 rs2_of w = bits w 24 20
 
+-- the function code of seven bits
 abbrev pub funct7_of : ℕ → ℕ
 funct7_of w = bits w 31 25
 
--- a shift's six-bit count, and the bits above it (RV64I, "Integer Register-Immediate Instructions")
+-- a shift's count of six bits (RV64I, "Integer Register-Immediate Instructions")
 abbrev pub shamt_of : ℕ → ℕ
 shamt_of w = bits w 25 20
 
+-- the function code of six bits, above such a count
 abbrev pub funct6_of : ℕ → ℕ
 funct6_of w = bits w 31 26
 
@@ -35,13 +43,17 @@ funct6_of w = bits w 31 26
 abbrev pub sign_extend : ℕ → ℕ → ℤ
 sign_extend sign n = if nat_lt n sign then pos n else negsuc (sign + sign - suc n)
 
--- the immediate that each format has in an instruction word ("Immediate Encoding Variants")
+-- ---- the immediate that each format has in an instruction word ("Immediate Encoding Variants")
+
+-- the twelve bits above rs1
 abbrev pub i_immediate_of : ℕ → ℤ
 i_immediate_of w = sign_extend (2 ^ 11) (bits w 31 20)
 
+-- [11:5] in the place of funct7, [4:0] in that of rd
 abbrev pub s_immediate_of : ℕ → ℤ
 s_immediate_of w = sign_extend (2 ^ 11) (bits w 31 25 * 2 ^ 5 + bits w 11 7)
 
+-- [12|10:5] in the place of funct7, [4:1|11] in that of rd
 abbrev pub b_immediate_of : ℕ → ℤ
 b_immediate_of w =
     sign_extend (2 ^ 12)
@@ -51,6 +63,7 @@ b_immediate_of w =
 abbrev pub u_immediate_of : ℕ → ℤ
 u_immediate_of w = sign_extend (2 ^ 19) (bits w 31 12)
 
+-- [20|10:1|11|19:12] above rd
 abbrev pub j_immediate_of : ℕ → ℤ
 j_immediate_of w =
     sign_extend (2 ^ 20)
@@ -77,6 +90,7 @@ abbrev pub FitsField : ℕ → ℤ → Type 0
 FitsField sign (pos n) = n < sign
 FitsField sign (negsuc n) = n < sign
 
+-- an even number
 abbrev pub IsEven : ℤ → Type 0
 IsEven (pos n) = n % 2 ≡ 0
 IsEven (negsuc n) = n % 2 ≡ 1
@@ -117,6 +131,7 @@ abbrev pub b_word : ℕ → ℕ → ℕ → ℕ → ℕ → ℕ
 b_word opcode funct3 rs1 rs2 imm =
     r_word opcode funct3 (bits imm 12 12 * 2 ^ 6 + bits imm 10 5) (bits imm 4 1 * 2 + bits imm 11 11) rs1 rs2
 
+-- the U format has the twenty bits above rd
 abbrev pub u_word : ℕ → ℕ → ℕ → ℕ
 u_word opcode rd imm = imm * 2 ^ 12 + rd * 2 ^ 7 + opcode
 

@@ -8,7 +8,10 @@
 /// 4094 in branches, even and from -2^20 to 2^20 - 2 in `Jal`, and from -2^19 to 2^19 - 1 in `Lui`
 /// and `Auipc`, which stand for `imm * 4096`. `count` is a number of bits to shift by, below 64, and
 /// below 32 in the forms on words.
-#[derive(Clone, Copy, PartialEq, Eq, Debug)]
+///
+/// Instructions are compared by their instruction words or by patterns: over so many variants, equality and text as
+/// calls would take as much proof as all else here.
+#[derive(Clone, Copy)]
 pub enum Inst {
     /// Load upper immediate.
     Lui { rd: u8, imm: i32 },

@@ -11,7 +11,8 @@ use Rattle.pw_mem.specs.declared.flat_region.FlatRegion.{FlatRegion}
 use Rattle.pw_mem.specs.declared.flat.FlatMemory.{FlatMemory}
 use Rattle.pw_mem.specs.Regions.{holds, region_at, with_bytes, written}
 use Rattle.pw_mem.proofs.Regions.{IsFirst, seen_first, wrote_first}
-use Rattle.pw_mem.specs.Flat.{region_of, mem_of, IsFound}
+use Rattle.pw_mem.specs.Flat.{region_of, mem_of}
+use Rattle.pw_mem.specs.Steps.Found.{IsFound}
 
 inside_from : (k n i : ℕ) (t : Bool) → ltb k n ≡ t → cond t (Some k) None ≡ Some i → i < n
 inside_from k n i true lt found = let same : k ≡ i = cc in grind (arith, nat_tests)

@@ -1,8 +1,8 @@
 -- A memory that keeps one vector a region, seen as a memory.
-use Rattle.std.specs.Prelude.{◌≡◌, ℕ, ◌<◌, true, List, length, map, Some, slice_index_or, slice_set}
+use Rattle.std.specs.Prelude.{ℕ, map}
 use Rattle.pw_mem.specs.declared.flat_region.FlatRegion.{FlatRegion}
 use Rattle.pw_mem.specs.declared.flat.FlatMemory.{FlatMemory}
-use Rattle.pw_mem.specs.Regions.{MappedRegion, holds, region_at, with_bytes, written}
+use Rattle.pw_mem.specs.Regions.{MappedRegion}
 use Rattle.pw_mem.specs.Memory.{Mem}
 use Rattle.pw_mem.specs.Map.{allows}
 
@@ -23,10 +23,3 @@ mem_of memory = record { regions = map region_of memory.regions.items; sealed = 
 -- how many fetches it has seen
 abbrev pub fetches_of : FlatMemory → ℕ
 fetches_of memory = memory.fetches
-
--- the region with this number is the one that holds these bytes: it is seen there, and a write goes into it
-pub record IsFound (memory : FlatMemory) (at n i : ℕ) : Type 0 where
-  pub inside : i < length memory.regions.items
-  pub held : (region : FlatRegion) → region ≡ slice_index_or memory.regions.items i region → holds at n (region_of region) ≡ true
-  pub seen : (region : FlatRegion) → region ≡ slice_index_or memory.regions.items i region → region_at (mem_of memory).regions at n ≡ Some (region_of region)
-  pub wrote : (region : FlatRegion) (new : List ℕ) → region ≡ slice_index_or memory.regions.items i region → length new ≡ n → written (mem_of memory).regions at new ≡ slice_set (mem_of memory).regions i (with_bytes (region_of region) at new)

@@ -16,6 +16,7 @@ pub record Shape : Type 0 where
   pub write : Bool
   pub execute : Bool
 
+-- what a region is beside its bytes
 abbrev pub shape_of : MappedRegion → Shape
 shape_of region = record {
   start = region.start;

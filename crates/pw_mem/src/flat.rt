@@ -4,7 +4,8 @@ ghost use Rattle.std.specs.Prelude.{◌≡◌, ℕ, ◌<◌, [], None, MatchResu
 ghost use Rattle.pw_mem.specs.declared.errors.Access.TheVariants.{Unmapped};
 ghost use Rattle.pw_mem.specs.Regions.{holds, region_at, written};
 ghost use Rattle.pw_mem.specs.Memory.{Mem, zeros, with_regions};
-ghost use Rattle.pw_mem.specs.Flat.{region_of, mem_of, fetches_of, IsFound};
+ghost use Rattle.pw_mem.specs.Flat.{region_of, mem_of, fetches_of};
+ghost use Rattle.pw_mem.specs.Steps.Found.{IsFound};
 
 use crate::errors::{Access, MapError};
 use crate::faults::check;
@@ -13,7 +14,7 @@ use crate::memory::Memory;
 use crate::region::Region;
 use std::alloc::Global;
 
-/// A memory that keeps one vector a region. It does not tell the addresses of its fetches.
+/// A memory that keeps one vector a region. It does not report the addresses of its fetches.
 #[derive(Drop)]
 pub struct FlatMemory {
     alloc: Global,

@@ -1,32 +1,32 @@
 //! Laws of memory, over what its calls mean alone. Each is the contract of a function, which does nothing.
 
-ghost use Rattle.pw_mem.specs.WordLaws.{WordsAreLoaded, WordsAreStored, StoredWordsAreRead, OtherWordsStay, WordsAreNoText, TextIsFetched};
+ghost use Rattle.pw_mem.specs.WordLaws.{DoublewordsAreLoaded, DoublewordsAreStored, StoredDoublewordsAreRead, OtherDoublewordsStay, DoublewordsAreNoText, TextIsFetched};
 ghost use Rattle.pw_mem.specs.WriteLaws.{StoresWrite, PutsWrite, WrittenBytesAreRead, OtherBytesStay, StoresAreLoaded, OtherNumbersStay, ShapesStay, SealedTextStays, SealedInstructionsStay};
 ghost use Rattle.pw_mem.specs.Apart.{MappedRegionsAreApart, WritesKeepApart, HoldersAreSeen, HoldersAreWritten};
 
-/// A word, a number of 8 bytes that may be read and stored, is what a load of 8 bytes gives.
-pub fn words_are_loaded()
-    ensures { WordsAreLoaded }
+/// A doubleword, a number of 8 bytes that may be read and stored, is what a load of 8 bytes gives.
+pub fn doublewords_are_loaded()
+    ensures { DoublewordsAreLoaded }
 {}
 
-/// A store of 8 bytes where there is a word puts another in its place.
-pub fn words_are_stored()
-    ensures { WordsAreStored }
+/// A store of 8 bytes where there is a doubleword puts another in its place.
+pub fn doublewords_are_stored()
+    ensures { DoublewordsAreStored }
 {}
 
-/// A word that was put in the place of another is the word there.
-pub fn stored_words_are_read()
-    ensures { StoredWordsAreRead }
+/// A doubleword that was put in the place of another is the doubleword there.
+pub fn stored_doublewords_are_read()
+    ensures { StoredDoublewordsAreRead }
 {}
 
-/// Putting a word in the place of another changes no word at another address.
-pub fn other_words_stay()
-    ensures { OtherWordsStay }
+/// Putting a doubleword in the place of another changes no doubleword at another address.
+pub fn other_doublewords_stay()
+    ensures { OtherDoublewordsStay }
 {}
 
-/// Once a memory is sealed, putting a word in the place of another changes no instruction word at any address.
-pub fn words_are_no_text()
-    ensures { WordsAreNoText }
+/// Once a memory is sealed, putting a doubleword in the place of another changes no instruction word at any address.
+pub fn doublewords_are_no_text()
+    ensures { DoublewordsAreNoText }
 {}
 
 /// Each instruction word of the text that an executable region begins with is fetched from its place.

@@ -9,16 +9,13 @@ mod flat;
 mod flat_region;
 pub mod laws;
 mod memory;
+mod recorder;
 mod region;
 mod rights;
 
 pub use errors::{Access, MapError};
 pub use flat::FlatMemory;
 pub use memory::Memory;
+pub use recorder::Recorder;
 pub use region::Region;
 pub use rights::Rights;
-
-#[cfg(test)]
-mod recorder;
-#[cfg(test)]
-mod tests;

@@ -9,7 +9,7 @@ use crate::errors::{Access, MapError};
 use crate::region::Region;
 
 /// A memory: a list of regions with their bytes, whether it is sealed, a count of the fetches since the last `map`, and,
-/// where it tells them, the list of their addresses. A memory that ceases to tell the list does not tell it again
+/// where it reports them, the list of their addresses. A memory that ceases to report the list does not report it again
 /// before the next `map`. A refusal changes no byte, and only `map` takes memory.
 pub trait Memory {
     ghost mem: { Self → Mem };

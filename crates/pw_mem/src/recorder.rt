@@ -1,62 +1,72 @@
-//! A memory for tests that tells the addresses of its fetches, up to a number of them.
+//! A memory that also reports the addresses of its fetches, up to a number of them.
 
-ghost use Rattle.std.specs.Prelude.{Some, None, if◌then◌else◌};
+ghost use Rattle.std.specs.Prelude.{◌≡◌, Some, [], IfOk, option_copied, false};
 ghost use Rattle.pw_mem.specs.Flat.{mem_of, fetches_of};
+ghost use Rattle.pw_mem.specs.Recording.{recorded_mem, recorded_fetches, told_of};
 
 use crate::errors::{Access, MapError};
 use crate::flat::FlatMemory;
 use crate::memory::Memory;
 use crate::region::Region;
+use pw_base::NoMemory;
 use std::alloc::Global;
 
-/// How many addresses are told; with one more the memory ceases to tell.
-pub(crate) const TOLD: usize = 65_536;
-
-/// A memory with one vector a region that also tells its fetches.
+/// A memory that keeps one vector a region, and reports the addresses of its fetches since the last `map`, up to
+/// [`Recorder::MOST`] of them. It is for whoever tries what a run fetches.
 #[derive(Drop)]
-pub(crate) struct Recorder {
+pub struct Recorder {
     flat: FlatMemory,
-    list: Vec<u64>,
+    addresses: Vec<u64>,
     tells: bool,
 }
 
 impl Recorder {
-    /// A memory with no region, which tells no fetch.
-    pub(crate) fn new(alloc: Global) -> Recorder {
-        Recorder {
+    /// How many addresses are reported; with one more the memory ceases to report.
+    pub const MOST: usize = 65_536;
+
+    /// A memory with no region and no fetch. Takes the room for the addresses, of 8 bytes each; `NoMemory` where that is
+    /// refused.
+    pub fn new(alloc: Global) -> Result<Recorder, NoMemory>
+        ensures mem { IfOk result (λ made. recorded_mem made ≡ record { regions = []; sealed = false }) }
+        ensures no_fetch { IfOk result (λ made. (recorded_fetches made ≡ 0) × (told_of made ≡ Some [])) }
+    {
+        Ok(Recorder {
             flat: FlatMemory::new(alloc),
-            list: Vec::new(alloc),
+            addresses: Vec::with_capacity(alloc, Recorder::MOST)?,
             tells: true,
+        })
+    }
+
+    /// The addresses fetched from since the last `map`, in order, where they are reported.
+    pub fn told(&self) -> Option<&[u64]>
+        ensures { option_copied result ≡ told_of self.now }
+    {
+        if self.tells {
+            Some(self.addresses.as_slice())
+        } else {
+            None
         }
-    }
-
-    /// Whether it tells its fetches.
-    pub(crate) fn tells(&self) -> bool {
-        self.tells
-    }
-
-    /// Whether it tells these fetches.
-    pub(crate) fn has_told(&self, list: &[u64]) -> bool {
-        self.tells && self.list.as_slice() == list
     }
 }
 
 impl Memory for Recorder {
-    ghost mem = { λ m. mem_of m.flat };
+    ghost mem = { recorded_mem };
 
-    ghost fetches = { λ m. fetches_of m.flat };
+    ghost fetches = { recorded_fetches };
 
-    ghost told = { λ m. if m.tells then Some m.list.items else None };
+    ghost told = { told_of };
 
     fn map(&mut self, regions: &[Region]) -> Result<(), MapError> {
         self.flat.map(regions)?;
-        self.list.clear();
+        self.addresses.clear();
         self.tells = true;
         Ok(())
     }
 
     fn fetch(&mut self, at: u64) -> Result<u32, Access> {
-        if self.tells && (self.list.len() >= TOLD || self.list.push(at).is_err()) {
+        if self.tells
+            && (self.addresses.len() >= Recorder::MOST || self.addresses.push(at).is_err())
+        {
             self.tells = false;
         }
         self.flat.fetch(at)

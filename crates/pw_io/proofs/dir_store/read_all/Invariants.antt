@@ -1,4 +1,4 @@
--- What was read so far are the reader's first bytes, at most one past the limit, and there are more of them at each turn.
+-- What was read so far are the reader's first bytes, at most one past the limit, and there are more of them at each iteration.
 use Rattle.std.proofs.Common.{◌≤◌, ◌+◌, ◌-◌, length}
 use Rattle.std.specs.Io.KnownBytes.{Consumes}
 use Rattle.pw_io.proofs.dir_store.read_all.Given as goal

@@ -1,4 +1,4 @@
--- What was written so far stands before the rest, and the rest gets shorter at each turn.
+-- What was written so far stands before the rest, and the rest gets shorter at each iteration.
 use Rattle.std.proofs.Common.{◌≡◌, ℕ, List, ◌++◌, length}
 use Rattle.std.specs.Io.KnownBytes.{Appends}
 use Rattle.pw_io.proofs.dir_store.write_all.Given as goal

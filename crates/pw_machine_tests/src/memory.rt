@@ -1,14 +1,9 @@
-//! Tables of calls with the answers that an independent model of this memory gives.
+//! Calls of a memory with the answers that an independent model of it gives.
 
-use crate::errors::{Access, MapError};
-use crate::flat::FlatMemory;
-use crate::memory::Memory;
-use crate::recorder::{Recorder, TOLD};
-use crate::region::Region;
-use crate::rights::Rights;
+use pw_mem::{Access, FlatMemory, MapError, Memory, Recorder, Region, Rights};
 use std::test::Fail;
 
-/// The address behind the last one that a region may hold.
+/// The address after the last one that a region may hold.
 const TOP: u64 = u64::MAX - 7;
 
 /// A region with these rights.
@@ -57,10 +52,15 @@ fn the_least_faulty_region_is_refused(rt: HostRuntime) {
         Err(MapError::Unaligned(1))
     );
     for (start, len, answer) in [
+        // the start is no multiple of 8
         (4, 16, Err(MapError::Unaligned(0))),
+        // the length is none
         (0, 12, Err(MapError::Unaligned(0))),
+        // no byte
         (0, 0, Err(MapError::Unaligned(0))),
+        // the last region that can be mapped
         (TOP - 8, 8, Ok(())),
+        // its end would be above the last address
         (TOP, 8, Err(MapError::Unaligned(0))),
         (TOP - 8, 24, Err(MapError::Unaligned(0))),
     ] {
@@ -78,6 +78,7 @@ fn numbers_are_little_endian_and_aligned(rt: HostRuntime) -> Result<(), Fail> {
     map_four(&mut mem)?;
     fill_four(&mut mem)?;
     for (at, width, answer) in [
+        // each width, at a multiple of it and at none, the lowest byte first
         (0, 1, Ok(1)),
         (15, 1, Ok(0x10)),
         (14, 2, Ok(0x100f)),
@@ -86,9 +87,12 @@ fn numbers_are_little_endian_and_aligned(rt: HostRuntime) -> Result<(), Fail> {
         (2, 4, Err(Access::Misaligned)),
         (8, 8, Ok(0x100f_0e0d_0c0b_0a09)),
         (12, 8, Err(Access::Misaligned)),
+        // text and read-only regions are read
         (16, 8, Ok(0xffff_ffff_0010_0013)),
         (24, 8, Ok(0x8080_8080_8080_8080)),
+        // no region there
         (32, 1, Err(Access::Unmapped)),
+        // the last region, to its end and beyond
         (TOP - 1, 1, Ok(9)),
         (TOP - 2, 2, Ok(0x0909)),
         (TOP - 4, 4, Ok(0x0909_0909)),
@@ -114,15 +118,20 @@ fn sealed_text_and_read_only_regions_are_not_written(rt: HostRuntime) -> Result<
     let unmapped = Err(Access::Unmapped);
     let misaligned = Err(Access::Misaligned);
     let puts = [
+        // data, up to the end of the region and across it
         (15, 1, Ok(()), Ok(())),
         (15, 2, unmapped, unmapped),
+        // text, until the seal
         (16, 8, Ok(()), denied),
         (23, 1, Ok(()), denied),
+        // what is only read, until the seal
         (24, 8, Ok(()), denied),
         (31, 2, unmapped, unmapped),
+        // the last region, up to its end and across it, and across the last address
         (TOP - 1, 1, Ok(()), Ok(())),
         (TOP - 1, 2, unmapped, unmapped),
         (u64::MAX, 2, unmapped, unmapped),
+        // no bytes, at no region
         (1000, 0, Ok(()), Ok(())),
     ];
     for (at, len, open, _) in puts {
@@ -141,10 +150,13 @@ fn sealed_text_and_read_only_regions_are_not_written(rt: HostRuntime) -> Result<
         );
     }
     for (at, width, answer) in [
+        // data, aligned and not
         (0, 8, Ok(())),
         (4, 8, misaligned),
+        // sealed text; misaligned comes first
         (16, 4, denied),
         (17, 2, misaligned),
+        // what is only read, and no region
         (24, 1, denied),
         (32, 8, unmapped),
     ] {
@@ -177,12 +189,14 @@ fn bytes_put_across_a_page_are_loaded(rt: HostRuntime) -> Result<(), Fail> {
 
 #[test]
 fn fetches_are_told_until_they_are_too_many(rt: HostRuntime) -> Result<(), Fail> {
-    let mut mem = Recorder::new(rt.alloc());
+    let mut mem = Recorder::new(rt.alloc())?;
     map_four(&mut mem)?;
     fill_four(&mut mem)?;
     let fetched = [
+        // two instruction words
         (16, Ok(0x0010_0013)),
         (20, Ok(0xffff_ffff)),
+        // no multiple of 4, data, and no region
         (18, Err(Access::Misaligned)),
         (0, Err(Access::Denied)),
         (28, Err(Access::Denied)),
@@ -193,14 +207,23 @@ fn fetches_are_told_until_they_are_too_many(rt: HostRuntime) -> Result<(), Fail>
     for (at, answer) in fetched {
         assert_eq!(rt; mem.fetch(at), answer, "at {at}");
     }
-    assert!(rt; mem.has_told(&[16, 20, 18, 0, 28, 32, TOP + 4, TOP + 6]));
-    for _ in 8..TOLD {
+    let told = [16, 20, 18, 0, 28, 32, TOP + 4, TOP + 6];
+    assert_eq!(rt;
+        mem.told(),
+        Some(told.as_slice()),
+        "refused fetches are told too"
+    );
+    for _ in 8..Recorder::MOST {
         let _ = mem.fetch(16);
     }
-    assert!(rt; mem.tells());
+    assert!(rt; mem.told().is_some());
     let _ = mem.fetch(16);
-    assert!(rt; !mem.tells());
+    assert!(rt; mem.told().is_none());
     map_four(&mut mem)?;
-    assert!(rt; mem.has_told(&[]));
+    assert_eq!(rt;
+        mem.told(),
+        Some([].as_slice()),
+        "a new mapping begins anew"
+    );
     Ok(())
 }

@@ -1,5 +1,5 @@
 use Rattle.pw_mem.proofs.Words.{word-put_same}
-use Rattle.pw_mem.proofs.laws.stored_words_are_read.Goals as goal
+use Rattle.pw_mem.proofs.laws.stored_doublewords_are_read.Goals as goal
 
 pub returns : goal.returns
 returns c = word-put_same

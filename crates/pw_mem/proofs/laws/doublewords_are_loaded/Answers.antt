@@ -1,5 +1,5 @@
 use Rattle.pw_mem.proofs.Words.{load_word}
-use Rattle.pw_mem.proofs.laws.words_are_loaded.Goals as goal
+use Rattle.pw_mem.proofs.laws.doublewords_are_loaded.Goals as goal
 
 pub returns : goal.returns
 returns c = load_word

@@ -1,5 +1,5 @@
 use Rattle.pw_mem.proofs.Words.{fetch-put_word}
-use Rattle.pw_mem.proofs.laws.words_are_no_text.Goals as goal
+use Rattle.pw_mem.proofs.laws.doublewords_are_no_text.Goals as goal
 
 pub returns : goal.returns
 returns c = fetch-put_word

@@ -1,6 +1,8 @@
 -- One instruction at a time: what it takes from an input that may have come to its end, what it puts behind an output, and how it moves the run on.
 use Rattle.std.specs.Prelude.{◌≡◌, ℕ, Bool, true, List, [], ◌∷◌, ◌++◌, Option, Some, None}
 use Rattle.pw_isa.specs.declared.instruction.Inst.TheVariants.{Ecall}
+use Rattle.pw_isa.specs.Registers.{a7}
+use Rattle.pw_isa.specs.EnvironmentCalls.{input_call, output_call}
 use Rattle.pw_mem.specs.Memory.{Mem}
 use Rattle.pw_mem.specs.Fetches.{counted, Told}
 use Rattle.pw_io.specs.Source.{SourceState, SourceFails, after}
@@ -12,7 +14,7 @@ use Rattle.pw_hart.specs.State.{MachineState, Next, Goes, Ends, get}
 use Rattle.pw_hart.specs.Exec.{exec, takes_input, puts_output}
 use Rattle.pw_hart.specs.Run.{step}
 use Rattle.pw_hart.specs.Harts.{registers, state_of}
-use Rattle.pw_hart.specs.Runs.{Moment, IsLeft, FailsToRead, FailsToWrite}
+use Rattle.pw_hart.specs.Runs.{ExecutionState, IsLeft, FailsToRead, FailsToWrite}
 
 -- an end that the machine itself has: not that of the input or the output, and not the limit
 abbrev pub IsMachines : End → Type 0
@@ -61,14 +63,14 @@ Puts old hart new hart' (Some end) = ⊥
 
 -- the input failed at its call, and nothing else changed
 pub record InputFails (old : Ports) (hart : Hart) (new : Ports) (hart' : Hart) : Type 0 where
-  pub call : get (registers hart) 17 ≡ 1024
+  pub call : get (registers hart) a7 ≡ input_call
   pub stays : hart' ≡ hart
   pub input : SourceFails old.input new.input
   pub out : new.out ≡ old.out
 
 -- the output failed at its call, and nothing else changed
 pub record OutputFails (old : Ports) (hart : Hart) (new : Ports) (hart' : Hart) : Type 0 where
-  pub call : get (registers hart) 17 ≡ 1025
+  pub call : get (registers hart) a7 ≡ output_call
   pub stays : hart' ≡ hart
   pub input : new.input ≡ old.input
   pub out : SinkFails old.out new.out
@@ -82,23 +84,23 @@ Calls old hart new hart' (Some Limit) = ⊥
 Calls old hart new hart' (Some end) = (mem : Mem) → Uses (exec Ecall) old hart mem new hart' mem (Ends end)
 
 -- the ports at a moment
-abbrev pub ports : Moment → Bool → Ports
+abbrev pub ports : ExecutionState → Bool → Ports
 ports m used_up = record { input = m.input; used_up = used_up; out = m.out }
 
 -- one fetch at the pc was counted and told
-pub record Fetches (old new : Moment) : Type 0 where
+pub record CountsFetch (old new : ExecutionState) : Type 0 where
   pub counts : new.fetches ≡ counted old.fetches 1
   pub tells : Told old.told (old.hart.pc ∷ []) new.told
 
 -- one step of the machine, from a moment to the next
-pub record Steps (old : Moment) (used_up : Bool) (new : Moment) (used_up' : Bool) (next : MachineState → Next) : Type 0 where
-  pub fetches : Fetches old new
+pub record MachineStep (old : ExecutionState) (used_up : Bool) (new : ExecutionState) (used_up' : Bool) (next : MachineState → Next) : Type 0 where
+  pub fetches : CountsFetch old new
   pub uses : Uses step (ports old used_up) old.hart old.mem (ports new used_up') new.hart new.mem next
 
 -- what one instruction answers and leaves: nothing where the run goes on, or how it ends
-abbrev pub Advances : Moment → Bool → Moment → Bool → Option End → Type 0
-Advances old used_up new used_up' None = Steps old used_up new used_up' Goes
+abbrev pub Advances : ExecutionState → Bool → ExecutionState → Bool → Option End → Type 0
+Advances old used_up new used_up' None = MachineStep old used_up new used_up' Goes
 Advances old used_up new used_up' (Some ReadFault) = FailsToRead old new
 Advances old used_up new used_up' (Some WriteFault) = FailsToWrite old new
 Advances old used_up new used_up' (Some Limit) = ⊥
-Advances old used_up new used_up' (Some end) = Steps old used_up new used_up' (Ends end)
+Advances old used_up new used_up' (Some end) = MachineStep old used_up new used_up' (Ends end)
