@@ -1,0 +1,3 @@
+pub mod Tested
+pub mod Counted
+pub mod Writable

@@ -1,0 +1,45 @@
+//! Numbers and texts at the front of what is left of a table.
+ghost use Rattle.std.specs.Prelude.{◌≡◌, ◌≤◌, length, IfOk};
+ghost use Rattle.pw_module.specs.Answer.{Gives};
+ghost use Rattle.pw_module.specs.Reading.{number_at, text_at};
+
+use pw_module::DepError;
+use pw_wire::u32_at;
+
+/// What the numbers of a table are held against: the bytes of the whole table, the symbols and the bytes of the text that
+/// it speaks of.
+#[derive(Clone, Copy)]
+pub(crate) struct Frame {
+    pub total: u64,
+    pub symbols: u32,
+    pub text: u64,
+}
+
+/// The number that stands first, and the bytes behind it.
+#[tactic(auto, unfolding(pw_module::specs::Reading::number_at))]
+pub(crate) fn number(total: u64, rest: &[u8]) -> Result<(u32, &[u8]), DepError>
+    requires { length rest.now ≤ total }
+    ensures value { Gives (λ x. (x.0, x.1.now)) result (number_at total rest.now) }
+    ensures shorter { IfOk result (λ x. length x.1.now ≤ length rest.now) }
+{
+    match u32_at(rest, 0) {
+        Some(n) => Ok((n, &rest[4..])),
+        None => Err(DepError::Short(total - rest.len() as u64)),
+    }
+}
+
+/// The text that stands first, its length in front of it, and the bytes behind it.
+#[tactic(auto, unfolding(pw_module::specs::Reading::text_at))]
+pub(crate) fn text(total: u64, rest: &[u8]) -> Result<(&[u8], &[u8]), DepError>
+    requires { length rest.now ≤ total }
+    ensures value { Gives (λ x. (x.0.now, x.1.now)) result (text_at total rest.now) }
+    ensures shorter { IfOk result (λ x. length x.1.now ≤ length rest.now) }
+{
+    let (count, rest) = number(total, rest)?;
+    let count = count as usize;
+    if rest.len() < count {
+        return Err(DepError::Short(total - rest.len() as u64));
+    }
+    let (text, rest) = rest.split_at(count);
+    Ok((text, rest))
+}

@@ -1,0 +1,16 @@
+//! The dependency table, read from its bytes and written to them.
+//!
+//! `read` answers the one allowed table whose bytes these are, or the first fault from front to back; `write` gives the bytes
+//! of a table, so that reading gives it back.
+#![tactic(auto)]
+
+mod check;
+mod field;
+mod reading;
+mod record;
+mod repeat;
+mod words;
+mod writing;
+
+pub use reading::read;
+pub use writing::write;
