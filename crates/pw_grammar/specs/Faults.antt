@@ -66,7 +66,7 @@ before_body (function g r x o ps c b body e) =
     Some (length (spelled_storage g) + length (spelled_result r) + length (spelled_parameters ps) + 3)
 before_body _ = None
 
--- token t, counted from the declaration's first, stands in the body, its braces included, after 8,192 others
+-- token t, counted from the declaration's first, stands in the body, its braces included, after as many others as a function may have
 abbrev pub IsLate : DeclarationDerivation → ℕ → Option ℕ → Type 0
 IsLate c t None = ⊥
 IsLate c t (Some brace) = (brace ≤ t) × (function_tokens ≤ t) × (t < length (spelled_declaration c))

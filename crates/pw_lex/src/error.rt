@@ -20,7 +20,7 @@ pub enum LexError {
     /// An integer constant whose value is too large for its type.
     #[error("number too wide")]
     TooWide(u32),
-    /// A name of more than 63 bytes.
+    /// A name of more than `Limits::NAME_BYTES` bytes.
     #[error("name too long")]
     LongName(u32),
     /// Memory for the tokens was refused.

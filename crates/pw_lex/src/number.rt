@@ -9,14 +9,14 @@ use crate::error::LexError;
 use crate::token::TokenKind;
 
 /// The base of an integer constant.
-#[derive(Clone, Copy, Debug)]
+#[derive(Clone, Copy)]
 pub enum Radix {
     Decimal,
     Hexadecimal,
 }
 
 /// What the spelling of an integer constant says.
-#[derive(Clone, Copy, Debug)]
+#[derive(Clone, Copy)]
 pub struct Constant {
     pub radix: Radix,
     /// Its value, or `None` for one of more than 64 bits.

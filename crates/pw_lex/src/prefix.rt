@@ -13,7 +13,7 @@ use crate::word::word;
 use std::alloc::Global;
 
 /// What stands at the beginning of a text, with its length in bytes.
-#[derive(Debug, Drop)]
+#[derive(Drop)]
 pub enum Prefix {
     /// A white byte or a comment.
     Gap(usize),

@@ -8,7 +8,7 @@ use Rattle.pw_grammar.specs.Faults.{opens, bracket}
 use Rattle.pw_base.specs.Limits.{open_brackets, function_tokens}
 use Rattle.pw_lex.specs.declared.token.Token.{Token}
 
--- the first token that opens a bracket where 200 are open; the first of the tokens has the number `at`, and n are open
+-- the first token that opens a bracket where as many are open as may be; the first of the tokens has the number `at`, and n are open
 unfoldable pub first_nested : ℕ → ℕ → List Token → Option ℕ
 first_nested at n [] = None
 first_nested at n (t ∷ ts) = if opens t && nat_le open_brackets n then Some at else first_nested (suc at) (bracket n t) ts
@@ -50,7 +50,7 @@ onward w t = record {
 unfoldable pub step : Walk → Token → Walk
 step w t = if is_last w t then anew (suc w.at) else onward w t
 
--- the first token that stands in a function's body after 8,192 others of the function
+-- the first token that stands in a function's body after as many others of the function as it may have
 unfoldable pub first_late : Walk → List Token → Option ℕ
 first_late w [] = None
 first_late w (t ∷ ts) = if is_late w t then Some w.at else first_late (step w t) ts
