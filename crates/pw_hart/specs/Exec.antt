@@ -54,7 +54,7 @@ jumps counted target x s =
 abbrev pub goes_back : ℕ → MachineState → Bool
 goes_back target s = nat_le target s.pc
 
--- a jump that writes the address behind it to rd: a call, with rd = x1, and a jump back are counted
+-- a jump that writes the address after it to rd: a call, with rd = x1, and a jump back are counted
 abbrev pub jumps_and_links : ℕ → ℕ → Bool → MachineState → Next
 jumps_and_links rd target counted s = jumps (rd == ra || counted) target (set s.x rd (following s)) s
 
@@ -104,7 +104,7 @@ abbrev pub takes_input : List ℕ → MachineState → Next
 takes_input [] s = writes a0 all_ones s
 takes_input (byte ∷ rest) s = writes a0 byte (record s { input = rest })
 
--- the lowest byte of a0 is put behind the output
+-- the lowest byte of a0 is appended to the output
 abbrev pub puts_output : MachineState → Next
 puts_output s = goes_on s.x (record s { output = s.output ++ zero_extend w8 (get s.x a0) ∷ [] })
 
@@ -123,6 +123,7 @@ calls_environment number s =
 
 -- ---- the table
 
+-- what each instruction does
 abbrev pub exec : Inst → MachineState → Next
 -- integer computational instructions, register by immediate
 exec (Addi rd rs1 imm) = by_immediate add rd rs1 imm

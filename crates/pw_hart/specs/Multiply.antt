@@ -41,17 +41,22 @@ remu a b = if b == 0 then a else a % b
 
 -- ---- the same on the lowest 32 bits, the result sign-extended
 
+-- the lowest 32 bits of the product
 abbrev pub mulw : ℕ → ℕ → ℕ
 mulw a b = sign_extend w32 (a * b)
 
+-- the quotient of signed words
 abbrev pub divw : ℕ → ℕ → ℕ
 divw a b = if zero_extend w32 b == 0 then all_ones else bits64 (int_wrapping_div w32 (signed w32 a) (signed w32 b))
 
+-- the quotient of unsigned words
 abbrev pub divuw : ℕ → ℕ → ℕ
 divuw a b = if zero_extend w32 b == 0 then all_ones else sign_extend w32 (zero_extend w32 a / zero_extend w32 b)
 
+-- the remainder of signed words
 abbrev pub remw : ℕ → ℕ → ℕ
 remw a b = if zero_extend w32 b == 0 then sign_extend w32 a else bits64 (int_rem (signed w32 a) (signed w32 b))
 
+-- the remainder of unsigned words
 abbrev pub remuw : ℕ → ℕ → ℕ
 remuw a b = if zero_extend w32 b == 0 then sign_extend w32 a else sign_extend w32 (zero_extend w32 a % zero_extend w32 b)

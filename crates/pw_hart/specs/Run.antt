@@ -9,7 +9,7 @@ use Rattle.pw_hart.specs.declared.ends.End.TheVariants.{Trap, Limit}
 use Rattle.pw_hart.specs.State.{MachineState, Next, Goes, Ends}
 use Rattle.pw_hart.specs.Exec.{exec}
 
--- what a word does that may be an instruction
+-- what an instruction word does that may be an instruction
 abbrev pub carries_out : ℕ → MachineState → Option Inst → Next
 carries_out word s (Some inst) = exec inst s
 carries_out word s None = Ends (Trap 2 s.pc word) s
@@ -29,7 +29,7 @@ pub record RunResult : Type 0 where
   pub state : MachineState
   pub fetched : List ℕ
 
--- an outcome, with one more fetch before the others
+-- a result, with one more fetch before the others
 abbrev pub fetching : ℕ → RunResult → RunResult
 fetching at o = record o { fetched = at ∷ o.fetched }
 

@@ -15,7 +15,7 @@ use Rattle.pw_hart.specs.State.{MachineState, get}
 use Rattle.pw_hart.specs.Run.{RunResult, run}
 use Rattle.pw_hart.specs.Harts.{state_of}
 
--- a processor and what it is given, at one moment: a memory with its fetches, an input, and an output
+-- the state of an execution: a processor and what it is given, which is a memory with its fetches, an input, and an output
 pub record ExecutionState : Type 0 where
   pub hart : Hart
   pub mem : Mem
@@ -24,15 +24,16 @@ pub record ExecutionState : Type 0 where
   pub input : SourceState
   pub out : SinkState
 
--- these bytes are what is left in the input, where it tells that
+-- these bytes are what is left in the input, where it reports that
 abbrev pub IsLeft : List ℕ → SourceState → Type 0
 IsLeft bytes input = IfSome input.left (λ left. left ≡ bytes)
 
--- the machine's state at a moment, where this input is left and nothing is put yet
+-- the machine's state in an execution, where this input is left and nothing is put yet
 abbrev pub state_at : ExecutionState → List ℕ → MachineState
 state_at m input = state_of m.hart m.mem input []
 
--- what an outcome of the machine leaves: its state, the input without what was taken, the output with what was put, and its fetches counted
+-- an execution has come to a result of the machine: it has its state, the input without what was taken, the output with
+-- what was put, and its fetches counted
 pub record HasResult (old : ExecutionState) (input : List ℕ) (o : RunResult) (new : ExecutionState) : Type 0 where
   pub taken : List ℕ
   pub took : input ≡ taken ++ o.state.input
@@ -42,7 +43,8 @@ pub record HasResult (old : ExecutionState) (input : List ℕ) (o : RunResult) (
   pub counts : new.fetches ≡ counted old.fetches (length o.fetched)
   pub tells : Told old.told o.fetched new.told
 
--- the machine's run of at most `n` instructions ends so and leaves that, with the input that is left, or with some input where it is not told
+-- the machine's run of at most `n` instructions ends so and leaves that, with the input that is left, or with some input
+-- where it is not reported
 pub record RunsTo (n : ℕ) (old new : ExecutionState) (end : End) : Type 0 where
   pub input : List ℕ
   pub is_left : IsLeft input old.input

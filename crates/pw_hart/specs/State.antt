@@ -27,14 +27,14 @@ pub data Next : Type 0 where
   Goes : MachineState → Next
   Ends : End → MachineState → Next
 
--- the address of the instruction behind
+-- the address of the next instruction
 abbrev pub following : MachineState → ℕ
 following s = (s.pc + 4) % 2 ^ 64
 
--- the run goes on behind the instruction, with these registers
+-- the run goes on after the instruction, with these registers
 abbrev pub goes_on : (ℕ → ℕ) → MachineState → Next
 goes_on x s = Goes (record s { x = x; pc = following s })
 
--- a value is written to rd, and the run goes on behind the instruction
+-- a value is written to rd, and the run goes on after the instruction
 abbrev pub writes : ℕ → ℕ → MachineState → Next
 writes rd value s = goes_on (set s.x rd value) s

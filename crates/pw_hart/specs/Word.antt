@@ -4,9 +4,11 @@ use Rattle.std.specs.Int.{w32, int_shr}
 use Rattle.pw_hart.specs.Bits.{signed, sign_extend, zero_extend, bits64}
 use Rattle.pw_hart.specs.Integer.{sub}
 
+-- the sum
 abbrev pub addw : ℕ → ℕ → ℕ
 addw a b = sign_extend w32 (a + b)
 
+-- the difference
 abbrev pub subw : ℕ → ℕ → ℕ
 subw a b = sign_extend w32 (sub a b)
 

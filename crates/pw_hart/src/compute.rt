@@ -63,7 +63,7 @@ impl Hart {
         self.write(rd, value)
     }
 
-    /// Takes a branch where a condition of two registers holds, or goes on behind it.
+    /// Takes a branch where a condition of two registers holds, or goes on after it.
     pub(crate) fn branch_on(
         &mut self,
         condition: Condition,

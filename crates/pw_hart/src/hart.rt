@@ -47,7 +47,7 @@ impl Hart {
         }
     }
 
-    /// Writes a register, and goes on behind the instruction.
+    /// Writes a register, and goes on after the instruction.
     pub(crate) fn advance(&mut self, rd: u8, value: u64)
         requires { rd < 32 }
         ensures { (mem : Mem) → Does (writes rd value) self.old mem None self.new mem }
@@ -113,7 +113,7 @@ impl Hart {
         add(self.get(rs1), sign_extended(imm))
     }
 
-    /// Takes a branch, or goes on behind it.
+    /// Takes a branch, or goes on after it.
     pub(crate) fn branch(&mut self, taken: bool, imm: i32) -> Option<End>
         ensures { (mem : Mem) → Does (branches_if taken imm) self.old mem result self.new mem }
     {
@@ -124,7 +124,7 @@ impl Hart {
         self.write(ZERO, 0)
     }
 
-    /// Jumps, and writes the address behind to a register.
+    /// Jumps, and writes the address after it to a register.
     pub(crate) fn jal(&mut self, rd: u8, imm: i32) -> Option<End>
         requires { rd < 32 }
         ensures { (mem : Mem) → Does (exec (Inst.Jal rd imm)) self.old mem result self.new mem }
@@ -138,7 +138,7 @@ impl Hart {
         )
     }
 
-    /// Jumps to an address by a register, which is read first, and writes the address behind to a register.
+    /// Jumps to an address by a register, which is read first, and writes the address after it to a register.
     pub(crate) fn jalr(&mut self, rd: u8, rs1: u8, imm: i32) -> Option<End>
         requires rd { rd < 32 }
         requires rs1 { rs1 < 32 }

@@ -47,14 +47,17 @@ find-push_past p [] x fails = rw fails
 find-push_past p (y ∷ ys) x fails = ap (λ rest. cond (p y) (Some y) rest) (find-push_past p ys x fails)
 
 -- a file of a name that no other has, at the end
-pub bytes_of-push : (files : List File) (name : List ℕ) (bytes : Vec ℕ Global) → position (λ file. bytes_eq file.0 name) files ≡ None → WritesFile files name bytes.items (files ++ (name, bytes) ∷ []) (Ok tt)
+pub bytes_of-push : (files : List File) (name : List ℕ) (bytes : Vec ℕ Global) → position (λ file. bytes_eq file.0 name) files ≡ None
+    → WritesFile files name bytes.items (files ++ (name, bytes) ∷ []) (Ok tt)
 bytes_of-push files name bytes none = (
   ap (λ found. option_map (λ (file : File). file.1.items) found) (find-push_none (λ file. bytes_eq file.0 name) files (name, bytes) (find_none _ files none) (bytes_eq_same name)),
   λ other differs. ap (λ found. option_map (λ (file : File). file.1.items) found) (find-push_past (λ file. bytes_eq file.0 other) files (name, bytes) (bytes_eq_other name other differs)),
 )
 
 -- the first file of a name with other bytes
-pub bytes_of-set : (files : List File) (name : List ℕ) (place : ℕ) (file : File) (bytes : Vec ℕ Global) → position (λ f. bytes_eq f.0 name) files ≡ Some place → file ≡ get_or files place file → WritesFile files name bytes.items (set files place (file.0, bytes)) (Ok tt)
+pub bytes_of-set : (files : List File) (name : List ℕ) (place : ℕ) (file : File) (bytes : Vec ℕ Global)
+    → position (λ f. bytes_eq f.0 name) files ≡ Some place → file ≡ get_or files place file
+    → WritesFile files name bytes.items (set files place (file.0, bytes)) (Ok tt)
 bytes_of-set files name place file bytes found stands =
     let at = position-Some (λ (f : File). bytes_eq f.0 name) files place file found in
     let first : position_or_len (λ (f : File). bytes_eq f.0 name) files ≡ place = (cond_some _ _ _ found).1 in

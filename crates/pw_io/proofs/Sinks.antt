@@ -15,7 +15,8 @@ wrote_nothing s = ap (λ holds. record { holds = holds; faults = s.faults }) (no
 pub wrote_wrote : (first second : List ℕ) (s : SinkState) → wrote second (wrote first s) ≡ wrote (first ++ second) s
 wrote_wrote first second s = ap (λ holds. record { holds = holds; faults = s.faults }) (twice s.holds)
   where
-    twice : (holds : Option Holds) → option_map (with_bytes second) (option_map (with_bytes first) holds) ≡ option_map (with_bytes (first ++ second)) holds
+    twice : (holds : Option Holds)
+        → option_map (with_bytes second) (option_map (with_bytes first) holds) ≡ option_map (with_bytes (first ++ second)) holds
     twice None = refl
     twice (Some h) = ap (λ bytes. Some (record { written = bytes; flushed = h.flushed })) (append_assoc h.written first second)
 

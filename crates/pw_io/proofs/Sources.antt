@@ -15,7 +15,8 @@ after_nothing s = ap (λ left. record { left = left; faults = s.faults }) (nothi
 pub after_after : (first second : List ℕ) (s : SourceState) → after second (after first s) ≡ after (first ++ second) s
 after_after first second s = ap (λ left. record { left = left; faults = s.faults }) (twice s.left)
   where
-    twice : (left : Option (List ℕ)) → option_map (drop (length second)) (option_map (drop (length first)) left) ≡ option_map (drop (length (first ++ second))) left
+    twice : (left : Option (List ℕ))
+        → option_map (drop (length second)) (option_map (drop (length first)) left) ≡ option_map (drop (length (first ++ second))) left
     twice None = refl
     twice (Some bytes) = ap Some (drop-drop (length second) (length first) bytes ∙ ap (λ n. drop n bytes) (sym (length-append first second)))
 
@@ -31,7 +32,9 @@ Offers_nothing s = nothing s.left
 pub Offers_more : (first second : List ℕ) (s : SourceState) → Offers first s → Offers second (after first s) → Offers (first ++ second) s
 Offers_more first second s = more s.left
   where
-    more : (left : Option (List ℕ)) → IfSome left (λ l. l ≡ first ++ drop (length first) l) → IfSome (option_map (drop (length first)) left) (λ l. l ≡ second ++ drop (length second) l) → IfSome left (λ l. l ≡ (first ++ second) ++ drop (length (first ++ second)) l)
+    more : (left : Option (List ℕ)) → IfSome left (λ l. l ≡ first ++ drop (length first) l)
+        → IfSome (option_map (drop (length first)) left) (λ l. l ≡ second ++ drop (length second) l)
+        → IfSome left (λ l. l ≡ (first ++ second) ++ drop (length (first ++ second)) l)
     more None offered behind = tt
     more (Some l) offered behind =
         offered ∙ ap (λ rest. first ++ rest) behind ∙ sym (append_assoc first second _)
@@ -41,6 +44,7 @@ Offers_more first second s = more s.left
 pub IsUsedUp-after : (text : List ℕ) (s : SourceState) → Offers text s → IsUsedUp (after text s) → IfSome s.left (λ left. left ≡ text)
 IsUsedUp-after text s = ended s.left
   where
-    ended : (left : Option (List ℕ)) → IfSome left (λ l. l ≡ text ++ drop (length text) l) → IfSome (option_map (drop (length text)) left) (λ l. l ≡ []) → IfSome left (λ l. l ≡ text)
+    ended : (left : Option (List ℕ)) → IfSome left (λ l. l ≡ text ++ drop (length text) l)
+        → IfSome (option_map (drop (length text)) left) (λ l. l ≡ []) → IfSome left (λ l. l ≡ text)
     ended None offered used = tt
     ended (Some l) offered used = offered ∙ ap (λ rest. text ++ rest) used ∙ append-nil text

@@ -1,8 +1,7 @@
 //! What each load leaves in a0, and what each store leaves of the data. The values follow from the bytes 0x81 to 0x88
 //! that stand there, the lowest first.
 
-use crate::machine::{DATA, hart, memory, no_ports};
-use pw_mem::Memory;
+use crate::machine::{DATA, hart, step};
 use std::test::Fail;
 
 #[test]
@@ -24,13 +23,10 @@ fn every_load_extends_its_number(rt: HostRuntime) -> Result<(), Fail> {
         // ld a0, 0(t0): all eight
         (0x0002_b503, 0x8887_8685_8483_8281_u64),
     ];
-    let (mut input, mut out) = no_ports(rt.alloc())?;
     for (word, a0) in table {
-        let mut mem = memory(rt.alloc(), &word.to_le_bytes())?;
-        let mut hart = hart(DATA, 0, 0, 0, 2);
-        let end = hart.step(&mut mem, &mut input, &mut out);
+        let (end, after, _) = step(rt.alloc(), word, hart(DATA, 0, 0, 0, 2))?;
         assert_eq!(rt; end, None, "{word:#010x}");
-        assert_eq!(rt; hart.x[10], a0, "{word:#010x}");
+        assert_eq!(rt; after.x[10], a0, "{word:#010x}");
     }
     Ok(())
 }
@@ -48,13 +44,11 @@ fn every_store_writes_its_lowest_bytes(rt: HostRuntime) -> Result<(), Fail> {
         // sd t1, 0(t0): all eight
         (0x0062_b023, 0x1122_3344_5566_7788),
     ];
-    let (mut input, mut out) = no_ports(rt.alloc())?;
     for (word, data) in table {
-        let mut mem = memory(rt.alloc(), &word.to_le_bytes())?;
-        let mut hart = hart(DATA, 0x1122_3344_5566_7788, 0, 0, 2);
-        let end = hart.step(&mut mem, &mut input, &mut out);
+        let before = hart(DATA, 0x1122_3344_5566_7788, 0, 0, 2);
+        let (end, _, left) = step(rt.alloc(), word, before)?;
         assert_eq!(rt; end, None, "{word:#010x}");
-        assert_eq!(rt; mem.load(DATA, 8), Ok(data), "{word:#010x}");
+        assert_eq!(rt; left, data, "{word:#010x}");
     }
     Ok(())
 }

@@ -1,7 +1,7 @@
 //! What each computational instruction leaves in a0: rows of an instruction word, t0, t1 and a0. The values come from an
 //! independent model of the machine.
 
-use crate::machine::{AT, hart, memory, no_ports};
+use crate::machine::{AT, hart, step};
 use std::alloc::Global;
 use std::process::Abort;
 use std::test::Fail;
@@ -13,22 +13,17 @@ const MAX: i64 = i64::MAX;
 /// Each instruction word leaves its last number in a0 for its values of t0 and t1, goes on after itself and takes no
 /// step.
 fn expect(rt: &impl Abort, alloc: Global, table: &[(u32, i64, i64, i64)]) -> Result<(), Fail> {
-    let (mut input, mut out) = no_ports(alloc)?;
     for (word, t0, t1, a0) in table {
-        let mut mem = memory(alloc, &word.to_le_bytes())?;
-        let mut hart = hart(t0.cast_unsigned(), t1.cast_unsigned(), 0, 0, 2);
-        let end = hart.step(&mut mem, &mut input, &mut out);
+        let before = hart(t0.cast_unsigned(), t1.cast_unsigned(), 0, 0, 2);
+        let (end, after, _) = step(alloc, *word, before)?;
         assert_eq!(rt; end, None, "{word:#010x} of {t0} and {t1}");
         assert_eq!(rt;
-            hart.x[10],
-            a0.cast_unsigned(),
+            after.x[10].cast_signed(),
+            *a0,
             "{word:#010x} of {t0} and {t1}"
         );
-        assert_eq!(rt;
-            (hart.pc, hart.steps),
-            (AT + 4, 2),
-            "{word:#010x} of {t0} and {t1}"
-        );
+        assert_eq!(rt; after.pc, AT + 4);
+        assert_eq!(rt; after.steps, 2);
     }
     Ok(())
 }

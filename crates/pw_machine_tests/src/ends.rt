@@ -1,7 +1,7 @@
 //! How an instruction ends a run, and that it then changes no register. The values come from the manual's traps and from
 //! an independent model of the machine.
 
-use crate::machine::{AT, DATA, hart, memory, no_ports};
+use crate::machine::{AT, DATA, hart, step};
 use pw_hart::End;
 use std::alloc::Global;
 use std::process::Abort;
@@ -32,12 +32,9 @@ fn expect(
     alloc: Global,
     table: &[(u32, [u64; 4], Option<End>)],
 ) -> Result<(), Fail> {
-    let (mut input, mut out) = no_ports(alloc)?;
     for (word, [t0, a0, a7, steps], want) in table {
-        let mut mem = memory(alloc, &word.to_le_bytes())?;
         let before = hart(*t0, 0, *a0, *a7, *steps);
-        let mut after = before;
-        let end = after.step(&mut mem, &mut input, &mut out);
+        let (end, after, _) = step(alloc, *word, before)?;
         assert_eq!(rt; end, *want, "{word:#010x}");
         if end.is_some() {
             assert_eq!(rt; after, before, "{word:#010x}");
@@ -129,19 +126,18 @@ fn an_environment_call_goes_by_its_number(rt: HostRuntime) -> Result<(), Fail> {
 
 #[test]
 fn a_refused_fetch_traps_with_the_address(rt: HostRuntime) -> Result<(), Fail> {
-    let (mut input, mut out) = no_ports(rt.alloc())?;
     // no multiple of 4; no region; no executable region
     for pc in [AT + 2, 0, DATA] {
-        let mut mem = memory(rt.alloc(), &[])?;
-        let mut hart = hart(0, 0, 0, 0, 0);
-        hart.pc = pc;
-        let end = hart.step(&mut mem, &mut input, &mut out);
+        let mut before = hart(0, 0, 0, 0, 0);
+        before.pc = pc;
+        let (end, after, _) = step(rt.alloc(), 0, before)?;
         let want = End::Trap {
             cause: 1,
             pc,
             value: pc,
         };
         assert_eq!(rt; end, Some(want), "at {pc:#x}");
+        assert_eq!(rt; after, before, "at {pc:#x}");
     }
     Ok(())
 }

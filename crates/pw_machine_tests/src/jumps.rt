@@ -1,6 +1,6 @@
 //! Where branches and jumps go on, and which of them take a step. The values come from an independent model of the machine.
 
-use crate::machine::{AT, hart, memory, no_ports};
+use crate::machine::{AT, hart, step};
 use std::alloc::Global;
 use std::process::Abort;
 use std::test::Fail;
@@ -11,17 +11,12 @@ fn expect_branches(
     alloc: Global,
     table: &[(u32, i64, i64, u64, u64)],
 ) -> Result<(), Fail> {
-    let (mut input, mut out) = no_ports(alloc)?;
     for (word, t0, t1, pc, steps) in table {
-        let mut mem = memory(alloc, &word.to_le_bytes())?;
-        let mut hart = hart(t0.cast_unsigned(), t1.cast_unsigned(), 0, 0, 2);
-        let end = hart.step(&mut mem, &mut input, &mut out);
+        let before = hart(t0.cast_unsigned(), t1.cast_unsigned(), 0, 0, 2);
+        let (end, after, _) = step(alloc, *word, before)?;
         assert_eq!(rt; end, None, "{word:#010x} of {t0} and {t1}");
-        assert_eq!(rt;
-            (hart.pc, hart.steps),
-            (*pc, *steps),
-            "{word:#010x} of {t0} and {t1}"
-        );
+        assert_eq!(rt; after.pc, *pc, "{word:#010x} of {t0} and {t1}");
+        assert_eq!(rt; after.steps, *steps, "{word:#010x} of {t0} and {t1}");
     }
     Ok(())
 }
@@ -94,7 +89,7 @@ fn branches_on_unsigned_numbers(rt: HostRuntime) -> Result<(), Fail> {
 #[test]
 fn jumps_link_and_take_a_step_for_a_call_and_for_the_way_back(rt: HostRuntime) -> Result<(), Fail> {
     // an instruction word, t0 before, and ra, t0, a0, the address and the steps after
-    let table = [
+    let table: [(u32, u64, [u64; 3], u64, u64); 11] = [
         // jal ra, 8: a call takes a step
         (0x008000ef, 0, [AT + 4, 0, 0], AT + 8, 1),
         // jal zero, 8: forward without a link: no step
@@ -124,33 +119,26 @@ fn jumps_link_and_take_a_step_for_a_call_and_for_the_way_back(rt: HostRuntime) -
         // jalr ra, -1(t0): to address 0
         (0xfff280e7, 1, [AT + 4, 1, 0], 0, 1),
     ];
-    let (mut input, mut out) = no_ports(rt.alloc())?;
     for (word, t0, links, pc, steps) in table {
-        let mut mem = memory(rt.alloc(), &word.to_le_bytes())?;
-        let mut hart = hart(t0, 0, 0, 0, 2);
-        let end = hart.step(&mut mem, &mut input, &mut out);
+        let (end, after, _) = step(rt.alloc(), word, hart(t0, 0, 0, 0, 2))?;
         assert_eq!(rt; end, None, "{word:#010x}");
-        assert_eq!(rt; [hart.x[1], hart.x[5], hart.x[10]], links, "{word:#010x}");
-        assert_eq!(rt; (hart.pc, hart.steps), (pc, steps), "{word:#010x}");
+        let left = [after.x[1], after.x[5], after.x[10]];
+        assert_eq!(rt; left, links, "{word:#010x}");
+        assert_eq!(rt; after.pc, pc, "{word:#010x}");
+        assert_eq!(rt; after.steps, steps, "{word:#010x}");
     }
     Ok(())
 }
 
 #[test]
 fn fence_and_a_write_to_x0_change_no_register(rt: HostRuntime) -> Result<(), Fail> {
-    let (mut input, mut out) = no_ports(rt.alloc())?;
     // fence; add zero, t0, t1
     for word in [0x0ff0_000f_u32, 0x0062_8033] {
-        let mut mem = memory(rt.alloc(), &word.to_le_bytes())?;
-        let before = hart(5, 6, 0, 0, 2);
-        let mut after = before;
-        let end = after.step(&mut mem, &mut input, &mut out);
+        let mut want = hart(5, 6, 0, 0, 2);
+        let (end, after, _) = step(rt.alloc(), word, want)?;
+        want.pc = AT + 4;
         assert_eq!(rt; end, None, "{word:#010x}");
-        assert_eq!(rt;
-            (after.x, after.pc, after.steps),
-            (before.x, AT + 4, 2),
-            "{word:#010x}"
-        );
+        assert_eq!(rt; after, want, "{word:#010x}");
     }
     Ok(())
 }

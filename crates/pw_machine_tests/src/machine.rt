@@ -1,7 +1,7 @@
 //! The machine that the tables try one instruction on: its memory, a processor before that instruction, and ports that
 //! offer nothing.
 
-use pw_hart::Hart;
+use pw_hart::{End, Hart};
 use pw_io::{MemSink, MemSource};
 use pw_mem::{FlatMemory, Memory, Region, Rights};
 use std::alloc::Global;
@@ -45,9 +45,17 @@ pub(crate) fn hart(t0: u64, t1: u64, a0: u64, a7: u64, steps: u64) -> Hart {
     Hart { x, pc: AT, steps }
 }
 
-/// A source of no bytes and a sink with no room.
-pub(crate) fn no_ports(alloc: Global) -> Result<(MemSource, MemSink), Fail> {
-    let input = MemSource::new(Vec::new(alloc), Vec::new(alloc));
-    let out = MemSink::new(alloc, 0, Vec::new(alloc))?;
-    Ok((input, out))
+/// What a step with an instruction word answers, the processor after it, and the first eight bytes of the data. The input
+/// has no bytes, and the output no room.
+pub(crate) fn step(
+    alloc: Global,
+    word: u32,
+    before: Hart,
+) -> Result<(Option<End>, Hart, u64), Fail> {
+    let mut mem = memory(alloc, &word.to_le_bytes())?;
+    let mut input = MemSource::new(Vec::new(alloc), Vec::new(alloc));
+    let mut out = MemSink::new(alloc, 0, Vec::new(alloc))?;
+    let mut after = before;
+    let end = after.step(&mut mem, &mut input, &mut out);
+    Ok((end, after, mem.load(DATA, 8)?))
 }

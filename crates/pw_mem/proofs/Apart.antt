@@ -15,14 +15,17 @@ use Rattle.pw_mem.proofs.Zeros.{length_of_zeros}
 apart_holds : (a b : MappedRegion) (at n : ℕ) → are_apart a b ≡ true → 0 < n → holds at n b ≡ true → holds at n a ≡ false
 apart_holds a b at n apart some held = grind (arith, nat_tests)
 
-first_of_apart : (rs : List MappedRegion) (at n i : ℕ) (d : MappedRegion) → AreApart rs → i < length rs → 0 < n → holds at n (get_or rs i d) ≡ true → IsFirst rs at n i d
+first_of_apart : (rs : List MappedRegion) (at n i : ℕ) (d : MappedRegion) → AreApart rs → i < length rs → 0 < n
+    → holds at n (get_or rs i d) ≡ true → IsFirst rs at n i d
 first_of_apart rs at n i d apart in_it some held =
     (in_it, held, λ k lt. apart_holds (get_or rs k d) (get_or rs i d) at n (apart k i d lt in_it) some held)
 
-pub holders_are_seen : (rs : List MappedRegion) (at n i : ℕ) (d : MappedRegion) → AreApart rs → i < length rs → 0 < n → holds at n (get_or rs i d) ≡ true → region_at rs at n ≡ Some (get_or rs i d)
+pub holders_are_seen : (rs : List MappedRegion) (at n i : ℕ) (d : MappedRegion) → AreApart rs → i < length rs → 0 < n
+    → holds at n (get_or rs i d) ≡ true → region_at rs at n ≡ Some (get_or rs i d)
 holders_are_seen rs at n i d apart in_it some held = seen_first rs at n i d (first_of_apart rs at n i d apart in_it some held)
 
-pub holders_are_written : (rs : List MappedRegion) (at i : ℕ) (new : List ℕ) (d : MappedRegion) → AreApart rs → i < length rs → 0 < length new → holds at (length new) (get_or rs i d) ≡ true → written rs at new ≡ set rs i (with_bytes (get_or rs i d) at new)
+pub holders_are_written : (rs : List MappedRegion) (at i : ℕ) (new : List ℕ) (d : MappedRegion) → AreApart rs → i < length rs
+    → 0 < length new → holds at (length new) (get_or rs i d) ≡ true → written rs at new ≡ set rs i (with_bytes (get_or rs i d) at new)
 holders_are_written rs at i new d apart in_it some held =
     wrote_first rs at i new d (first_of_apart rs at (length new) i d apart in_it some held)
 
@@ -42,10 +45,12 @@ mapped_regions_are_apart rs h i j d below in_it =
 length-written : (rs : List MappedRegion) (at : ℕ) (new : List ℕ) → length (written rs at new) ≡ length rs
 length-written rs at new = simp length-map at (ap length (shapes_written rs at new))
 
-same_shape : (rs : List MappedRegion) (at : ℕ) (new : List ℕ) (k : ℕ) (d : MappedRegion) → k < length rs → shape_of (get_or (written rs at new) k d) ≡ shape_of (get_or rs k d)
+same_shape : (rs : List MappedRegion) (at : ℕ) (new : List ℕ) (k : ℕ) (d : MappedRegion) → k < length rs
+    → shape_of (get_or (written rs at new) k d) ≡ shape_of (get_or rs k d)
 same_shape rs at new k d in_it =
     let size = length-written rs at new in
-    sym (get_or-map shape_of (written rs at new) k d (shape_of d) (omega arith)) ∙ ap (λ shapes. get_or shapes k (shape_of d)) (shapes_written rs at new) ∙ get_or-map shape_of rs k d (shape_of d) in_it
+    sym (get_or-map shape_of (written rs at new) k d (shape_of d) (omega arith))
+        ∙ ap (λ shapes. get_or shapes k (shape_of d)) (shapes_written rs at new) ∙ get_or-map shape_of rs k d (shape_of d) in_it
 
 apart_by_shape : (a b c d : MappedRegion) → shape_of a ≡ shape_of c → shape_of b ≡ shape_of d → are_apart c d ≡ true → are_apart a b ≡ true
 apart_by_shape a b c d ac bd apart =

@@ -23,7 +23,8 @@ readable_of : (r : MappedRegion) (a w u : ℕ) (t : Bool) → r.read ≡ t → c
 readable_of r a w u true is h = is
 readable_of r a w u false is h = cc
 
-loaded_after : (m n : Mem) (a w u v : ℕ) (t : Bool) → cond t (number_in (λ r. r.read) (region_at m.regions a w) a w) (Err Misaligned) ≡ Ok u → HasWritten m a (le_bytes w v) n → cond t (number_in (λ r. r.read) (region_at n.regions a w) a w) (Err Misaligned) ≡ Ok (v % 256 ^ w)
+loaded_after : (m n : Mem) (a w u v : ℕ) (t : Bool) → cond t (number_in (λ r. r.read) (region_at m.regions a w) a w) (Err Misaligned) ≡ Ok u
+    → HasWritten m a (le_bytes w v) n → cond t (number_in (λ r. r.read) (region_at n.regions a w) a w) (Err Misaligned) ≡ Ok (v % 256 ^ w)
 loaded_after m n a w u v false h wrote = cc
 loaded_after m n a w u v true h wrote =
     let size = length-le_bytes w v in
@@ -31,7 +32,8 @@ loaded_after m n a w u v true h wrote =
     let held = region_at-holds m.regions a (length (le_bytes w v)) wrote.region wrote.found in
     let readable = readable_of wrote.region a w u wrote.region.read refl (rw found at h) in
     let there : region_at (written m.regions a (le_bytes w v)) a w ≡ Some (with_bytes wrote.region a (le_bytes w v)) =
-    ap (region_at (written m.regions a (le_bytes w v)) a) (sym size) ∙ region_at-written m.regions a (le_bytes w v) ∙ ap (option_map (λ r. with_bytes r a (le_bytes w v))) wrote.found in
+    ap (region_at (written m.regions a (le_bytes w v)) a) (sym size) ∙ region_at-written m.regions a (le_bytes w v)
+        ∙ ap (option_map (λ r. with_bytes r a (le_bytes w v))) wrote.found in
     let bytes : bytes_at (with_bytes wrote.region a (le_bytes w v)) a w ≡ le_bytes w v =
     ap (bytes_at (with_bytes wrote.region a (le_bytes w v)) a) (sym size) ∙ bytes_at-with_bytes wrote.region a (le_bytes w v) held in
     rw (wrote.is, there, readable, bytes, le-low_bytes w v) refl

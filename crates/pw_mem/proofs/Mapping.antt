@@ -11,7 +11,8 @@ use Rattle.pw_mem.specs.Map.{is_aligned, meets, CanMap}
 pub can_map_none : CanMap []
 can_map_none = record { aligned = λ k d h. absurd (omega arith); apart = λ i j d h g. absurd (omega arith) }
 
-none_passes_from : (p : Region → Bool) (x : Region) (xs : List Region) → (list_any p xs ≡ false → All (λ y. p y ≡ false) xs) → (t : Bool) → p x ≡ t → t || list_any p xs ≡ false → All (λ y. p y ≡ false) (x ∷ xs)
+none_passes_from : (p : Region → Bool) (x : Region) (xs : List Region) → (list_any p xs ≡ false → All (λ y. p y ≡ false) xs) → (t : Bool)
+    → p x ≡ t → t || list_any p xs ≡ false → All (λ y. p y ≡ false) (x ∷ xs)
 none_passes_from p x xs rest true is h = cc
 none_passes_from p x xs rest false is h = All-cons (λ y. p y ≡ false) x xs is (rest h)
 
@@ -26,7 +27,8 @@ can_map_push rs r h even alone = record {
   apart = all_pairs_push (λ earlier later. meets later earlier ≡ false) rs r h.apart (λ k d in_it. none_passes (meets r) rs alone k d in_it);
 }
 
-pub can_map_more : (rs : List Region) (i : ℕ) (d : Region) → i < length rs → CanMap (take i rs) → is_aligned (get_or rs i d) ≡ true → list_any (meets (get_or rs i d)) (take i rs) ≡ false → CanMap (take (i + 1) rs)
+pub can_map_more : (rs : List Region) (i : ℕ) (d : Region) → i < length rs → CanMap (take i rs) → is_aligned (get_or rs i d) ≡ true
+    → list_any (meets (get_or rs i d)) (take i rs) ≡ false → CanMap (take (i + 1) rs)
 can_map_more rs i d in_it h even alone = rw (take_more rs i d in_it) (can_map_push (take i rs) (get_or rs i d) h even alone)
 
 -- all of them

@@ -15,7 +15,9 @@ bytes_of_word (w ∷ ws) pad (suc k) h =
     let next : 4 * suc k ≡ suc (suc (suc (suc (4 * k)))) = omega arith in rw next (bytes_of_word ws pad k (omega arith))
 
 -- and is fetched there
-pub fetch_word : (m : Mem) (r : MappedRegion) (ws pad : List ℕ) (k : ℕ) → region_at m.regions (r.start + 4 * k) 4 ≡ Some r → r.execute ≡ true → r.start % 4 ≡ 0 → r.bytes ≡ text_bytes ws ++ pad → k < length ws → slice_index ws k < 2 ^ 32 → fetch m (r.start + 4 * k) ≡ Ok (slice_index ws k)
+pub fetch_word : (m : Mem) (r : MappedRegion) (ws pad : List ℕ) (k : ℕ) → region_at m.regions (r.start + 4 * k) 4 ≡ Some r
+    → r.execute ≡ true → r.start % 4 ≡ 0 → r.bytes ≡ text_bytes ws ++ pad → k < length ws → slice_index ws k < 2 ^ 32
+    → fetch m (r.start + 4 * k) ≡ Ok (slice_index ws k)
 fetch_word m r ws pad k found text aligned bytes in_it small =
     let even : eqb ((r.start + 4 * k) % 4) 0 ≡ true = grind (arith, nat_tests) in
     let place : r.start + 4 * k - r.start ≡ 4 * k = omega arith in

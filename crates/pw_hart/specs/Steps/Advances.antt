@@ -1,4 +1,4 @@
--- One instruction at a time: what it takes from an input that may have come to its end, what it puts behind an output, and how it moves the run on.
+-- One instruction at a time: what it takes from an input that may have come to its end, what it appends to an output, and how it moves the run on.
 use Rattle.std.specs.Prelude.{◌≡◌, ℕ, Bool, true, List, [], ◌∷◌, ◌++◌, Option, Some, None}
 use Rattle.pw_isa.specs.declared.instruction.Inst.TheVariants.{Ecall}
 use Rattle.pw_isa.specs.Registers.{a7}
@@ -34,7 +34,8 @@ pub record CanBeLeft (input : SourceState) (used_up : Bool) (bytes : List ℕ) :
   pub is_left : IsLeft bytes input
   pub none : used_up ≡ true → bytes ≡ []
 
--- what an instruction does with bytes that were taken from the input and put behind the output, whatever is left in the input behind them and was put before
+-- what an instruction does with bytes that were taken from the input and appended to the output, whatever is left in the
+-- input after them and was put before
 pub record Uses (instruction : MachineState → Next) (old : Ports) (hart : Hart) (mem : Mem) (new : Ports) (hart' : Hart) (mem' : Mem) (next : MachineState → Next) : Type 0 where
   pub taken : List ℕ
   pub put : List ℕ
@@ -83,16 +84,16 @@ Calls old hart new hart' (Some WriteFault) = OutputFails old hart new hart'
 Calls old hart new hart' (Some Limit) = ⊥
 Calls old hart new hart' (Some end) = (mem : Mem) → Uses (exec Ecall) old hart mem new hart' mem (Ends end)
 
--- the ports at a moment
+-- the ports of an execution
 abbrev pub ports : ExecutionState → Bool → Ports
 ports m used_up = record { input = m.input; used_up = used_up; out = m.out }
 
--- one fetch at the pc was counted and told
+-- one fetch at the pc was counted and reported
 pub record CountsFetch (old new : ExecutionState) : Type 0 where
   pub counts : new.fetches ≡ counted old.fetches 1
   pub tells : Told old.told (old.hart.pc ∷ []) new.told
 
--- one step of the machine, from a moment to the next
+-- one step of the machine, from a state of an execution to the next
 pub record MachineStep (old : ExecutionState) (used_up : Bool) (new : ExecutionState) (used_up' : Bool) (next : MachineState → Next) : Type 0 where
   pub fetches : CountsFetch old new
   pub uses : Uses step (ports old used_up) old.hart old.mem (ports new used_up') new.hart new.mem next
