@@ -1,1 +1,2 @@
 pub mod SmallFields
+pub mod Texts

@@ -3,11 +3,13 @@
 #![tactic(auto)]
 
 mod bytes;
+pub mod constants;
 mod dynamic;
 mod header;
 mod rela;
 mod section;
 mod segment;
+mod string;
 mod symbol;
 
 pub use bytes::IDENT_SIZE;
@@ -16,4 +18,5 @@ pub use header::{Header, header_at, put_header};
 pub use rela::{Rela, put_rela, rela_at};
 pub use section::{Section, put_section, section_at};
 pub use segment::{Segment, put_segment, segment_at};
+pub use string::string_at;
 pub use symbol::{Sym, put_symbol, symbol_at};
