@@ -23,6 +23,9 @@ pub enum Ended {
     WriteFault,
 }
 
+/// The place of the stack pointer among the registers.
+const STACK_POINTER: usize = SP as usize;
+
 /// Runs the image of the functions with so many counted steps, and flushes the output. No memory is taken.
 pub fn execute<M: Memory, I: Source, O: Sink>(
     funs: &[Writer],
@@ -70,7 +73,7 @@ fn fresh(steps: u64) -> Hart
     ensures { IsFresh steps result }
 {
     let mut x = [0; 32];
-    x[usize::from(SP)] = Limits::STACK_START + Limits::STACK_BYTES;
+    x[STACK_POINTER] = Limits::STACK_START + Limits::STACK_BYTES;
     Hart {
         x,
         pc: TEXT_START,
