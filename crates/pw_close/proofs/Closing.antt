@@ -1,14 +1,13 @@
 -- The levels and parents of all functions up to a level, round by round, and of all.
-use Rattle.std.proofs.Common.{◌≡◌, ◌≢◌, ℕ, zero, suc, ◌+◌, ◌<◌, ◌≤◌, List, [], ◌∷◌, length, Option, Some, None, Bool, true, false, refl, subst, ap, sym, arith, get_or, cond, true≢false, ◌⊎◌, inl, inr, ◌∙◌, Vec}
-use Rattle.std.specs.Global.{Global}
-use Rattle.std.specs.Prelude.{slice_get, is_none}
-use Rattle.std.specs.List.{All, Contains}
+use Rattle.std.proofs.Common.{◌≡◌, ℕ, zero, suc, ◌+◌, ◌<◌, ◌≤◌, List, length, Option, Some, None, Bool, true, false, refl, subst, ap, sym, arith, cond, true≢false, ◌⊎◌, inl, inr, ◌∙◌}
+use Rattle.std.specs.Prelude.{is_none}
+use Rattle.std.specs.List.{All}
 use Rattle.std.proofs.lemmas.List.Sums.{count_by-le-length, sum_by_more_le}
 use Rattle.std.proofs.lemmas.Option.{slice_get_within, get_or_from_slice_get}
 use Rattle.pw_close.specs.declared.graph.Graph.{Graph}
 use Rattle.pw_close.specs.declared.graph.Levels.{Levels}
-use Rattle.pw_close.specs.Graphs.{HasEdge, HasWay, IsRoot, IsKept, root, named, IsGraph}
-use Rattle.pw_close.specs.Closure.{IsLevel, IsParent, AreLevels}
+use Rattle.pw_close.specs.Graphs.{HasEdge, HasWay, IsKept, root, named, IsGraph}
+use Rattle.pw_close.specs.Closure.{IsLevel, AreLevels}
 use Rattle.pw_close.specs.Steps.{entry, unmarked, MarksRoots, MarksNext}
 use Rattle.pw_close.proofs.Marks.{some_is, none_is_not}
 
@@ -67,8 +66,7 @@ lower_or_same (suc i) (suc k) h = step (lower_or_same i k (omega arith))
     step (inr a) = inr (omega arith)
 
 module _ (g : Graph) (ok : IsGraph g) (k : ℕ) (lv pa lv' pa' : List (Option ℕ)) (c : ClosedTo g k lv pa)
-  (m : MarksNext g k g.funs lv pa lv' pa') where
-
+    (m : MarksNext g k g.funs lv pa lv' pa') where
   way_of : (n j : ℕ) (x : Option ℕ) → entry lv n ≡ x → entry lv' n ≡ Some j → HasWay g j n × (j ≤ suc k)
   way_of n j (Some i) was is =
       let e = some_is (sym is ∙ (m.kept n i was).0) in
@@ -115,9 +113,13 @@ module _ (g : Graph) (ok : IsGraph g) (k : ℕ) (lv pa lv' pa' : List (Option �
       (o.0, (m.kept n i was).1 ∙ o.1, (m.kept o.0 j o.2).0, o.3, λ q l d. o.4 q (old_level q j (entry lv q) refl l (omega (arith, low))) d)
   parent_of n j None was is =
       let f = m.fresh n (suc j) was is in
-      let same : j ≡ k = (let e = f.0 in omega (arith, e)) in
-      (f.1, f.2, subst (λ d. entry lv' f.1 ≡ Some d) (sym same) (m.kept f.1 k f.3.level).0, f.3.edge,
-      λ q l d. f.3.first q (subst (λ i. entry lv q ≡ Some i) same (old_level q j (entry lv q) refl l (omega (arith, same)))) d)
+      let same : j ≡ k = (let e = f.0 in omega (arith, e)) in (
+        f.1,
+        f.2,
+        subst (λ d. entry lv' f.1 ≡ Some d) (sym same) (m.kept f.1 k f.3.level).0,
+        f.3.edge,
+        λ q l d. f.3.first q (subst (λ i. entry lv q ≡ Some i) same (old_level q j (entry lv q) refl l (omega (arith, same)))) d,
+      )
 
   root_of : (n : ℕ) (x : Option ℕ) → entry lv n ≡ x → entry lv' n ≡ Some 0 → entry pa' n ≡ None
   root_of n (Some i) was is = (m.kept n i was).1 ∙ c.root n (was ∙ (sym (m.kept n i was).0 ∙ is))

@@ -1,11 +1,11 @@
 -- What marking one function adds to what is marked so far.
-use Rattle.std.proofs.Common.{◌≡◌, ◌≢◌, ℕ, zero, suc, ◌+◌, ◌<◌, ◌≤◌, List, [], ◌∷◌, ◌++◌, length, take, Option, Some, None, Bool, true, false, refl, subst, ap, sym, arith, true≢false, get_or, set, get_or-set_other, get_or-set_same, cond, ◌⊎◌, inl, inr, ◌∙◌}
+use Rattle.std.proofs.Common.{◌≡◌, ◌≢◌, ℕ, zero, suc, ◌+◌, ◌<◌, ◌≤◌, List, [], ◌∷◌, length, take, Option, Some, None, Bool, true, false, refl, subst, ap, sym, arith, true≢false, get_or, set, get_or-set_other, get_or-set_same, cond, ◌⊎◌, inl, inr, ◌∙◌}
 use Rattle.std.specs.Prelude.{is_none, is_some, unwrap_or, not}
-use Rattle.std.specs.List.{Contains, count_by}
+use Rattle.std.specs.List.{Contains}
 use Rattle.std.proofs.lemmas.List.{take_more, length-set, get_or_default}
 use Rattle.std.proofs.lemmas.List.Elements.{Contains-append_left, Contains-append_right, Contains-append_cases}
 use Rattle.std.proofs.lemmas.List.Sums.{sum_by-set}
-use Rattle.pw_close.specs.Steps.{entry, unmarked, AreFresh, MarksRoots, MarksRow}
+use Rattle.pw_close.specs.Steps.{entry, unmarked, MarksRoots, MarksRow}
 
 -- ---- lists
 
@@ -78,7 +78,7 @@ is_none_here xs r x b low is some = ap is_none (get_or_default xs r None x low) 
 -- ---- roots
 
 module _ (xs : List ℕ) (count i : ℕ) (lv pa : List (Option ℕ)) (m : MarksRoots (take i xs) count lv pa) (h : i < length xs)
-  (low : get_or xs i 0 < count) where
+    (low : get_or xs i 0 < count) where
   abbrev now : List (Option ℕ)
   now = set lv (get_or xs i 0) (Some 0)
 
@@ -114,8 +114,7 @@ module _ (xs : List ℕ) (count i : ℕ) (lv pa : List (Option ℕ)) (m : MarksR
 -- ---- a row
 
 module _ (row : List ℕ) (k p i : ℕ) (lv pa lv' pa' : List (Option ℕ)) (m : MarksRow (take i row) k p lv pa lv' pa')
-  (h : i < length row) where
-
+    (h : i < length row) where
   -- ---- where the function had no level
 
   module _ (empty : is_none (entry lv' (get_or row i 0)) ≡ true) (low : get_or row i 0 < length lv) (same : length pa ≡ length lv) where
@@ -136,7 +135,7 @@ module _ (row : List ℕ) (k p i : ℕ) (lv pa lv' pa' : List (Option ℕ)) (m :
 
     marked : (n : ℕ) → n ≡ get_or row i 0 → (entry levels n ≡ Some k) × (entry parents n ≡ Some p)
     marked n e = subst (λ j. (entry levels j ≡ Some k) × (entry parents j ≡ Some p)) (sym e)
-      (get_or-set_same lv' (get_or row i 0) (Some k) None row_within, get_or-set_same pa' (get_or row i 0) (Some p) None row_within_parents)
+        (get_or-set_same lv' (get_or row i 0) (Some k) None row_within, get_or-set_same pa' (get_or row i 0) (Some p) None row_within_parents)
 
     unchanged : (n : ℕ) → n ≢ get_or row i 0 → (entry levels n ≡ entry lv' n) × (entry parents n ≡ entry pa' n)
     unchanged n d = (get_or-set_other lv' (get_or row i 0) n (Some k) None d, get_or-set_other pa' (get_or row i 0) n (Some p) None d)
@@ -175,8 +174,8 @@ module _ (row : List ℕ) (k p i : ℕ) (lv pa lv' pa' : List (Option ℕ)) (m :
 
     pub one_fewer : unmarked levels + 1 ≡ unmarked lv'
     one_fewer =
-      let s : unmarked levels + cond (is_none (entry lv' (get_or row i 0))) 1 0 ≡ unmarked lv' + 0 = sum_by-set (λ x. cond (is_none x) 1 0) lv' (get_or row i 0) (Some k) None row_within in
-      let n : ◌≡◌ {A = ℕ} (cond (is_none (entry lv' (get_or row i 0))) 1 0) 1 = ap (λ b. cond b 1 0) empty in omega (arith, s, n)
+        let s : unmarked levels + cond (is_none (entry lv' (get_or row i 0))) 1 0 ≡ unmarked lv' + 0 = sum_by-set (λ x. cond (is_none x) 1 0) lv' (get_or row i 0) (Some k) None row_within in
+        let n : ◌≡◌ {A = ℕ} (cond (is_none (entry lv' (get_or row i 0))) 1 0) 1 = ap (λ b. cond b 1 0) empty in omega (arith, s, n)
 
   -- ---- where it had one
 

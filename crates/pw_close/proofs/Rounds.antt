@@ -7,8 +7,8 @@ use Rattle.std.proofs.lemmas.Option.{slice_get-get_or}
 use Rattle.pw_close.specs.declared.graph.Graph.{Graph}
 use Rattle.pw_close.specs.declared.graph.Levels.{Levels}
 use Rattle.pw_close.specs.Graphs.{HasEdge}
-use Rattle.pw_close.specs.Steps.{entry, unmarked, MarksRow, MarksNext, IsFirstBefore}
-use Rattle.pw_close.proofs.Marks.{same_or_other, some_is, none_is_not, row_none}
+use Rattle.pw_close.specs.Steps.{entry, MarksRow, MarksNext, IsFirstBefore}
+use Rattle.pw_close.proofs.Marks.{same_or_other, some_is, none_is_not}
 
 before_or_from_suc : (m q : ℕ) → (q < m) ⊎ (m ≤ q) → (suc q < suc m) ⊎ (suc m ≤ suc q)
 before_or_from_suc m q (inl h) = inl (omega arith)
@@ -34,8 +34,7 @@ vec_is : (a b : Vec ℕ Global) → Some a ≡ Some b → a ≡ b
 vec_is a b e = ap (λ o. unwrap_or o a) e
 
 module _ (g : Graph) (k m : ℕ) (row : Vec ℕ Global) (lv pa lv1 pa1 : List (Option ℕ)) (so_far : MarksNext g k m lv pa lv1 pa1)
-  (here : slice_get g.edges.items m ≡ Some row) where
-
+    (here : slice_get g.edges.items m ≡ Some row) where
   -- a function of level k had that level before
   had_level : (x : Option ℕ) → entry lv m ≡ x → entry lv1 m ≡ Some k → entry lv m ≡ Some k
   had_level None was is = absurd (let f = so_far.fresh m k was is in omega (arith, f.0))
@@ -47,24 +46,29 @@ module _ (g : Graph) (k m : ℕ) (row : Vec ℕ Global) (lv pa lv1 pa1 : List (O
   -- ---- where it has the level
 
   module _ (lv2 pa2 : List (Option ℕ)) (level : entry lv1 m ≡ Some k) (marks : MarksRow row.items (suc k) m lv1 pa1 lv2 pa2) where
-
     fresh_of : (n j : ℕ) (x : Option ℕ) → entry lv1 n ≡ x → entry lv n ≡ None → entry lv2 n ≡ Some j →
         (j ≡ suc k) × (p : ℕ) × (entry pa2 n ≡ Some p) × IsFirstBefore g k (m + 1) lv n p
     fresh_of n j (Some i) one was is =
         let f = so_far.fresh n i was one in
-        let t = marks.kept n i one in
-        (some_is (sym is ∙ t.0) ∙ f.0, f.1, t.1 ∙ f.2,
-        record { below = (let b = f.3.below in omega arith); level = f.3.level; edge = f.3.edge; first = f.3.first })
+        let t = marks.kept n i one in (
+          some_is (sym is ∙ t.0) ∙ f.0,
+          f.1,
+          t.1 ∙ f.2,
+          record { below = (let b = f.3.below in omega arith); level = f.3.level; edge = f.3.edge; first = f.3.first },
+        )
     fresh_of n j None one was is =
         let f = marks.fresh n j one is in
-        let r = so_far.rest n was one in
-        (f.0, m, f.1,
-        record {
-          below = omega arith;
-          level = had_level (entry lv m) refl level;
-          edge = (row, here, f.2);
-          first = λ q l e. not_before m q (before_or_from m q) (λ low. r.1 q low l e);
-        })
+        let r = so_far.rest n was one in (
+          f.0,
+          m,
+          f.1,
+          record {
+            below = omega arith;
+            level = had_level (entry lv m) refl level;
+            edge = (row, here, f.2);
+            first = λ q l e. not_before m q (before_or_from m q) (λ low. r.1 q low l e);
+          },
+        )
 
     not_at : (n q : ℕ) → (Contains row.items n → ⊥) → (q < m → ⊥) → (q < m) ⊎ (q ≡ m) → HasEdge g q n → ⊥
     not_at n q out none (inl b) e = none b

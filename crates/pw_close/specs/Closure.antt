@@ -1,5 +1,5 @@
 -- The levels and parents of a graph's kept functions.
-use Rattle.std.specs.Prelude.{◌≡◌, ℕ, suc, ◌≤◌, ◌<◌, Option, Some, None, length, slice_index_or}
+use Rattle.std.specs.Prelude.{◌≡◌, ℕ, suc, ◌≤◌, Option, Some, None, length, slice_index_or}
 use Rattle.pw_close.specs.Graphs.{HasEdge, HasWay, IsKept}
 use Rattle.pw_close.specs.declared.graph.Graph.{Graph}
 use Rattle.pw_close.specs.declared.graph.Levels.{Levels}

@@ -1,6 +1,6 @@
 -- Graphs of functions: what leads to what, and what the roots lead to.
 use Rattle.std.specs.Global.{Global}
-use Rattle.std.specs.Prelude.{◌≡◌, ℕ, zero, suc, ◌<◌, Vec, length, slice_get, Some}
+use Rattle.std.specs.Prelude.{◌≡◌, ℕ, zero, suc, ◌<◌, List, Vec, length, slice_get, Some}
 use Rattle.std.specs.List.{All, Contains}
 use Rattle.pw_close.specs.declared.graph.Graph.{Graph}
 
@@ -22,8 +22,12 @@ pub data IsKept (g : Graph) : ℕ → Type 0 where
   root : {n : ℕ} → IsRoot g n → IsKept g n
   named : {m n : ℕ} → IsKept g m → HasEdge g m n → IsKept g n
 
+-- All numbers of all rows are below a bound.
+abbrev pub AreRowsBelow : ℕ → List (Vec ℕ Global) → Type 0
+AreRowsBelow bound rows = All (λ row. All (λ n. n < bound) row.items) rows
+
 -- All numbers are those of functions, and each function has its list of edges.
 pub record IsGraph (g : Graph) : Type 0 where
   pub rows : length g.edges.items ≡ g.funs
-  pub edges : All (λ row. All (λ n. n < g.funs) row.items) g.edges.items
+  pub edges : AreRowsBelow g.funs g.edges.items
   pub roots : All (λ n. n < g.funs) g.roots.items

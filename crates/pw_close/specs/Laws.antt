@@ -1,7 +1,7 @@
 -- Laws of levels.
-use Rattle.std.specs.Prelude.{◌≡◌, ℕ, suc, ◌<◌, List, Option, Some, None}
-use Rattle.pw_close.specs.Graphs.{HasWay, IsKept, IsGraph}
-use Rattle.pw_close.specs.Closure.{IsLevel, level_of, parent_of, AreLevels}
+use Rattle.std.specs.Prelude.{◌≡◌, ℕ, Some}
+use Rattle.pw_close.specs.Graphs.{HasWay, IsKept}
+use Rattle.pw_close.specs.Closure.{level_of, AreLevels}
 use Rattle.pw_close.specs.Paths.{HaveParents}
 use Rattle.pw_close.specs.declared.graph.Graph.{Graph}
 use Rattle.pw_close.specs.declared.graph.Levels.{Levels}

@@ -1,6 +1,6 @@
 -- The way from a root to a kept function by parents.
 use Rattle.std.specs.Global.{Global}
-use Rattle.std.specs.Prelude.{◌≡◌, ℕ, suc, ◌<◌, List, [], ◌∷◌, Option, Some, None, Result, Ok, Err, length, reverse, Vec, ⊤}
+use Rattle.std.specs.Prelude.{◌≡◌, ℕ, suc, List, [], ◌∷◌, Option, Some, None, Result, Ok, Err, length, reverse, Vec, ⊤}
 use Rattle.pw_base.specs.declared.no_memory.NoMemory.{NoMemory}
 use Rattle.pw_close.specs.Closure.{level_of, parent_of}
 use Rattle.pw_close.specs.declared.graph.Levels.{Levels}

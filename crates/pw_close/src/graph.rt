@@ -1,4 +1,7 @@
 //! Graphs of functions, and the levels of what is kept of them.
+ghost use Rattle.std.specs.Prelude.{◌<◌, ◌↔◌, IsTrue};
+ghost use Rattle.std.specs.List.{All};
+ghost use Rattle.pw_close.specs.Graphs.{IsGraph, AreRowsBelow};
 
 /// The functions of a program by number, from 0: which others each one names, and which are roots.
 #[derive(Debug, Drop)]
@@ -9,6 +12,31 @@ pub struct Graph {
     pub edges: Vec<Vec<u32>>,
     /// The numbers of the roots: functions that are kept because the program begins there or data points there.
     pub roots: Vec<u32>,
+}
+
+impl Graph {
+    /// Whether each function has its list of edges, and all numbers are those of functions.
+    pub fn is_whole(&self) -> bool
+        ensures { IsTrue result ↔ IsGraph self.now }
+    {
+        self.edges.len() == self.funs as usize
+            && are_rows_below(&self.edges, self.funs)
+            && are_below(&self.roots, self.funs)
+    }
+}
+
+/// Whether all numbers are below a bound.
+fn are_below(numbers: &[u32], bound: u32) -> bool
+    ensures { IsTrue result ↔ All (λ n. n < bound) numbers.now }
+{
+    numbers.iter().all(|n| *n < bound)
+}
+
+/// Whether all numbers of all rows are below a bound.
+fn are_rows_below(rows: &[Vec<u32>], bound: u32) -> bool
+    ensures { IsTrue result ↔ AreRowsBelow bound rows.now }
+{
+    rows.iter().all(|row| are_below(row, bound))
 }
 
 /// For each function by number, whether it is kept, and why.

@@ -1,5 +1,5 @@
 //! The way from a root to a kept function.
-ghost use Rattle.std.specs.Prelude.{◌≡◌, ◌<◌, Some, length};
+ghost use Rattle.std.specs.Prelude.{◌≡◌, ◌<◌, Some, length, IfOk, [], ◌∷◌, ◌++◌};
 ghost use Rattle.pw_close.specs.Closure.{level_of};
 ghost use Rattle.pw_close.specs.Paths.{HaveParents, FindsPath};
 
@@ -27,14 +27,19 @@ fn climbed(alloc: Global, levels: &Levels, n: u32, level: u32) -> Result<Option<
     ensures { FindsPath levels.now n result }
 {
     let mut path = Vec::new(alloc);
-    path.push(n).map_err(|_| NoMemory)?;
+    append(&mut path, n)?;
     let mut at = n;
-    for _ in 0..level {
-        if let Some(parent) = levels.parent[at as usize] {
-            path.push(parent).map_err(|_| NoMemory)?;
-            at = parent;
-        }
+    for _edge in 0..level {
+        at = levels.parent[at as usize].unwrap();
+        append(&mut path, at)?;
     }
     path.reverse();
     Ok(Some(path))
+}
+
+/// Puts a function at the path's end.
+fn append(path: &mut Vec<u32>, n: u32) -> Result<(), NoMemory>
+    ensures { IfOk result (λ _. path.new.items ≡ path.old.items ++ n ∷ []) }
+{
+    path.push(n).map_err(|_| NoMemory)
 }
