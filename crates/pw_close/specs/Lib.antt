@@ -1,0 +1,5 @@
+pub mod Graphs
+pub mod Closure
+pub mod Paths
+pub mod Laws
+pub mod Steps
