@@ -1,3 +1,4 @@
 pub mod Loop
 pub mod TextTests
 pub mod Whole
+pub mod Written

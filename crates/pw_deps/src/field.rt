@@ -6,6 +6,9 @@ ghost use Rattle.pw_module.specs.Reading.{number_at, text_at};
 use pw_module::DepError;
 use pw_wire::u32_at;
 
+/// The number that stands for no unit, as the entry has it.
+pub(crate) const NO_UNIT: u32 = 0xffff_ffff;
+
 /// What the numbers of a table are held against: the bytes of the whole table, the symbols and the bytes of the text that
 /// it speaks of.
 #[derive(Clone, Copy)]

@@ -6,11 +6,13 @@
 
 mod check;
 mod field;
+mod laws;
 mod reading;
 mod record;
 mod repeat;
 mod words;
 mod writing;
 
+pub use laws::allowed_tables_can_be_written;
 pub use reading::read;
 pub use writing::write;

@@ -4,15 +4,12 @@ ghost use Rattle.pw_module.specs.Answer.{Gives};
 ghost use Rattle.pw_module.specs.Reading.{place, dep_at, unit_at, function_fields, function_at, root_at, type_at};
 
 use crate::check::{bad_in, function_fault, is_symbol};
-use crate::field::{Frame, number, text};
+use crate::field::{Frame, NO_UNIT, number, text};
 use crate::repeat::deps;
 use crate::words::{name, type_text};
 use pw_base::Name;
 use pw_module::{DepError, FunRec, RootRec, TypeRec};
 use std::alloc::Global;
-
-/// The number that stands for no unit.
-const NO_UNIT: u32 = 0xffff_ffff;
 
 /// A unit's name.
 #[tactic(auto, unfolding(pw_module::specs::Reading::unit_at))]

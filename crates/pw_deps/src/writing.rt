@@ -4,13 +4,11 @@ ghost use Rattle.std.specs.List.{flat_map, AllByRecursion};
 ghost use Rattle.pw_module.specs.Spelling as spelling;
 ghost use Rattle.pw_deps.specs.Writable.{HasFewItems};
 
+use crate::field::NO_UNIT;
 use pw_base::{Name, NoMemory};
 use pw_module::{DepTable, FunRec, RootRec, TypeRec};
 use pw_wire::put_u32;
 use std::alloc::Global;
-
-/// The number that stands for no unit.
-const NO_UNIT: u32 = 0xffff_ffff;
 
 /// Appends a text behind its length.
 fn put_text(to: &mut Vec<u8>, bytes: &[u8]) -> Result<(), NoMemory>
