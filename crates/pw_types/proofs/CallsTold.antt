@@ -11,8 +11,8 @@ use Rattle.pw_types.specs.Scopes.{Scope}
 use Rattle.pw_tree.specs.Held.{held, held_arguments, count}
 use Rattle.pw_types.specs.Typed.{with_both, both_trees, typed, typed_all, parameters_of, called, Callee as Called}
 use Rattle.pw_types.specs.Expressions.{faults_of_arguments, other_parameters, callee_in, how_many, own}
-use Rattle.pw_types.specs.Judging.{Judge}
-use Rattle.pw_types.specs.CheckingExpressions.{Valued, capped, head, Aim, named, through, Taken, taking, call_tree, call_held, call_value, others_wanted}
+use Rattle.pw_types.specs.Steps.Judging.{Judge}
+use Rattle.pw_types.specs.Steps.CheckingExpressions.{Valued, capped, head, Aim, named, through, Taken, taking, call_tree, call_held, call_value, others_wanted}
 use Rattle.pw_types.proofs.Told.{full, Told}
 use Rattle.pw_types.proofs.OwnRules.{rules_of, own_rules, typed_told}
 

@@ -1,14 +1,14 @@
 //! Nodes of typed expressions, and the rules that their places ask of them.
 ghost use Rattle.std.specs.Prelude.{◌≡◌};
 ghost use Rattle.pw_tree.specs.TypedExpressions.{typed_expression_form_of};
-ghost use Rattle.pw_types.specs.declared.fault.Stop.TheVariants as stops;
+ghost use Rattle.pw_types.specs.declared.fault.Refusal.TheVariants as refusals;
 ghost use Rattle.pw_types.specs.Expressions as rules;
 ghost use Rattle.pw_types.specs.Typed as trees;
-ghost use Rattle.pw_types.specs.CheckingExpressions as spec;
-ghost use Rattle.pw_types.specs.ResumingExpressions.{valued, Gives};
+ghost use Rattle.pw_types.specs.Steps.CheckingExpressions as spec;
+ghost use Rattle.pw_types.specs.Steps.ResumingExpressions.{valued, Gives};
 
 use crate::expression_step::Head;
-use crate::fault::Stop;
+use crate::fault::Refusal;
 use crate::refuse::broken;
 use crate::role::Role;
 use crate::rule::Rule;
@@ -38,8 +38,8 @@ pub(crate) fn node(head: Head, ty: Ty, kind: TKind, held: u32) -> Typed
 }
 
 /// A rule that is broken at the last token.
-pub(crate) fn fault(head: Head, rule: Rule) -> Stop
-    ensures { result ≡ stops.Fault (spec.fault_under head rule) }
+pub(crate) fn fault(head: Head, rule: Rule) -> Refusal
+    ensures { result ≡ refusals.Fault (spec.fault_under head rule) }
 {
     broken(rule, u64::from(head.last))
 }
@@ -127,7 +127,7 @@ fn first_rule(role: Role, other_count: bool, ty: Ty) -> Option<Rule>
 }
 
 /// A typed expression in its role. Refusals: as in `first_rule`.
-pub(crate) fn finish(head: Head, other_count: bool, typed: Typed) -> Result<Typed, Stop>
+pub(crate) fn finish(head: Head, other_count: bool, typed: Typed) -> Result<Typed, Refusal>
     ensures { Gives (spec.finished_by head other_count (valued typed)) result }
 {
     match first_rule(head.role, other_count, type_of(&typed)) {

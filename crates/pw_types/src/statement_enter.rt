@@ -3,42 +3,42 @@ ghost use Rattle.std.specs.Prelude.{◌≡◌, ◌+◌, ◌<◌, IfOk, Some, Non
 ghost use Rattle.pw_tree.specs.Expressions.{Span, expression_of};
 ghost use Rattle.pw_tree.specs.Statements as statement;
 ghost use Rattle.pw_tree.specs.Statements.{statement_of, statements_of, optional_statement};
-ghost use Rattle.pw_types.specs.CheckingStatements.{Leads, Steps, outcome_at, behind_first_at, typed_maybe};
-ghost use Rattle.pw_types.specs.CheckingStatements as spec;
-ghost use Rattle.pw_types.specs.StatementWeights.{weight, weight_of_all, weight_of_maybe, weight_of_step};
+ghost use Rattle.pw_types.specs.Steps.CheckingStatements.{Leads, Steps, outcome_at, behind_first_at, typed_maybe};
+ghost use Rattle.pw_types.specs.Steps.CheckingStatements as spec;
+ghost use Rattle.pw_types.specs.Steps.StatementWeights.{weight, weight_of_all, weight_of_maybe, weight_of_step};
 
-use crate::fault::Stop;
+use crate::fault::Refusal;
 use crate::role::Role;
 use crate::statement_simple::{break_off, empty, go_on};
-use crate::statement_step::{Form, Frame, Outer, Setting, Span, Step};
+use crate::statement_step::{StatementForm, StatementFrame, Outer, Setting, Span, StatementStep};
 use crate::statement_walk::Walk;
 use pw_tree::{Expr, Stmt, StmtKind, TStmt};
 use sqlite_items::{Boxed, Items};
 
 /// A statement that is judged as a whole.
-pub(crate) fn done<'s>(judged: Result<TStmt, Stop>) -> Result<Step<'s>, Stop>
+pub(crate) fn done<'s>(judged: Result<TStmt, Refusal>) -> Result<StatementStep<'s>, Refusal>
     ensures { result ≡ spec.done judged }
 {
     match judged {
-        Ok(command) => Ok(Step::Done(command)),
+        Ok(command) => Ok(StatementStep::Done(command)),
         Err(stop) => Err(stop),
     }
 }
 
 impl<'a> Walk<'a> {
     /// `{ body }`
-    fn enter_block<'s>(&mut self, setting: &Setting<'s>, body: &'s [Stmt]) -> Step<'s>
+    fn enter_block<'s>(&mut self, setting: &Setting<'s>, body: &'s [Stmt]) -> StatementStep<'s>
         ensures judged { (at : Span) → Leads (outcome_at setting.now self.old (statement.block at (statements_of body.now))) self.new result }
         ensures less { weight_of_step result < 2 + weight_of_all (statements_of body.now) }
     {
         let outer = self.outer(setting);
         let done = Items::new(self.alloc);
         match body {
-            [] => Step::Done(TStmt::Block(done)),
+            [] => StatementStep::Done(TStmt::Block(done)),
             [first, rest @ ..] => {
                 self.start = outer.visible;
-                let form = Form::Block(done, rest);
-                Step::Part(Frame { outer, form }, setting.part(), first)
+                let form = StatementForm::Block(done, rest);
+                StatementStep::Part(StatementFrame { outer, form }, setting.part(), first)
             }
         }
     }
@@ -50,14 +50,14 @@ impl<'a> Walk<'a> {
         c: &Expr,
         a: &'s Stmt,
         b: &'s Option<Boxed<Stmt>>,
-    ) -> Result<Step<'s>, Stop>
+    ) -> Result<StatementStep<'s>, Refusal>
         ensures judged { (at : Span) → Steps (outcome_at setting.now self.old (statement.if_else at (expression_of c.now) (statement_of a.now) (optional_statement (option_map statement_of b.now)))) self.new result }
         ensures less { IfOk result (λ step. weight_of_step step < weight (statement_of a.now) + (3 + weight_of_maybe (optional_statement (option_map statement_of b.now)))) }
     {
         let c = self.value(Role::Value, c)?;
         let outer = self.outer(setting);
-        let form = Form::Then(c, b);
-        Ok(Step::Part(Frame { outer, form }, setting.part(), a))
+        let form = StatementForm::Then(c, b);
+        Ok(StatementStep::Part(StatementFrame { outer, form }, setting.part(), a))
     }
 
     /// `while (c) body`
@@ -66,24 +66,24 @@ impl<'a> Walk<'a> {
         setting: &Setting<'s>,
         c: &Expr,
         body: &'s Stmt,
-    ) -> Result<Step<'s>, Stop>
+    ) -> Result<StatementStep<'s>, Refusal>
         ensures judged { (at : Span) → Steps (outcome_at setting.now self.old (statement.while_loop at (expression_of c.now) (statement_of body.now))) self.new result }
         ensures less { IfOk result (λ step. weight_of_step step < weight (statement_of body.now) + 2) }
     {
         let c = self.value(Role::Value, c)?;
         let outer = self.outer(setting);
-        let form = Form::While(c);
-        Ok(Step::Part(Frame { outer, form }, setting.body(), body))
+        let form = StatementForm::While(c);
+        Ok(StatementStep::Part(StatementFrame { outer, form }, setting.body(), body))
     }
 
     /// `do body while (c) ;`
-    fn enter_do<'s>(&self, setting: &Setting<'s>, body: &'s Stmt, c: &'s Expr) -> Step<'s>
+    fn enter_do<'s>(&self, setting: &Setting<'s>, body: &'s Stmt, c: &'s Expr) -> StatementStep<'s>
         ensures judged { (at : Span) → Leads (outcome_at setting.now self.now (statement.do_loop at (statement_of body.now) (expression_of c.now))) self.now result }
         ensures less { weight_of_step result < weight (statement_of body.now) + 2 }
     {
         let outer = self.outer(setting);
-        let form = Form::Do(c);
-        Step::Part(Frame { outer, form }, setting.body(), body)
+        let form = StatementForm::Do(c);
+        StatementStep::Part(StatementFrame { outer, form }, setting.body(), body)
     }
 
     /// `for (first; c; last) body`, from behind its first part.
@@ -94,7 +94,7 @@ impl<'a> Walk<'a> {
         c: &Option<Expr>,
         last: &'s Option<Boxed<Stmt>>,
         body: &'s Stmt,
-    ) -> Result<Step<'s>, Stop>
+    ) -> Result<StatementStep<'s>, Refusal>
         ensures judged { Steps (behind_first_at outer.now (typed_maybe first) (option_map expression_of c.now) (optional_statement (option_map statement_of last.now)) (statement_of body.now) self.old) self.new result }
         ensures less { IfOk result (λ step. weight_of_step step < weight_of_maybe (optional_statement (option_map statement_of last.now)) + (weight (statement_of body.now) + 3)) }
     {
@@ -102,12 +102,12 @@ impl<'a> Walk<'a> {
         let outer = *outer;
         match last {
             Some(last) => {
-                let form = Form::Last(first, c, body);
-                Ok(Step::Part(Frame { outer, form }, outer.setting.head(), last.get()))
+                let form = StatementForm::Last(first, c, body);
+                Ok(StatementStep::Part(StatementFrame { outer, form }, outer.setting.head(), last.get()))
             }
             None => {
-                let form = Form::For(first, c, None);
-                Ok(Step::Part(Frame { outer, form }, outer.setting.body(), body))
+                let form = StatementForm::For(first, c, None);
+                Ok(StatementStep::Part(StatementFrame { outer, form }, outer.setting.body(), body))
             }
         }
     }
@@ -120,7 +120,7 @@ impl<'a> Walk<'a> {
         c: &'s Option<Expr>,
         last: &'s Option<Boxed<Stmt>>,
         body: &'s Stmt,
-    ) -> Result<Step<'s>, Stop>
+    ) -> Result<StatementStep<'s>, Refusal>
         ensures judged { (at : Span) → Steps (outcome_at setting.now self.old (statement.for_loop at (optional_statement (option_map statement_of first.now)) (option_map expression_of c.now) (optional_statement (option_map statement_of last.now)) (statement_of body.now))) self.new result }
         ensures less { IfOk result (λ step. weight_of_step step < weight_of_maybe (optional_statement (option_map statement_of first.now)) + (weight_of_maybe (optional_statement (option_map statement_of last.now)) + (weight (statement_of body.now) + 4))) }
     {
@@ -128,15 +128,15 @@ impl<'a> Walk<'a> {
         self.start = outer.visible;
         match first {
             Some(first) => {
-                let form = Form::First(c, last, body);
-                Ok(Step::Part(Frame { outer, form }, setting.head(), first.get()))
+                let form = StatementForm::First(c, last, body);
+                Ok(StatementStep::Part(StatementFrame { outer, form }, setting.head(), first.get()))
             }
             None => self.behind_first(&outer, None, c, last, body),
         }
     }
 
     /// A statement, up to its first part, or the whole of it where it has none.
-    pub fn enter<'s>(&mut self, setting: &Setting<'s>, stmt: &'s Stmt) -> Result<Step<'s>, Stop>
+    pub fn enter<'s>(&mut self, setting: &Setting<'s>, stmt: &'s Stmt) -> Result<StatementStep<'s>, Refusal>
         ensures judged { Steps (outcome_at setting.now self.old (statement_of stmt.now)) self.new result }
         ensures less { IfOk result (λ step. weight_of_step step < weight (statement_of stmt.now)) }
     {
@@ -146,7 +146,7 @@ impl<'a> Walk<'a> {
             line: stmt.line,
         };
         match &stmt.kind {
-            StmtKind::Empty => Ok(Step::Done(empty(self, setting, at))),
+            StmtKind::Empty => Ok(StatementStep::Done(empty(self, setting, at))),
             StmtKind::Block(body) => Ok(self.enter_block(setting, body.as_slice())),
             StmtKind::Local(ty, name, value) => done(self.local(setting, at, *ty, name, value)),
             StmtKind::Set(name, index, value) => {

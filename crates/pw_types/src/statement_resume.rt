@@ -4,13 +4,13 @@ ghost use Rattle.pw_tree.specs.Expressions.{expression_of};
 ghost use Rattle.pw_tree.specs.TypedExpressions.{typed_expression_of};
 ghost use Rattle.pw_tree.specs.TypedStatements.{typed_statement_of, present};
 ghost use Rattle.pw_tree.specs.Statements.{statement_of, statements_of, optional_statement};
-ghost use Rattle.pw_types.specs.CheckingStatements.{Finishes, Steps, behind_first_at, block_at, judged_at, leave, rest_of_do, rest_of_for, rest_of_if, resumed, resumed_at, setting_of, typed_maybe};
-ghost use Rattle.pw_types.specs.StatementWeights.{weight, weight_of_all, weight_of_maybe, weight_of_form, weight_of_step};
+ghost use Rattle.pw_types.specs.Steps.CheckingStatements.{Finishes, Steps, behind_first_at, block_at, judged_at, leave, rest_of_do, rest_of_for, rest_of_if, resumed, resumed_at, setting_of, typed_maybe};
+ghost use Rattle.pw_types.specs.Steps.StatementWeights.{weight, weight_of_all, weight_of_maybe, weight_of_form, weight_of_step};
 
-use crate::fault::Stop;
+use crate::fault::Refusal;
 use crate::role::Role;
 use crate::statement_enter::done;
-use crate::statement_step::{Form, Frame, Outer, Step, push};
+use crate::statement_step::{StatementForm, StatementFrame, Outer, StatementStep, push};
 use crate::statement_walk::Walk;
 use pw_base::NoMemory;
 use pw_tree::{Expr, Stmt, TExpr, TStmt};
@@ -32,7 +32,7 @@ impl<'a> Walk<'a> {
         mut done: Items<TStmt>,
         rest: &'s [Stmt],
         command: TStmt,
-    ) -> Result<Step<'s>, Stop>
+    ) -> Result<StatementStep<'s>, Refusal>
         ensures judged { Steps (block_at done rest.now outer.now (judged_at (typed_statement_of command) self.old)) self.new result }
         ensures less { IfOk result (λ step. weight_of_step step < 1 + weight_of_all (statements_of rest.now)) }
     {
@@ -40,12 +40,12 @@ impl<'a> Walk<'a> {
         match rest {
             [] => {
                 self.leave(outer);
-                Ok(Step::Done(TStmt::Block(done)))
+                Ok(StatementStep::Done(TStmt::Block(done)))
             }
             [first, rest @ ..] => {
                 let outer = *outer;
-                let form = Form::Block(done, rest);
-                Ok(Step::Part(Frame { outer, form }, outer.setting.part(), first))
+                let form = StatementForm::Block(done, rest);
+                Ok(StatementStep::Part(StatementFrame { outer, form }, outer.setting.part(), first))
             }
         }
     }
@@ -57,7 +57,7 @@ impl<'a> Walk<'a> {
         c: TExpr,
         b: &'s Option<Boxed<Stmt>>,
         command: TStmt,
-    ) -> Result<Step<'s>, Stop>
+    ) -> Result<StatementStep<'s>, Refusal>
         ensures judged { Steps (rest_of_if (setting_of outer.now.setting) (leave outer.now.start outer.now.visible) (typed_expression_of c) (optional_statement (option_map statement_of b.now)) (judged_at (typed_statement_of command) self.old)) self.new result }
         ensures less { IfOk result (λ step. weight_of_step step < 2 + weight_of_maybe (optional_statement (option_map statement_of b.now))) }
     {
@@ -65,12 +65,12 @@ impl<'a> Walk<'a> {
         match b {
             Some(b) => {
                 let outer = *outer;
-                let form = Form::Else(c, a);
-                Ok(Step::Part(Frame { outer, form }, outer.setting.part(), b.get()))
+                let form = StatementForm::Else(c, a);
+                Ok(StatementStep::Part(StatementFrame { outer, form }, outer.setting.part(), b.get()))
             }
             None => {
                 self.leave(outer);
-                Ok(Step::Done(TStmt::If(c, a, None)))
+                Ok(StatementStep::Done(TStmt::If(c, a, None)))
             }
         }
     }
@@ -82,8 +82,8 @@ impl<'a> Walk<'a> {
         c: TExpr,
         a: Boxed<TStmt>,
         command: TStmt,
-    ) -> Result<TStmt, Stop>
-        ensures { Finishes (resumed_at outer.now (Form.Else c a) (judged_at (typed_statement_of command) self.old)) self.new result }
+    ) -> Result<TStmt, Refusal>
+        ensures { Finishes (resumed_at outer.now (StatementForm.Else c a) (judged_at (typed_statement_of command) self.old)) self.new result }
     {
         let b = boxed(self.alloc, command)?;
         self.leave(outer);
@@ -91,8 +91,8 @@ impl<'a> Walk<'a> {
     }
 
     /// A `while`, behind its body.
-    fn resume_while(&mut self, outer: &Outer<'_>, c: TExpr, command: TStmt) -> Result<TStmt, Stop>
-        ensures { Finishes (resumed_at outer.now (Form.While c) (judged_at (typed_statement_of command) self.old)) self.new result }
+    fn resume_while(&mut self, outer: &Outer<'_>, c: TExpr, command: TStmt) -> Result<TStmt, Refusal>
+        ensures { Finishes (resumed_at outer.now (StatementForm.While c) (judged_at (typed_statement_of command) self.old)) self.new result }
     {
         let body = boxed(self.alloc, command)?;
         self.leave(outer);
@@ -100,7 +100,7 @@ impl<'a> Walk<'a> {
     }
 
     /// A `do`, behind its body.
-    fn resume_do(&mut self, outer: &Outer<'_>, c: &Expr, command: TStmt) -> Result<TStmt, Stop>
+    fn resume_do(&mut self, outer: &Outer<'_>, c: &Expr, command: TStmt) -> Result<TStmt, Refusal>
         ensures { Finishes (rest_of_do (leave outer.now.start outer.now.visible) (expression_of c.now) (judged_at (typed_statement_of command) self.old)) self.new result }
     {
         let body = boxed(self.alloc, command)?;
@@ -117,14 +117,14 @@ impl<'a> Walk<'a> {
         c: Option<TExpr>,
         body: &'s Stmt,
         command: TStmt,
-    ) -> Result<Step<'s>, Stop>
+    ) -> Result<StatementStep<'s>, Refusal>
         ensures judged { Steps (rest_of_for (setting_of outer.now.setting) (leave outer.now.start outer.now.visible) (typed_maybe first) (option_map typed_expression_of c) (present (typed_statement_of command)) (statement_of body.now) (judged_at (typed_statement_of command) self.now)) self.now result }
         ensures less { IfOk result (λ step. weight_of_step step < weight (statement_of body.now) + 2) }
     {
         let last = boxed(self.alloc, command)?;
         let outer = *outer;
-        let form = Form::For(first, c, Some(last));
-        Ok(Step::Part(Frame { outer, form }, outer.setting.body(), body))
+        let form = StatementForm::For(first, c, Some(last));
+        Ok(StatementStep::Part(StatementFrame { outer, form }, outer.setting.body(), body))
     }
 
     /// A `for`, behind its body.
@@ -135,8 +135,8 @@ impl<'a> Walk<'a> {
         c: Option<TExpr>,
         last: Option<Boxed<TStmt>>,
         command: TStmt,
-    ) -> Result<TStmt, Stop>
-        ensures { Finishes (resumed_at outer.now (Form.For first c last) (judged_at (typed_statement_of command) self.old)) self.new result }
+    ) -> Result<TStmt, Refusal>
+        ensures { Finishes (resumed_at outer.now (StatementForm.For first c last) (judged_at (typed_statement_of command) self.old)) self.new result }
     {
         let body = boxed(self.alloc, command)?;
         self.leave(outer);
@@ -151,7 +151,7 @@ impl<'a> Walk<'a> {
         last: &'s Option<Boxed<Stmt>>,
         body: &'s Stmt,
         command: TStmt,
-    ) -> Result<Step<'s>, Stop>
+    ) -> Result<StatementStep<'s>, Refusal>
         ensures judged { Steps (behind_first_at outer.now (present (typed_statement_of command)) (option_map expression_of c.now) (optional_statement (option_map statement_of last.now)) (statement_of body.now) self.old) self.new result }
         ensures less { IfOk result (λ step. weight_of_step step < weight_of_maybe (optional_statement (option_map statement_of last.now)) + (weight (statement_of body.now) + 3)) }
     {
@@ -160,20 +160,20 @@ impl<'a> Walk<'a> {
     }
 
     /// A statement, behind the part that it waits for, of which this is the typed statement.
-    pub fn resume<'s>(&mut self, frame: Frame<'s>, command: TStmt) -> Result<Step<'s>, Stop>
+    pub fn resume<'s>(&mut self, frame: StatementFrame<'s>, command: TStmt) -> Result<StatementStep<'s>, Refusal>
         ensures judged { Steps (resumed frame.entry (judged_at (typed_statement_of command) self.old)) self.new result }
         ensures less { IfOk result (λ step. weight_of_step step < weight_of_form frame.entry.form) }
     {
-        let Frame { outer, form } = frame;
+        let StatementFrame { outer, form } = frame;
         match form {
-            Form::Block(before, rest) => self.resume_block(&outer, before, rest, command),
-            Form::Then(c, b) => self.resume_then(&outer, c, b, command),
-            Form::Else(c, a) => done(self.resume_else(&outer, c, a, command)),
-            Form::While(c) => done(self.resume_while(&outer, c, command)),
-            Form::Do(c) => done(self.resume_do(&outer, c, command)),
-            Form::First(c, last, body) => self.resume_first(&outer, c, last, body, command),
-            Form::Last(first, c, body) => self.resume_last(&outer, first, c, body, command),
-            Form::For(first, c, last) => { done(self.resume_for(&outer, first, c, last, command)) }
+            StatementForm::Block(before, rest) => self.resume_block(&outer, before, rest, command),
+            StatementForm::Then(c, b) => self.resume_then(&outer, c, b, command),
+            StatementForm::Else(c, a) => done(self.resume_else(&outer, c, a, command)),
+            StatementForm::While(c) => done(self.resume_while(&outer, c, command)),
+            StatementForm::Do(c) => done(self.resume_do(&outer, c, command)),
+            StatementForm::First(c, last, body) => self.resume_first(&outer, c, last, body, command),
+            StatementForm::Last(first, c, body) => self.resume_last(&outer, first, c, body, command),
+            StatementForm::For(first, c, last) => { done(self.resume_for(&outer, first, c, last, command)) }
         }
     }
 }

@@ -3,13 +3,13 @@ ghost use Rattle.std.specs.Prelude.{◌≡◌, suc, option_map, slice_index_or};
 ghost use Rattle.pw_tree.specs.Expressions.{expression_of};
 ghost use Rattle.pw_tree.specs.Placed as placed;
 ghost use Rattle.pw_tree.specs.Statements as statement;
-ghost use Rattle.pw_types.specs.Faults.{Judges};
 ghost use Rattle.pw_types.specs.Statements.{faults_of_target, faults_of_array};
-ghost use Rattle.pw_types.specs.CheckingStatements.{Finishes, outcome_at, place_of};
-ghost use Rattle.pw_types.specs.StatementTargets.{IsTarget, IsArray, JudgesIndex, JudgesElementValue};
+ghost use Rattle.pw_types.specs.Steps.CheckingStatements.{Finishes, outcome_at, place_of};
+ghost use Rattle.pw_types.specs.Steps.StatementTargets.{IsTarget, IsArray, JudgesIndex, JudgesElementValue};
+ghost use Rattle.pw_types.specs.Steps.Refusals.{Judges};
 
 use crate::expression::judge;
-use crate::fault::Stop;
+use crate::fault::Refusal;
 use crate::meaning::Meaning;
 use crate::names::{File, Kind};
 use crate::refuse::{broken, broken_by};
@@ -24,7 +24,7 @@ use pw_tree::{Expr, Ref, TExpr, TStmt, Ty};
 
 /// What a name is assigned at, and its type.
 #[derive(Drop)]
-pub(crate) enum Target {
+pub(crate) enum AssignTarget {
     /// The local of this number.
     Local(u32, Ty),
     /// A variable: its number among the names at file level, and how the unit names it.
@@ -72,16 +72,16 @@ fn bracket_line(lines: &[u32], first: u32) -> u32
 
 impl<'a> Walk<'a> {
     /// What a name is assigned at. Refusals: `Unknown`, `NeedsIndex`, `AssignType`.
-    fn target(&self, name: &Name, at: u32) -> Result<Target, Stop>
+    fn target(&self, name: &Name, at: u32) -> Result<AssignTarget, Refusal>
         ensures { Judges (faults_of_target self.now.scope name.now at) (IsTarget self.now.scope name.now) result }
     {
         match self.scope.meaning(name.bytes()) {
             Meaning::Missing => Err(broken_by(self.alloc, Rule::Unknown, u64::from(at), name)),
-            Meaning::Local(local) => Ok(Target::Local(local.number, local.ty)),
+            Meaning::Local(local) => Ok(AssignTarget::Local(local.number, local.ty)),
             Meaning::File(number, file) => match file.kind {
                 Kind::Function(_) => Err(broken(Rule::AssignType, u64::from(at))),
                 Kind::Variable(_, Some(_)) => Err(broken(Rule::NeedsIndex, u64::from(at))),
-                Kind::Variable(ty, None) => Ok(Target::Variable(
+                Kind::Variable(ty, None) => Ok(AssignTarget::Variable(
                     number,
                     self.scope.variable_reference(self.alloc, file)?,
                     ty,
@@ -91,7 +91,7 @@ impl<'a> Walk<'a> {
     }
 
     /// The array that a name is. Refusals: `Unknown`, `NotArray`.
-    fn array(&self, name: &Name, at: u32) -> Result<Array, Stop>
+    fn array(&self, name: &Name, at: u32) -> Result<Array, Refusal>
         ensures { Judges (faults_of_array self.now.scope name.now at) (IsArray self.now.scope name.now) result }
     {
         match self.scope.meaning(name.bytes()) {
@@ -112,7 +112,7 @@ impl<'a> Walk<'a> {
     }
 
     /// An index: a number. Refusal: `Operands`, at the `]`.
-    fn index(&mut self, at: Span, i: &Expr) -> Result<Typed, Stop>
+    fn index(&mut self, at: Span, i: &Expr) -> Result<Typed, Refusal>
         ensures { JudgesIndex (place_of at) (expression_of i.now) self.old self.new result }
     {
         let typed = judge(self.alloc, &self.scope, &mut self.used, Role::Value, i)?;
@@ -123,7 +123,7 @@ impl<'a> Walk<'a> {
     }
 
     /// What an element is assigned; the index, which holds so many values beside it, is kept meanwhile.
-    fn element_value(&mut self, beside: u32, ty: Ty, e: &Expr, end: u64) -> Result<TExpr, Stop>
+    fn element_value(&mut self, beside: u32, ty: Ty, e: &Expr, end: u64) -> Result<TExpr, Refusal>
         ensures { JudgesElementValue beside ty (expression_of e.now) end self.old self.new result }
     {
         let role = Role::Assigned(Some(ty));
@@ -140,16 +140,16 @@ impl<'a> Walk<'a> {
         at: Span,
         name: &Name,
         value: &Expr,
-    ) -> Result<TStmt, Stop>
+    ) -> Result<TStmt, Refusal>
         ensures { Finishes (outcome_at setting.now self.old (statement.set (place_of at) name.now None (expression_of value.now))) self.new result }
     {
         let end = set_end(setting.in_head, at);
         match self.target(name, at.first)? {
-            Target::Local(number, ty) => {
+            AssignTarget::Local(number, ty) => {
                 let value = self.whole(Role::Assigned(Some(ty)), value, end)?;
                 Ok(TStmt::SetLocal(number, Some(value)))
             }
-            Target::Variable(number, reference, ty) => {
+            AssignTarget::Variable(number, reference, ty) => {
                 self.note(number)?;
                 let value = self.whole(Role::Assigned(Some(ty)), value, end)?;
                 Ok(TStmt::SetVar(reference, value))
@@ -167,7 +167,7 @@ impl<'a> Walk<'a> {
         name: &Name,
         index: &Expr,
         value: &Expr,
-    ) -> Result<TStmt, Stop>
+    ) -> Result<TStmt, Refusal>
         ensures { Finishes (outcome_at setting.now self.old (statement.set (place_of at) name.now (Some (expression_of index.now)) (expression_of value.now))) self.new result }
     {
         let end = set_end(setting.in_head, at);
@@ -187,7 +187,7 @@ impl<'a> Walk<'a> {
         name: &Name,
         index: &Option<Expr>,
         value: &Expr,
-    ) -> Result<TStmt, Stop>
+    ) -> Result<TStmt, Refusal>
         ensures { Finishes (outcome_at setting.now self.old (statement.set (place_of at) name.now (option_map expression_of index.now) (expression_of value.now))) self.new result }
     {
         match index {

@@ -42,14 +42,14 @@ pub(crate) struct Outer<'a> {
 
 /// A statement that waits for a part: where it stands, and what it waits for.
 #[derive(Drop)]
-pub(crate) struct Frame<'a> {
+pub(crate) struct StatementFrame<'a> {
     pub outer: Outer<'a>,
-    pub form: Form<'a>,
+    pub form: StatementForm<'a>,
 }
 
 /// What was judged of a statement before the part that it waits for, and what comes behind the part.
 #[derive(Drop)]
-pub(crate) enum Form<'a> {
+pub(crate) enum StatementForm<'a> {
     /// A statement of a block: those before it, and those behind it.
     Block(Items<TStmt>, &'a [Stmt]),
     /// The first part of an `if`, behind the condition; the second may come behind it.
@@ -70,9 +70,9 @@ pub(crate) enum Form<'a> {
 
 /// What is to be done next.
 #[derive(Drop)]
-pub(crate) enum Step<'a> {
+pub(crate) enum StatementStep<'a> {
     /// To judge a part in its setting, for which the frame waits.
-    Part(Frame<'a>, Setting<'a>, &'a Stmt),
+    Part(StatementFrame<'a>, Setting<'a>, &'a Stmt),
     /// Nothing: the statement at hand is judged.
     Done(TStmt),
 }

@@ -7,7 +7,7 @@ use sqlite_items::Items;
 #[derive(Drop)]
 pub struct Typed {
     pub tree: TExpr,
-    /// How many values it holds at a time, or 101 where these are more.
+    /// How many values it holds at a time, or one more than the limit where these are more.
     pub held: u32,
 }
 
@@ -15,7 +15,7 @@ pub struct Typed {
 #[derive(Drop)]
 pub struct Body {
     pub statements: Items<TStmt>,
-    /// The greatest number of values that one of its expressions holds at a time, at most 100.
+    /// The greatest number of values that one of its expressions holds at a time, no more than the limit.
     pub held: u32,
     /// How many parameters and locals the function has behind them.
     pub count: u32,

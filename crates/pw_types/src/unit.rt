@@ -3,15 +3,15 @@ ghost use Rattle.std.specs.Prelude.{◌≡◌, ⊤, [], map, find, option_copied
 ghost use Rattle.pw_tree.specs.Declarations.{declaration_of, untyped_unit_of};
 ghost use Rattle.pw_tree.specs.Placed.{HaveTypes, IsParsed};
 ghost use Rattle.pw_tree.specs.Units.{unit_of};
-ghost use Rattle.pw_types.specs.Faults.{Judges};
 ghost use Rattle.pw_types.specs.Units as spec;
-ghost use Rattle.pw_types.specs.CheckingUnits.{IsAll};
+ghost use Rattle.pw_types.specs.Steps.CheckingUnits.{IsAll};
+ghost use Rattle.pw_types.specs.Steps.Refusals.{Judges};
 
 use crate::declared::is_extern;
 use crate::declared_names::Names;
 use crate::defined::Whole;
 use crate::external::external_names;
-use crate::fault::Stop;
+use crate::fault::Refusal;
 use crate::names::{File, Kind};
 use crate::progress::Progress;
 use crate::refuse::refuse_name_if;
@@ -60,7 +60,7 @@ fn variables_of(alloc: Global, decls: &[Decl]) -> Result<Names, NoMemory>
 
 /// What the declarations of a unit give, or their first fault.
 #[tactic(auto, unfolding(crate::specs::Units::faults_of_declarations, crate::specs::Units::files_behind, crate::specs::Units::typed_functions, crate::specs::Units::typed_variables, crate::specs::Units::uses_of_declarations, pw_tree::specs::Placed::HaveTypes))]
-fn judge_declarations(alloc: Global, whole: &Whole<'_>, decls: &[Decl]) -> Result<Progress, Stop>
+fn judge_declarations(alloc: Global, whole: &Whole<'_>, decls: &[Decl]) -> Result<Progress, Refusal>
     requires { HaveTypes (map declaration_of decls.now) }
     ensures { Judges (spec.faults_of_declarations whole.now [] 0 (map declaration_of decls.now)) (IsAll whole.now (map declaration_of decls.now)) result }
 {
@@ -91,7 +91,7 @@ fn lacking(files: &[File]) -> Option<&File>
 }
 
 /// The fault of a unit whose last token this is: a static function that is declared and not defined.
-fn judge_end(alloc: Global, files: &[File], last: u32) -> Result<(), Stop>
+fn judge_end(alloc: Global, files: &[File], last: u32) -> Result<(), Refusal>
     ensures { Judges (spec.faults_of_lacking last (find spec.lacks_definition files.now)) (λ _. ⊤) result }
 {
     match lacking(files) {
@@ -101,8 +101,8 @@ fn judge_end(alloc: Global, files: &[File], last: u32) -> Result<(), Stop>
 }
 
 /// The typed unit, or the first fault.
-#[tactic(auto, using(crate::proofs::UnitTexts::texts_behind), unfolding(crate::specs::Texts::HaveTexts))]
-pub(crate) fn judge_unit(alloc: Global, unit: &Unit) -> Result<TUnit, Stop>
+#[tactic(auto, using(crate::proofs::UnitTexts::texts_behind), unfolding(crate::specs::Steps::Texts::HaveTexts))]
+pub(crate) fn judge_unit(alloc: Global, unit: &Unit) -> Result<TUnit, Refusal>
     requires { IsParsed (untyped_unit_of unit.now) }
     ensures { Judges (spec.faults_of (untyped_unit_of unit.now)) (λ typed. unit_of typed ≡ spec.typed_unit (untyped_unit_of unit.now)) result }
 {

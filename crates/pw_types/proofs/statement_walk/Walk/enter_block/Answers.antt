@@ -1,6 +1,6 @@
 use Rattle.std.proofs.Common.{arith}
 use Rattle.pw_types.proofs.EnteringStatements.{enters_block, enters_no_block, parted, none_left}
-use Rattle.pw_types.specs.StatementWeights.{weight_of_all}
+use Rattle.pw_types.specs.Steps.StatementWeights.{weight_of_all}
 use Rattle.pw_types.proofs.statement_walk.Walk.enter_block.Goals as goal
 
 pub returns-in-empty-clause-judged : goal.returns-in-empty-clause-judged

@@ -1,5 +1,5 @@
 use Rattle.std.proofs.Common.{◌≡◌, [], ap, sym, ◌∙◌}
-use Rattle.pw_types.specs.CheckingStatements.{block_of, place_of}
+use Rattle.pw_types.specs.Steps.CheckingStatements.{block_of, place_of}
 use Rattle.pw_tree.specs.Placed.{local_name_at}
 use Rattle.pw_types.specs.Statements.{faults_of_name}
 use Rattle.pw_types.proofs.DeclaringLocals.{declares_local}

@@ -1,5 +1,5 @@
 use Rattle.std.proofs.Common.{arith}
-use Rattle.pw_types.specs.StatementWeights.{weight_of_all}
+use Rattle.pw_types.specs.Steps.StatementWeights.{weight_of_all}
 use Rattle.pw_types.proofs.EnteringStatements.{parted, none_left}
 use Rattle.pw_types.proofs.ResumingStatements.{block_is_done, block_waits}
 use Rattle.pw_types.proofs.statement_walk.Walk.resume_block.Goals as goal

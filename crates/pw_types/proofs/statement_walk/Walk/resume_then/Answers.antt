@@ -1,5 +1,5 @@
 use Rattle.std.proofs.Common.{arith}
-use Rattle.pw_types.specs.StatementWeights.{weight_of_maybe}
+use Rattle.pw_types.specs.Steps.StatementWeights.{weight_of_maybe}
 use Rattle.pw_types.proofs.EnteringStatements.{is_present, is_absent}
 use Rattle.pw_types.proofs.ResumingStatements.{if_is_done, if_waits}
 use Rattle.pw_types.proofs.statement_walk.Walk.resume_then.Goals as goal

@@ -2,7 +2,7 @@ use Rattle.std.proofs.lemmas.Result.{err_from_is_err_and}
 use Rattle.pw_tree.specs.Expressions.{expression_of}
 use Rattle.pw_tree.specs.declared.texpr.TExpr.{TExpr}
 use Rattle.pw_types.specs.declared.typed.Typed.{Typed}
-use Rattle.pw_types.specs.StatementTargets.{IsIndex, IsElementValue}
+use Rattle.pw_types.specs.Steps.StatementTargets.{IsIndex, IsElementValue}
 use Rattle.pw_types.proofs.Assigning.{sets_element, value_fails, index_fails}
 use Rattle.pw_types.proofs.Failing.{fails_of}
 use Rattle.pw_types.proofs.statement_walk.Walk.set_element.Goals as goal

@@ -1,7 +1,7 @@
 use Rattle.std.proofs.Common.{ap, ◌∙◌}
 use Rattle.std.proofs.lemmas.Result.{err_from_is_err_and}
 use Rattle.pw_tree.specs.Statements.{Statements, statement_of, statements_of}
-use Rattle.pw_types.specs.CheckingStatements.{sequence_at}
+use Rattle.pw_types.specs.Steps.CheckingStatements.{sequence_at}
 use Rattle.pw_types.proofs.EnteringStatements.{parted}
 use Rattle.pw_types.proofs.StatementSequences.{one_less, one_fails}
 use Rattle.pw_types.proofs.statement_walk.Walk.statements.Goals as goal
