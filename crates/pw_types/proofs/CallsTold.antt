@@ -47,10 +47,10 @@ held_more n (s ∷ ts) t =
 
 -- what arguments that were judged are with what they hold
 abbrev pub taken : List TypedExpression → Taken
-taken ts = record { typed_expressions = ts; held = capped (held_arguments 0 (typed_expressions ts)) }
+taken ts = record { trees = ts; held = capped (held_arguments 0 (typed_expressions ts)) }
 
 abbrev pub with_held : List TypedExpression → ℕ → Taken
-with_held ts n = record { typed_expressions = ts; held = n }
+with_held ts n = record { trees = ts; held = n }
 
 pub taken_more : (ts : List TypedExpression) (t : TypedExpression) → taking (taken ts) (full t) ≡ taken (ts ++ t ∷ [])
 taken_more ts t =

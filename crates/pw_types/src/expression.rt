@@ -20,7 +20,10 @@ use sqlite_items::Items;
 use std::alloc::Global;
 
 /// Puts a frame on top.
-fn push<'a>(frames: &mut Items<ExpressionFrame<'a>>, frame: ExpressionFrame<'a>) -> Result<(), NoMemory>
+fn push<'a>(
+    frames: &mut Items<ExpressionFrame<'a>>,
+    frame: ExpressionFrame<'a>,
+) -> Result<(), NoMemory>
     ensures { OnOk result (frames.new ≡ frames.old ++ frame.entry ∷ []) }
 {
     frames.push(frame)?;

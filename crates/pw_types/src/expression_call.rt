@@ -7,9 +7,10 @@ ghost use Rattle.pw_types.specs.Steps.CheckingExpressions as spec;
 ghost use Rattle.pw_types.specs.Steps.ResumingExpressions.{valued, aim_of, begun, direct_call_from, pointer_call_from, calling_of, taken_of, listed, Gives, Continues, ContinuesInEach, step_size, sizes};
 
 use crate::expression_form::{CAP, more};
-use crate::expression_kind as kinds;
 use crate::expression_node::{fault, finish, node, type_of};
-use crate::expression_step::{Arguments, Call, ExpressionFrame, Head, Parameters, ExpressionStep, CallTarget};
+use crate::expression_step::{
+    Arguments, Call, CallTarget, ExpressionFrame, ExpressionStep, Head, Parameters,
+};
 use crate::fault::Refusal;
 use crate::names::File;
 use crate::role::Role;
@@ -56,19 +57,26 @@ fn take(mut taken: Arguments, typed: Typed) -> Result<Arguments, NoMemory>
 {
     let one = behind(&taken.trees, typed.held.max(1));
     taken.held = taken.held.max(one);
-    taken.trees.push(typed.tree)?;
+    taken.trees.push(typed.tree.into_inner())?;
     Ok(taken)
 }
 
 /// A call of a function by its name.
 #[tactic(auto, using(crate::proofs::Trees::calls))]
-fn direct_call(head: Head, name: Ref, ty: Ty, taken: Arguments) -> Typed
-    ensures { valued result ≡ spec.called (spec.named name ty) head (taken_of taken) }
+fn direct_call(
+    alloc: Global,
+    head: Head,
+    name: Ref,
+    ty: Ty,
+    taken: Arguments,
+) -> Result<Typed, NoMemory>
+    ensures { IfOk result (λ call. valued call ≡ spec.called (spec.named name ty) head (taken_of taken)) }
 {
-    node(head, ty, TKind::Call(name, taken.trees), taken.held)
+    node(alloc, head, ty, TKind::Call(name, taken.trees), taken.held)
 }
 
 /// A call through a pointer.
+#[tactic(auto, using(crate::proofs::Trees::calls))]
 fn pointer_call(
     alloc: Global,
     head: Head,
@@ -78,8 +86,8 @@ fn pointer_call(
     ensures { IfOk result (λ call. valued call ≡ spec.called (spec.through (valued callee)) head (taken_of taken)) }
 {
     let held = taken.held.max(behind(&taken.trees, callee.held));
-    let kind = kinds::call_pointer(alloc, callee.tree, taken.trees)?;
-    Ok(node(head, Ty::Long, kind, held))
+    let kind = TKind::CallPtr(callee.tree, taken.trees);
+    node(alloc, head, Ty::Long, kind, held)
 }
 
 /// A call whose arguments are judged. Refusals: as in `finish`.
@@ -92,7 +100,13 @@ fn finish_call(alloc: Global, call: Call, taken: Arguments) -> Result<Typed, Ref
         other_count,
     } = call;
     match target {
-        CallTarget::Direct(name, ty) => finish(head, other_count, direct_call(head, name, ty, taken)),
+        CallTarget::Direct(name, ty) => {
+            finish(
+                head,
+                other_count,
+                direct_call(alloc, head, name, ty, taken)?,
+            )
+        }
         CallTarget::Through(callee) => {
             finish(head, other_count, pointer_call(alloc, head, callee, taken)?)
         }
@@ -176,7 +190,13 @@ pub(crate) fn call_function<'a>(
 {
     let name = scope.function_reference(alloc, file)?;
     let params = Parameters::Listed(sig.params.as_slice());
-    begin(alloc, head, CallTarget::Direct(name, sig.result), params, es)
+    begin(
+        alloc,
+        head,
+        CallTarget::Direct(name, sig.result),
+        params,
+        es,
+    )
 }
 
 /// A call through what was judged as the callee. Refusals: `NotCallable` of what is no pointer.

@@ -7,7 +7,7 @@ ghost use Rattle.pw_types.specs.Steps.ResumingExpressions.{ContinuesWith, call_f
 use crate::expression_call::call_function;
 use crate::expression_form::{constant, input};
 use crate::expression_name::{named_value, note};
-use crate::expression_step::{Array, ExpressionFrame, Head, ExpressionStep};
+use crate::expression_step::{Array, ExpressionFrame, ExpressionStep, Head};
 use crate::expression_word::{array, function};
 use crate::fault::Refusal;
 use crate::role::Role;
@@ -82,11 +82,23 @@ pub(crate) fn down<'a>(
         line: e.line,
     };
     match &e.kind {
-        ExprKind::Num(value, unsigned) => Ok(ExpressionStep::Done(constant(head, *value, *unsigned)?)),
-        ExprKind::Word(name) => Ok(ExpressionStep::Done(named_value(alloc, scope, used, head, name)?)),
-        ExprKind::Unary(op, x) => Ok(ExpressionStep::Part(ExpressionFrame::Operand(head, *op), Role::Value, x.get())),
+        ExprKind::Num(value, unsigned) => Ok(ExpressionStep::Done(constant(
+            alloc, head, *value, *unsigned,
+        )?)),
+        ExprKind::Word(name) => Ok(ExpressionStep::Done(named_value(
+            alloc, scope, used, head, name,
+        )?)),
+        ExprKind::Unary(op, x) => Ok(ExpressionStep::Part(
+            ExpressionFrame::Operand(head, *op),
+            Role::Value,
+            x.get(),
+        )),
         ExprKind::Binary(op, l, r) => {
-            Ok(ExpressionStep::Part(ExpressionFrame::Left(head, *op, r.get()), Role::Value, l.get()))
+            Ok(ExpressionStep::Part(
+                ExpressionFrame::Left(head, *op, r.get()),
+                Role::Value,
+                l.get(),
+            ))
         }
         ExprKind::Cond(c, a, b) => {
             Ok(ExpressionStep::Part(
@@ -97,7 +109,11 @@ pub(crate) fn down<'a>(
         }
         ExprKind::Call(callee, es) => call(alloc, scope, used, head, callee.get(), es.as_slice()),
         ExprKind::Index(base, i) => element(alloc, scope, used, head, base.get(), i.get()),
-        ExprKind::Input => Ok(ExpressionStep::Done(input(head)?)),
-        ExprKind::Output(x) => Ok(ExpressionStep::Part(ExpressionFrame::Written(head), Role::Written, x.get())),
+        ExprKind::Input => Ok(ExpressionStep::Done(input(alloc, head)?)),
+        ExprKind::Output(x) => Ok(ExpressionStep::Part(
+            ExpressionFrame::Written(head),
+            Role::Written,
+            x.get(),
+        )),
     }
 }

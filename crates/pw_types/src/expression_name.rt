@@ -77,7 +77,12 @@ fn function_value(
 {
     match pointer_to(sig) {
         None => Err(fault(head, function_rule(head.role))),
-        Some(ty) => leaf(head, ty, TKind::Fun(scope.function_reference(alloc, file)?)),
+        Some(ty) => leaf(
+            alloc,
+            head,
+            ty,
+            TKind::Fun(scope.function_reference(alloc, file)?),
+        ),
     }
 }
 
@@ -94,7 +99,12 @@ fn variable_value(
     ensures { Gives (spec.variable_value scope.now head file.now ty size) result }
 {
     match size {
-        None => leaf(head, ty, TKind::Var(scope.variable_reference(alloc, file)?)),
+        None => leaf(
+            alloc,
+            head,
+            ty,
+            TKind::Var(scope.variable_reference(alloc, file)?),
+        ),
         Some(_) => Err(fault(head, array_rule(head.role))),
     }
 }
@@ -111,10 +121,10 @@ fn file_value(alloc: Global, scope: &Scope<'_>, head: Head, file: &File) -> Resu
 
 /// A local's name as a value.
 #[tactic(auto, using(crate::proofs::Trees::names))]
-fn local_value(head: Head, ty: Ty, number: u32) -> Result<Typed, Refusal>
+fn local_value(alloc: Global, head: Head, ty: Ty, number: u32) -> Result<Typed, Refusal>
     ensures { Gives (spec.local_value head ty number) result }
 {
-    leaf(head, ty, TKind::Local(number))
+    leaf(alloc, head, ty, TKind::Local(number))
 }
 
 /// A name as a value; one at file level is noted. Refusals: `Unknown`, `NotValue` and `NotArray` of a function, those of an
@@ -130,7 +140,7 @@ pub(crate) fn named_value(
 {
     match scope.meaning(name.bytes()) {
         Meaning::Missing => unknown(alloc, head, name),
-        Meaning::Local(local) => local_value(head, local.ty, local.number),
+        Meaning::Local(local) => local_value(alloc, head, local.ty, local.number),
         Meaning::File(number, file) => {
             note(used, number)?;
             file_value(alloc, scope, head, file)

@@ -1,9 +1,9 @@
 //! Nodes of typed expressions, and the rules that their places ask of them.
-ghost use Rattle.std.specs.Prelude.{◌≡◌};
+ghost use Rattle.std.specs.Prelude.{◌≡◌, IfOk};
 ghost use Rattle.pw_tree.specs.TypedExpressions.{typed_expression_form_of};
 ghost use Rattle.pw_types.specs.declared.fault.Refusal.TheVariants as refusals;
 ghost use Rattle.pw_types.specs.Expressions as rules;
-ghost use Rattle.pw_types.specs.Typed as trees;
+ghost use Rattle.pw_tree.specs.TypedExpressions as trees;
 ghost use Rattle.pw_types.specs.Steps.CheckingExpressions as spec;
 ghost use Rattle.pw_types.specs.Steps.ResumingExpressions.{valued, Gives};
 
@@ -14,27 +14,31 @@ use crate::role::Role;
 use crate::rule::Rule;
 use crate::typed::Typed;
 use crate::types::{converts, is_pointer, is_void};
+use pw_base::NoMemory;
 use pw_tree::{TExpr, TKind, Ty};
+use sqlite_items::Boxed;
+use std::alloc::Global;
 
 /// The type of a typed expression.
 pub(crate) fn type_of(typed: &Typed) -> Ty
     ensures { result ≡ trees.type_of (valued typed.now).tree }
 {
-    typed.tree.ty
+    typed.tree.get().ty
 }
 
 /// A node of a type.
-pub(crate) fn node(head: Head, ty: Ty, kind: TKind, held: u32) -> Typed
-    ensures { valued result ≡ record { tree = typed_expression_form_of kind (spec.mark_under head ty); held = held } }
+pub(crate) fn node(
+    alloc: Global,
+    head: Head,
+    ty: Ty,
+    kind: TKind,
+    held: u32,
+) -> Result<Typed, NoMemory>
+    ensures { IfOk result (λ typed. valued typed ≡ record { tree = typed_expression_form_of kind (spec.mark_under head ty); held = held }) }
 {
-    Typed {
-        tree: TExpr {
-            ty,
-            line: head.line,
-            kind,
-        },
-        held,
-    }
+    let line = head.line;
+    let tree = Boxed::new(alloc, TExpr { ty, line, kind })?;
+    Ok(Typed { tree, held })
 }
 
 /// A rule that is broken at the last token.

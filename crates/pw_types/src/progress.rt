@@ -7,11 +7,11 @@ ghost use Rattle.pw_types.specs.Declarations.{faults_of_declaration};
 ghost use Rattle.pw_types.specs.Steps.CheckingUnits.{faults_of_parts, IsFresh, IsJudged, IsBehind};
 ghost use Rattle.pw_types.specs.Steps.Refusals.{Judges};
 
+use crate::declarator::judge_head;
 use crate::declared::{elements_of, file_of};
 use crate::defined::{Defined, Whole, judge_form};
 use crate::fault::Refusal;
 use crate::file_scope::FileScope;
-use crate::declarator::judge_head;
 use pw_tree::{Decl, TFun, TVar};
 use sqlite_items::Items;
 use std::alloc::Global;

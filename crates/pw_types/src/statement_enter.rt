@@ -10,7 +10,7 @@ ghost use Rattle.pw_types.specs.Steps.StatementWeights.{weight, weight_of_all, w
 use crate::fault::Refusal;
 use crate::role::Role;
 use crate::statement_simple::{break_off, empty, go_on};
-use crate::statement_step::{StatementForm, StatementFrame, Outer, Setting, Span, StatementStep};
+use crate::statement_step::{Outer, Setting, Span, StatementForm, StatementFrame, StatementStep};
 use crate::statement_walk::Walk;
 use pw_tree::{Expr, Stmt, StmtKind, TStmt};
 use sqlite_items::{Boxed, Items};
@@ -103,7 +103,11 @@ impl<'a> Walk<'a> {
         match last {
             Some(last) => {
                 let form = StatementForm::Last(first, c, body);
-                Ok(StatementStep::Part(StatementFrame { outer, form }, outer.setting.head(), last.get()))
+                Ok(StatementStep::Part(
+                    StatementFrame { outer, form },
+                    outer.setting.head(),
+                    last.get(),
+                ))
             }
             None => {
                 let form = StatementForm::For(first, c, None);
@@ -136,7 +140,11 @@ impl<'a> Walk<'a> {
     }
 
     /// A statement, up to its first part, or the whole of it where it has none.
-    pub fn enter<'s>(&mut self, setting: &Setting<'s>, stmt: &'s Stmt) -> Result<StatementStep<'s>, Refusal>
+    pub fn enter<'s>(
+        &mut self,
+        setting: &Setting<'s>,
+        stmt: &'s Stmt,
+    ) -> Result<StatementStep<'s>, Refusal>
         ensures judged { Steps (outcome_at setting.now self.old (statement_of stmt.now)) self.new result }
         ensures less { IfOk result (λ step. weight_of_step step < weight (statement_of stmt.now)) }
     {

@@ -10,7 +10,7 @@ ghost use Rattle.pw_types.specs.Steps.StatementWeights.{weight, weight_of_all, w
 use crate::fault::Refusal;
 use crate::role::Role;
 use crate::statement_enter::done;
-use crate::statement_step::{StatementForm, StatementFrame, Outer, StatementStep, push};
+use crate::statement_step::{Outer, StatementForm, StatementFrame, StatementStep, push};
 use crate::statement_walk::Walk;
 use pw_base::NoMemory;
 use pw_tree::{Expr, Stmt, TExpr, TStmt};
@@ -66,7 +66,11 @@ impl<'a> Walk<'a> {
             Some(b) => {
                 let outer = *outer;
                 let form = StatementForm::Else(c, a);
-                Ok(StatementStep::Part(StatementFrame { outer, form }, outer.setting.part(), b.get()))
+                Ok(StatementStep::Part(
+                    StatementFrame { outer, form },
+                    outer.setting.part(),
+                    b.get(),
+                ))
             }
             None => {
                 self.leave(outer);
@@ -91,7 +95,12 @@ impl<'a> Walk<'a> {
     }
 
     /// A `while`, behind its body.
-    fn resume_while(&mut self, outer: &Outer<'_>, c: TExpr, command: TStmt) -> Result<TStmt, Refusal>
+    fn resume_while(
+        &mut self,
+        outer: &Outer<'_>,
+        c: TExpr,
+        command: TStmt,
+    ) -> Result<TStmt, Refusal>
         ensures { Finishes (resumed_at outer.now (StatementForm.While c) (judged_at (typed_statement_of command) self.old)) self.new result }
     {
         let body = boxed(self.alloc, command)?;
@@ -160,7 +169,11 @@ impl<'a> Walk<'a> {
     }
 
     /// A statement, behind the part that it waits for, of which this is the typed statement.
-    pub fn resume<'s>(&mut self, frame: StatementFrame<'s>, command: TStmt) -> Result<StatementStep<'s>, Refusal>
+    pub fn resume<'s>(
+        &mut self,
+        frame: StatementFrame<'s>,
+        command: TStmt,
+    ) -> Result<StatementStep<'s>, Refusal>
         ensures judged { Steps (resumed frame.entry (judged_at (typed_statement_of command) self.old)) self.new result }
         ensures less { IfOk result (λ step. weight_of_step step < weight_of_form frame.entry.form) }
     {
@@ -171,9 +184,15 @@ impl<'a> Walk<'a> {
             StatementForm::Else(c, a) => done(self.resume_else(&outer, c, a, command)),
             StatementForm::While(c) => done(self.resume_while(&outer, c, command)),
             StatementForm::Do(c) => done(self.resume_do(&outer, c, command)),
-            StatementForm::First(c, last, body) => self.resume_first(&outer, c, last, body, command),
-            StatementForm::Last(first, c, body) => self.resume_last(&outer, first, c, body, command),
-            StatementForm::For(first, c, last) => { done(self.resume_for(&outer, first, c, last, command)) }
+            StatementForm::First(c, last, body) => self.resume_first(
+                &outer, c, last, body, command,
+            ),
+            StatementForm::Last(first, c, body) => self.resume_last(
+                &outer, first, c, body, command,
+            ),
+            StatementForm::For(first, c, last) => {
+                done(self.resume_for(&outer, first, c, last, command))
+            }
         }
     }
 }

@@ -116,7 +116,7 @@ impl<'a> Walk<'a> {
         ensures { JudgesIndex (place_of at) (expression_of i.now) self.old self.new result }
     {
         let typed = judge(self.alloc, &self.scope, &mut self.used, Role::Value, i)?;
-        if !is_number(typed.tree.ty) {
+        if !is_number(typed.tree.get().ty) {
             return Err(broken(Rule::Operands, index_end(at, i)));
         }
         Ok(typed)
@@ -129,7 +129,7 @@ impl<'a> Walk<'a> {
         let role = Role::Assigned(Some(ty));
         let typed = judge(self.alloc, &self.scope, &mut self.used, role, e)?;
         self.hold(beside.max(typed.held + 1), end)?;
-        Ok(typed.tree)
+        Ok(typed.tree.into_inner())
     }
 
     /// `name = value`. Refusals: `Unknown`, `NeedsIndex`, `AssignType`; those of the value; `TooDeep`, at the end.
@@ -176,7 +176,13 @@ impl<'a> Walk<'a> {
         let index = self.index(at, index)?;
         let value = self.element_value(index.held, array.ty, value, end)?;
         let line = bracket_line(setting.lines, at.first);
-        Ok(TStmt::SetElem(array.reference, array.size, line, index.tree, value))
+        Ok(TStmt::SetElem(
+            array.reference,
+            array.size,
+            line,
+            index.tree.into_inner(),
+            value,
+        ))
     }
 
     /// `name = value`, or `name[index] = value`.

@@ -34,7 +34,7 @@ impl<'a> Walk<'a> {
     {
         let typed = judge(self.alloc, &self.scope, &mut self.used, role, e)?;
         self.hold(typed.held, end)?;
-        Ok(typed.tree)
+        Ok(typed.tree.into_inner())
     }
 
     /// The typed tree of a whole expression of a statement.

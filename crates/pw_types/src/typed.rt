@@ -1,12 +1,12 @@
 //! What judging a phrase without faults gives.
 
 use pw_tree::{TExpr, TStmt};
-use sqlite_items::Items;
+use sqlite_items::{Boxed, Items};
 
-/// A typed expression.
+/// A typed expression. Its tree is in a box, so that it can wait for others and be a part of one as it is.
 #[derive(Drop)]
 pub struct Typed {
-    pub tree: TExpr,
+    pub tree: Boxed<TExpr>,
     /// How many values it holds at a time, or one more than the limit where these are more.
     pub held: u32,
 }

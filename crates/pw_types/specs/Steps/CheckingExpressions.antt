@@ -190,16 +190,16 @@ pub record Calling : Type 0 where
 
 -- Arguments that were judged, and how many values they hold at a time.
 pub record Taken : Type 0 where
-  pub typed_expressions : List TypedExpression
+  pub trees : List TypedExpression
   pub held : ℕ
 
 abbrev pub none_taken : Taken
-none_taken = record { typed_expressions = []; held = 0 }
+none_taken = record { trees = []; held = 0 }
 
 -- arguments are held as they come, and a call holds them all
 abbrev pub taking : Taken → Valued → Taken
 taking taken v = record {
-  typed_expressions = taken.trees ++ v.tree ∷ [];
+  trees = taken.trees ++ v.tree ∷ [];
   held = max taken.held (capped (length taken.trees + max v.held 1));
 }
 
