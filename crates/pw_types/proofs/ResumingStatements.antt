@@ -23,7 +23,7 @@ use Rattle.pw_types.specs.declared.statement_step.StatementStep.{StatementStep}
 use Rattle.pw_types.specs.Steps.StatementWeights.{weight_of_form, weight_of_step}
 use Rattle.pw_types.specs.Blocks.{Block}
 use Rattle.pw_types.specs.Statements.{faults_of_whole}
-use Rattle.pw_types.specs.Steps.CheckingStatements.{WalkResult, judged, block_of, outcome_at, judged_at, setting_of, resumed_at, leave, block_at, rest_of_block, rest_of_if, rest_of_do, Leaves, Finishes, Steps, resumed, done}
+use Rattle.pw_types.specs.Steps.CheckingStatements.{WalkResult, judged, block_of, outcome_at, judged_at, setting_of, resumed_at, leave, block_at, rest_of_block, rest_of_if, rest_of_do, Leaves, Finishes, Steps, resumed, IsWhole}
 use Rattle.pw_types.specs.Steps.StatementValues.{IsValue, JudgesValue}
 use Rattle.pw_types.proofs.EnclosingStatements.{same, tree_is, block_ends, block_goes_on, if_ends, if_goes_on, do_ends}
 use Rattle.pw_types.proofs.Failing.{fails_as}
@@ -123,12 +123,10 @@ module _ (f : StatementFrame) (form : StatementForm) (is : f.form ≡ form) wher
   less_resumed r told = subst (λ (g : StatementForm). IfOk r (λ step. weight_of_step step < weight_of_form g)) (sym is) told
 
   -- a statement that is judged behind this part
-  pub resumed_whole : (w : WalkResult) (new : Walk) (r : Result TStmt Refusal) (r' : Result StatementStep Refusal) → r' ≡ done r → Finishes (resumed_at f.outer form w) new r
+  pub resumed_whole : (w : WalkResult) (new : Walk) (r : Result TStmt Refusal) (r' : Result StatementStep Refusal) → IsWhole r r' → Finishes (resumed_at f.outer form w) new r
       → Steps (resumed f w) new r'
-  resumed_whole w new r r' r_is told =
-      resumed_as w new r' (subst (λ (u : Result StatementStep Refusal). Steps (resumed_at f.outer form w) new u) (sym r_is) (finished_steps _ new r told))
+  resumed_whole w new r r' whole told = resumed_as w new r' (finished_steps _ new r r' whole told)
 
-  pub less_whole : (r : Result TStmt Refusal) (r' : Result StatementStep Refusal) → r' ≡ done r → 0 < weight_of_form form
+  pub less_whole : (r : Result TStmt Refusal) (r' : Result StatementStep Refusal) → IsWhole r r' → 0 < weight_of_form form
       → IfOk r' (λ step. weight_of_step step < weight_of_form f.form)
-  less_whole r r' r_is some =
-      less_resumed r' (subst (λ (u : Result StatementStep Refusal). IfOk u (λ step. weight_of_step step < weight_of_form form)) (sym r_is) (nothing_left (weight_of_form form) r some))
+  less_whole r r' whole some = less_resumed r' (nothing_left (weight_of_form form) r r' whole some)

@@ -10,13 +10,17 @@ use crate::statement_step::{Setting, StatementStep, push};
 use crate::statement_walk::Walk;
 use crate::typed::Body;
 use pw_tree::{Stmt, TStmt, Ty};
-use sqlite_items::Items;
+use sqlite_items::{Boxed, Items};
 use std::alloc::Global;
 use std::mem;
 
 impl<'a> Walk<'a> {
     /// A statement and all that stands in it.
-    fn statement<'s>(&mut self, setting: &Setting<'s>, stmt: &'s Stmt) -> Result<TStmt, Refusal>
+    fn statement<'s>(
+        &mut self,
+        setting: &Setting<'s>,
+        stmt: &'s Stmt,
+    ) -> Result<Boxed<TStmt>, Refusal>
         ensures { Finishes (outcome_at setting.now self.old (statement_of stmt.now)) self.new result }
     {
         let mut frames = Items::new(self.alloc);
@@ -47,7 +51,7 @@ impl<'a> Walk<'a> {
         let mut rest = body;
         'row: while let [stmt, more @ ..] = rest {
             let command = self.statement(setting, stmt)?;
-            push(&mut done, command)?;
+            push(&mut done, command.into_inner())?;
             rest = more;
         }
         Ok(done)

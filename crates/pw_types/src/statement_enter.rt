@@ -3,42 +3,51 @@ ghost use Rattle.std.specs.Prelude.{◌≡◌, ◌+◌, ◌<◌, IfOk, Some, Non
 ghost use Rattle.pw_tree.specs.Expressions.{Span, expression_of};
 ghost use Rattle.pw_tree.specs.Statements as statement;
 ghost use Rattle.pw_tree.specs.Statements.{statement_of, statements_of, optional_statement};
-ghost use Rattle.pw_types.specs.Steps.CheckingStatements.{Leads, Steps, outcome_at, behind_first_at, typed_maybe};
-ghost use Rattle.pw_types.specs.Steps.CheckingStatements as spec;
+ghost use Rattle.pw_types.specs.Steps.CheckingStatements.{Leads, Steps, IsWhole, outcome_at, behind_first_at, typed_maybe};
 ghost use Rattle.pw_types.specs.Steps.StatementWeights.{weight, weight_of_all, weight_of_maybe, weight_of_step};
 
 use crate::fault::Refusal;
 use crate::role::Role;
 use crate::statement_simple::{break_off, empty, go_on};
-use crate::statement_step::{Outer, Setting, Span, StatementForm, StatementFrame, StatementStep};
+use crate::statement_step::{
+    Outer, Setting, StatementForm, StatementFrame, StatementSpan, StatementStep,
+};
 use crate::statement_walk::Walk;
 use pw_tree::{Expr, Stmt, StmtKind, TStmt};
 use sqlite_items::{Boxed, Items};
+use std::alloc::Global;
 
 /// A statement that is judged as a whole.
-pub(crate) fn done<'s>(judged: Result<TStmt, Refusal>) -> Result<StatementStep<'s>, Refusal>
-    ensures { result ≡ spec.done judged }
+pub(crate) fn done<'s>(
+    alloc: Global,
+    judged: Result<TStmt, Refusal>,
+) -> Result<StatementStep<'s>, Refusal>
+    ensures { IsWhole judged result }
 {
     match judged {
-        Ok(command) => Ok(StatementStep::Done(command)),
-        Err(stop) => Err(stop),
+        Ok(command) => Ok(StatementStep::Done(Boxed::new(alloc, command)?)),
+        Err(refusal) => Err(refusal),
     }
 }
 
 impl<'a> Walk<'a> {
     /// `{ body }`
-    fn enter_block<'s>(&mut self, setting: &Setting<'s>, body: &'s [Stmt]) -> StatementStep<'s>
-        ensures judged { (at : Span) → Leads (outcome_at setting.now self.old (statement.block at (statements_of body.now))) self.new result }
-        ensures less { weight_of_step result < 2 + weight_of_all (statements_of body.now) }
+    fn enter_block<'s>(
+        &mut self,
+        setting: &Setting<'s>,
+        body: &'s [Stmt],
+    ) -> Result<StatementStep<'s>, Refusal>
+        ensures judged { (at : Span) → Steps (outcome_at setting.now self.old (statement.block at (statements_of body.now))) self.new result }
+        ensures less { IfOk result (λ step. weight_of_step step < 2 + weight_of_all (statements_of body.now)) }
     {
         let outer = self.outer(setting);
-        let done = Items::new(self.alloc);
+        let before = Items::new(self.alloc);
         match body {
-            [] => StatementStep::Done(TStmt::Block(done)),
+            [] => done(self.alloc, Ok(TStmt::Block(before))),
             [first, rest @ ..] => {
                 self.start = outer.visible;
-                let form = StatementForm::Block(done, rest);
-                StatementStep::Part(StatementFrame { outer, form }, setting.part(), first)
+                let form = StatementForm::Block(before, rest);
+                Ok(StatementStep::Part(StatementFrame { outer, form }, setting.part(), first))
             }
         }
     }
@@ -148,28 +157,31 @@ impl<'a> Walk<'a> {
         ensures judged { Steps (outcome_at setting.now self.old (statement_of stmt.now)) self.new result }
         ensures less { IfOk result (λ step. weight_of_step step < weight (statement_of stmt.now)) }
     {
-        let at = Span {
+        let at = StatementSpan {
             first: stmt.first,
             last: stmt.last,
             line: stmt.line,
         };
         match &stmt.kind {
-            StmtKind::Empty => Ok(StatementStep::Done(empty(self, setting, at))),
-            StmtKind::Block(body) => Ok(self.enter_block(setting, body.as_slice())),
-            StmtKind::Local(ty, name, value) => done(self.local(setting, at, *ty, name, value)),
+            StmtKind::Empty => done(self.alloc, Ok(empty(self, setting, at))),
+            StmtKind::Block(body) => self.enter_block(setting, body.as_slice()),
+            StmtKind::Local(ty, name, value) => done(
+                self.alloc,
+                self.local(setting, at, *ty, name, value),
+            ),
             StmtKind::Set(name, index, value) => {
-                done(self.assign(setting, at, name, index, value))
+                done(self.alloc, self.assign(setting, at, name, index, value))
             }
-            StmtKind::Eval(e) => done(self.evaluate(setting, at, e)),
+            StmtKind::Eval(e) => done(self.alloc, self.evaluate(setting, at, e)),
             StmtKind::If(c, a, b) => self.enter_if(setting, c, a.get(), b),
             StmtKind::While(c, body) => self.enter_while(setting, c, body.get()),
             StmtKind::Do(body, c) => Ok(self.enter_do(setting, body.get(), c)),
             StmtKind::For(first, c, last, body) => {
                 self.enter_for(setting, first, c, last, body.get())
             }
-            StmtKind::Return(value) => done(self.leave_function(setting, at, value)),
-            StmtKind::Break => done(break_off(self, setting, at)),
-            StmtKind::Continue => done(go_on(self, setting, at)),
+            StmtKind::Return(value) => done(self.alloc, self.leave_function(setting, at, value)),
+            StmtKind::Break => done(self.alloc, break_off(self, setting, at)),
+            StmtKind::Continue => done(self.alloc, go_on(self, setting, at)),
         }
     }
 }

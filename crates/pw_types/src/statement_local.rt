@@ -16,7 +16,8 @@ use crate::reserved::is_reserved;
 use crate::role::Role;
 use crate::rule::Rule;
 use crate::scope::has_local;
-use crate::statement_step::{Setting, Span};
+use crate::statement_step::{Setting, StatementSpan};
+use crate::statement_value::unboxed;
 use crate::statement_walk::Walk;
 use pw_base::{Limits, Name, NoMemory};
 use pw_tree::{Expr, TStmt, Ty};
@@ -33,7 +34,7 @@ fn own_locals(locals: &[Local], start: usize) -> &[Local]
 }
 
 /// The token of a local's name: its type has one token, or two.
-fn local_name_at(at: Span, ty: Ty) -> u64
+fn local_name_at(at: StatementSpan, ty: Ty) -> u64
     ensures { result ≡ placed.local_name_at (place_of at) ty }
 {
     match ty {
@@ -80,7 +81,7 @@ impl<'a> Walk<'a> {
     pub fn local(
         &mut self,
         setting: &Setting<'_>,
-        at: Span,
+        at: StatementSpan,
         ty: Ty,
         name: &Name,
         value: &Option<Expr>,
@@ -90,6 +91,6 @@ impl<'a> Walk<'a> {
         self.declarable(name, local_name_at(at, ty))?;
         let value = self.maybe_value(Role::Assigned(Some(ty)), value)?;
         let number = self.declare(name, ty)?;
-        Ok(TStmt::SetLocal(number, value))
+        Ok(TStmt::SetLocal(number, unboxed(value)))
     }
 }

@@ -15,12 +15,13 @@ use crate::names::{File, Kind};
 use crate::refuse::{broken, broken_by};
 use crate::role::Role;
 use crate::rule::Rule;
-use crate::statement_step::{Setting, Span};
+use crate::statement_step::{Setting, StatementSpan};
 use crate::statement_walk::Walk;
 use crate::typed::Typed;
 use crate::types::is_number;
 use pw_base::Name;
 use pw_tree::{Expr, Ref, TExpr, TStmt, Ty};
+use sqlite_items::Boxed;
 
 /// What a name is assigned at, and its type.
 #[derive(Drop)]
@@ -41,7 +42,7 @@ pub(crate) struct Array {
 }
 
 /// The last token of an assignment: a part of a `for` has no `;` of its own.
-fn set_end(in_head: bool, at: Span) -> u64
+fn set_end(in_head: bool, at: StatementSpan) -> u64
     ensures { result ≡ placed.set_end in_head (place_of at) }
 {
     if in_head {
@@ -53,7 +54,7 @@ fn set_end(in_head: bool, at: Span) -> u64
 
 /// The `]` behind the index of an assignment: as many brackets stand round the index behind it as before it.
 #[tactic(auto, using(crate::proofs::PhrasePlaces::place_is))]
-fn index_end(at: Span, i: &Expr) -> u64
+fn index_end(at: StatementSpan, i: &Expr) -> u64
     ensures { result ≡ placed.index_end (place_of at) (expression_of i.now) }
 {
     let before = u64::from(i.first).saturating_sub(u64::from(at.first) + 2);
@@ -112,7 +113,7 @@ impl<'a> Walk<'a> {
     }
 
     /// An index: a number. Refusal: `Operands`, at the `]`.
-    fn index(&mut self, at: Span, i: &Expr) -> Result<Typed, Refusal>
+    fn index(&mut self, at: StatementSpan, i: &Expr) -> Result<Typed, Refusal>
         ensures { JudgesIndex (place_of at) (expression_of i.now) self.old self.new result }
     {
         let typed = judge(self.alloc, &self.scope, &mut self.used, Role::Value, i)?;
@@ -123,13 +124,19 @@ impl<'a> Walk<'a> {
     }
 
     /// What an element is assigned; the index, which holds so many values beside it, is kept meanwhile.
-    fn element_value(&mut self, beside: u32, ty: Ty, e: &Expr, end: u64) -> Result<TExpr, Refusal>
+    fn element_value(
+        &mut self,
+        beside: u32,
+        ty: Ty,
+        e: &Expr,
+        end: u64,
+    ) -> Result<Boxed<TExpr>, Refusal>
         ensures { JudgesElementValue beside ty (expression_of e.now) end self.old self.new result }
     {
         let role = Role::Assigned(Some(ty));
         let typed = judge(self.alloc, &self.scope, &mut self.used, role, e)?;
         self.hold(beside.max(typed.held + 1), end)?;
-        Ok(typed.tree.into_inner())
+        Ok(typed.tree)
     }
 
     /// `name = value`. Refusals: `Unknown`, `NeedsIndex`, `AssignType`; those of the value; `TooDeep`, at the end.
@@ -137,7 +144,7 @@ impl<'a> Walk<'a> {
     fn set(
         &mut self,
         setting: &Setting<'_>,
-        at: Span,
+        at: StatementSpan,
         name: &Name,
         value: &Expr,
     ) -> Result<TStmt, Refusal>
@@ -147,12 +154,12 @@ impl<'a> Walk<'a> {
         match self.target(name, at.first)? {
             AssignTarget::Local(number, ty) => {
                 let value = self.whole(Role::Assigned(Some(ty)), value, end)?;
-                Ok(TStmt::SetLocal(number, Some(value)))
+                Ok(TStmt::SetLocal(number, Some(value.into_inner())))
             }
             AssignTarget::Variable(number, reference, ty) => {
                 self.note(number)?;
                 let value = self.whole(Role::Assigned(Some(ty)), value, end)?;
-                Ok(TStmt::SetVar(reference, value))
+                Ok(TStmt::SetVar(reference, value.into_inner()))
             }
         }
     }
@@ -163,7 +170,7 @@ impl<'a> Walk<'a> {
     fn set_element(
         &mut self,
         setting: &Setting<'_>,
-        at: Span,
+        at: StatementSpan,
         name: &Name,
         index: &Expr,
         value: &Expr,
@@ -176,20 +183,16 @@ impl<'a> Walk<'a> {
         let index = self.index(at, index)?;
         let value = self.element_value(index.held, array.ty, value, end)?;
         let line = bracket_line(setting.lines, at.first);
-        Ok(TStmt::SetElem(
-            array.reference,
-            array.size,
-            line,
-            index.tree.into_inner(),
-            value,
-        ))
+        let index = index.tree.into_inner();
+        let value = value.into_inner();
+        Ok(TStmt::SetElem(array.reference, array.size, line, index, value))
     }
 
     /// `name = value`, or `name[index] = value`.
     pub fn assign(
         &mut self,
         setting: &Setting<'_>,
-        at: Span,
+        at: StatementSpan,
         name: &Name,
         index: &Option<Expr>,
         value: &Expr,

@@ -14,6 +14,17 @@ use crate::rule::Rule;
 use crate::statement_walk::Walk;
 use pw_base::{Limits, NoMemory};
 use pw_tree::{Expr, TExpr};
+use sqlite_items::Boxed;
+
+/// A tree out of its box, where there is one.
+pub(crate) fn unboxed(tree: Option<Boxed<TExpr>>) -> Option<TExpr>
+    ensures { result ≡ tree }
+{
+    match tree {
+        Some(tree) => Some(tree.into_inner()),
+        None => None,
+    }
+}
 
 impl<'a> Walk<'a> {
     /// An expression holds so many values. Refusal: `TooDeep`.
@@ -28,17 +39,17 @@ impl<'a> Walk<'a> {
     }
 
     /// The typed tree of an expression with nothing round it; where it holds too many values, this is the token to blame.
-    pub fn whole(&mut self, role: Role, e: &Expr, end: u64) -> Result<TExpr, Refusal>
+    pub fn whole(&mut self, role: Role, e: &Expr, end: u64) -> Result<Boxed<TExpr>, Refusal>
         requires { role ≢ Role.Base }
         ensures { JudgesWhole role (expression_of e.now) end self.old self.new result }
     {
         let typed = judge(self.alloc, &self.scope, &mut self.used, role, e)?;
         self.hold(typed.held, end)?;
-        Ok(typed.tree.into_inner())
+        Ok(typed.tree)
     }
 
     /// The typed tree of a whole expression of a statement.
-    pub fn value(&mut self, role: Role, e: &Expr) -> Result<TExpr, Refusal>
+    pub fn value(&mut self, role: Role, e: &Expr) -> Result<Boxed<TExpr>, Refusal>
         requires { role ≢ Role.Base }
         ensures { JudgesValue role (expression_of e.now) self.old self.new result }
     {
@@ -46,7 +57,11 @@ impl<'a> Walk<'a> {
     }
 
     /// The same where there is one.
-    pub fn maybe_value(&mut self, role: Role, e: &Option<Expr>) -> Result<Option<TExpr>, Refusal>
+    pub fn maybe_value(
+        &mut self,
+        role: Role,
+        e: &Option<Expr>,
+    ) -> Result<Option<Boxed<TExpr>>, Refusal>
         requires { role ≢ Role.Base }
         ensures { JudgesMaybeValue role (option_map expression_of e.now) self.old self.new result }
     {

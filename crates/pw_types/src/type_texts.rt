@@ -26,7 +26,7 @@ fn letter_of(ty: Ty) -> u8
 }
 
 /// The text of a function's type.
-#[tactic(auto, unfolding(crate::specs::Steps::Texts::AreValueTypes))]
+#[tactic(auto, unfolding(pw_tree::specs::Types::AreValueTypes))]
 fn text_of_function(alloc: Global, sig: &Sig) -> Result<Items<u8>, NoMemory>
     requires { HasText (kinds.Function sig.now) }
     ensures { IfOk result (λ text. text ≡ texts.text_of_function sig.now) }

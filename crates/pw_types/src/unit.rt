@@ -4,7 +4,7 @@ ghost use Rattle.pw_tree.specs.Declarations.{declaration_of, untyped_unit_of};
 ghost use Rattle.pw_tree.specs.Placed.{HaveTypes, IsParsed};
 ghost use Rattle.pw_tree.specs.Units.{unit_of};
 ghost use Rattle.pw_types.specs.Units as spec;
-ghost use Rattle.pw_types.specs.Steps.CheckingUnits.{IsAll};
+ghost use Rattle.pw_types.specs.Steps.CheckingUnits.{IsAll, IsDeclared, faults_at_end, names_in};
 ghost use Rattle.pw_types.specs.Steps.Refusals.{Judges};
 
 use crate::declared::is_extern;
@@ -17,7 +17,8 @@ use crate::progress::Progress;
 use crate::refuse::refuse_name_if;
 use crate::rule::Rule;
 use pw_base::NoMemory;
-use pw_tree::{Decl, DeclKind, TUnit, Unit};
+use pw_tree::{Decl, DeclKind, Ext, TUnit, Unit};
+use sqlite_items::Items;
 use std::alloc::Global;
 
 /// The names of the functions that these declarations define.
@@ -100,28 +101,45 @@ fn judge_end(alloc: Global, files: &[File], last: u32) -> Result<(), Refusal>
     }
 }
 
-/// The typed unit, or the first fault.
+/// The external names of a unit whose declarations gave this, or the fault at its last token.
 #[tactic(auto, using(crate::proofs::UnitTexts::texts_behind), unfolding(crate::specs::Steps::Texts::HaveTexts))]
-pub(crate) fn judge_unit(alloc: Global, unit: &Unit) -> Result<TUnit, Refusal>
-    requires { IsParsed (untyped_unit_of unit.now) }
+fn judge_names(alloc: Global, unit: &Unit, progress: &Progress) -> Result<Items<Ext>, Refusal>
+    requires parsed { IsParsed (untyped_unit_of unit.now) }
+    requires declared { IsDeclared (untyped_unit_of unit.now) progress.now }
+    ensures { Judges (faults_at_end (untyped_unit_of unit.now)) (λ names. names ≡ names_in (untyped_unit_of unit.now)) result }
+{
+    let files = progress.files.as_slice();
+    judge_end(alloc, files, unit.lines.len().saturating_sub(1) as u32)?;
+    Ok(external_names(alloc, &progress.used, files)?)
+}
+
+/// The typed unit whose declarations gave this, or the fault at its last token.
+fn judge_rest(alloc: Global, unit: &Unit, progress: Progress) -> Result<TUnit, Refusal>
+    requires parsed { IsParsed (untyped_unit_of unit.now) }
+    requires declared { IsDeclared (untyped_unit_of unit.now) progress }
     ensures { Judges (spec.faults_of (untyped_unit_of unit.now)) (λ typed. unit_of typed ≡ spec.typed_unit (untyped_unit_of unit.now)) result }
 {
-    let decls = unit.decls.as_slice();
-    let lines = unit.lines.as_slice();
-    let functions = functions_of(alloc, decls)?;
-    let variables = variables_of(alloc, decls)?;
-    let whole = Whole {
-        functions: &functions,
-        variables: &variables,
-        lines,
-    };
-    let progress = judge_declarations(alloc, &whole, decls)?;
-    let files = progress.files.as_slice();
-    judge_end(alloc, files, lines.len().saturating_sub(1) as u32)?;
-    let names = external_names(alloc, &progress.used, files)?;
+    let names = judge_names(alloc, unit, &progress)?;
     Ok(TUnit {
         funs: progress.functions,
         vars: progress.variables,
         names,
     })
+}
+
+/// The typed unit, or the first fault.
+pub(crate) fn judge_unit(alloc: Global, unit: &Unit) -> Result<TUnit, Refusal>
+    requires { IsParsed (untyped_unit_of unit.now) }
+    ensures { Judges (spec.faults_of (untyped_unit_of unit.now)) (λ typed. unit_of typed ≡ spec.typed_unit (untyped_unit_of unit.now)) result }
+{
+    let decls = unit.decls.as_slice();
+    let functions = functions_of(alloc, decls)?;
+    let variables = variables_of(alloc, decls)?;
+    let whole = Whole {
+        functions: &functions,
+        variables: &variables,
+        lines: unit.lines.as_slice(),
+    };
+    let progress = judge_declarations(alloc, &whole, decls)?;
+    judge_rest(alloc, unit, progress)
 }

@@ -12,7 +12,7 @@ use Rattle.pw_types.specs.declared.fault.Fault.{Fault}
 use Rattle.pw_types.specs.declared.fault.Refusal.{Refusal}
 use Rattle.pw_types.specs.declared.fault.Refusal.TheVariants as refusals
 use Rattle.pw_types.specs.declared.statement_walk.Walk.{Walk}
-use Rattle.pw_types.specs.declared.statement_step.Span.{Span}
+use Rattle.pw_types.specs.declared.statement_step.StatementSpan.{StatementSpan}
 use Rattle.pw_types.specs.declared.statement_step.Setting.{Setting as Given}
 use Rattle.pw_types.specs.declared.statement_step.Outer.{Outer}
 use Rattle.pw_types.specs.declared.statement_step.StatementFrame.{StatementFrame}
@@ -165,7 +165,7 @@ resume (f ∷ fs) w = resume fs (resumed f w)
 
 -- ---- what judging answers
 
-abbrev pub place_of : Span → Span
+abbrev pub place_of : StatementSpan → Span
 place_of at = record { first = at.first; last = at.last; line = at.line }
 
 abbrev pub block_of : Walk → Block
@@ -216,10 +216,11 @@ abbrev pub Steps : WalkResult → Walk → Result StatementStep Refusal → Type
 Steps w new (Ok step) = Leads w new step
 Steps w new (Err stop) = Fails w.faults stop
 
--- a statement that is judged as a whole
-abbrev pub done : Result TStmt Refusal → Result StatementStep Refusal
-done (Ok t) = Ok (steps.Done t)
-done (Err stop) = Err stop
+-- a statement that is judged as a whole leaves nothing to be done; out of memory may come in its place
+abbrev pub IsWhole : Result TStmt Refusal → Result StatementStep Refusal → Type 0
+IsWhole (Ok t) (Ok step) = step ≡ steps.Done t
+IsWhole (Ok t) (Err stop) = stop ≡ refusals.NoMemory
+IsWhole (Err stop) result = result ≡ Err stop
 
 -- ---- statements in a row
 

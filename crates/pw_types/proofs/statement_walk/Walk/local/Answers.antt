@@ -9,5 +9,5 @@ pub returns : goal.returns
 returns c =
     let free : faults_of_name (block_of c.args.self.now) c.args.name.now (local_name_at (place_of c.args.at) c.args.ty) ≡ [] =
     ap (faults_of_name (block_of c.args.self.now) c.args.name.now) (sym c.local_name_at.ensures) ∙ c.in_ok-declarable.ensures.0 in
-    declares_local c.args.setting.now c.args.self.now c.maybe_value.new.self c.declare.new.self (place_of c.args.at) c.args.ty c.args.name.now _
-    c.in_ok-value.value c.in_ok-number.number free c.in_ok-value.ensures.0 c.in_ok-value.ensures.1 c.in_ok-number.ensures
+    rw c.unboxed.ensures (declares_local c.args.setting.now c.args.self.now c.maybe_value.new.self c.declare.new.self (place_of c.args.at) c.args.ty c.args.name.now _
+    c.in_ok-value.value c.in_ok-number.number free c.in_ok-value.ensures.0 c.in_ok-value.ensures.1 c.in_ok-number.ensures)

@@ -19,4 +19,4 @@ row-preserved c =
     c.row.invariant
     ∙ (ap (λ (ss : Statements). sequence_at c.args.setting.now c.row.self c.row.done ss) parts
     ∙ one_less c.args.setting.now c.row.self c.statement.new.self c.row.done c.push.new.items c.in_ok-command.command (statement_of c.stmt-item.result) _
-    c.in_ok-command.ensures c.in_ok-push.ensures)
+    c.in_ok-command.ensures (rw c.into_inner.ensures at c.in_ok-push.ensures))
