@@ -44,7 +44,8 @@ unfoldable mutual
   IsPlaced low high (binary at op l r) = IsWithin low high at × IsPlaced at.first at.last l × IsPlaced (suc (behind l)) at.last r
   IsPlaced low high (conditional at c a b) =
       IsWithin low high at × IsPlaced at.first at.last c × IsPlaced (suc (behind c)) at.last a × IsPlaced (suc (behind a)) at.last b
-  IsPlaced low high (call at f es) = IsWithin low high at × IsPlaced at.first at.last f × ArePlaced (suc (behind f)) at.last es
+  IsPlaced low high (call at f es) =
+      IsWithin low high at × IsPlaced at.first at.last f × (behind f ≤ at.last) × ArePlaced (suc (behind f)) at.last es
   IsPlaced low high (index at b i) = IsWithin low high at × IsPlaced at.first at.last b × IsPlaced (suc (behind b)) at.last i
   IsPlaced low high (input at) = IsWithin low high at
   IsPlaced low high (output at e) = IsWithin low high at × IsPlaced (suc at.first) at.last e

@@ -6,6 +6,7 @@ use Rattle.pw_base.specs.Limits.{function_tokens}
 use Rattle.pw_tree.specs.declared.decl.InitItem.{InitItem}
 use Rattle.pw_tree.specs.declared.decl.InitKind.{InitKind}
 use Rattle.pw_tree.specs.declared.decl.InitKind.TheVariants.{Num, Word}
+use Rattle.pw_tree.specs.Types.{IsValueType}
 use Rattle.pw_tree.specs.Expressions.{Span, Expression, Expressions, constant, word, unary, binary, conditional, call, index, input, output}
 use Rattle.pw_tree.specs.Expressions as phrase
 use Rattle.pw_tree.specs.Statements.{Statement, Statements, OptionalStatement, empty, block, local, set, evaluate, if_else, while_loop, do_loop, for_loop, returns, breaks, continues, nil, cons, absent, present}
@@ -44,17 +45,18 @@ IsLastPart absent = ⊤
 IsLastPart (present s) = IsSimple s
 
 unfoldable mutual
-  -- A local is declared only as an item of a block, or as the first part of a `for`, whose parts are simple.
+  -- A local is declared only as an item of a block, or as the first part of a `for`, whose parts are simple; and it is not void.
   pub IsProper : Statement → Type 0
   IsProper (empty at) = ⊤
   IsProper (block at ss) = AreProper ss
-  IsProper (local at ty name e) = ⊤
+  IsProper (local at ty name e) = IsValueType ty
   IsProper (set at name i e) = ⊤
   IsProper (evaluate at e) = ⊤
   IsProper (if_else at c a b) = IsNoDeclaration a × IsNoElseDeclaration b × IsProper a × IsMaybeProper b
   IsProper (while_loop at c s) = IsNoDeclaration s × IsProper s
   IsProper (do_loop at s c) = IsNoDeclaration s × IsProper s
-  IsProper (for_loop at first c last s) = IsFirstPart first × IsLastPart last × IsNoDeclaration s × IsProper s
+  IsProper (for_loop at first c last s) =
+      IsFirstPart first × IsLastPart last × IsNoDeclaration s × IsMaybeProper first × IsProper s
   IsProper (returns at e) = ⊤
   IsProper (breaks at) = ⊤
   IsProper (continues at) = ⊤

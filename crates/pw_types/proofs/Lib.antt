@@ -42,3 +42,11 @@ pub mod Counted
 pub mod Phrases
 pub mod Words
 pub mod Resuming
+pub mod NoFaults
+pub mod Sound
+pub mod SoundExpressions
+pub mod Classes
+pub mod Fitting
+pub mod SoundStatements
+pub mod SoundShapes
+pub mod WellTyped

@@ -113,7 +113,7 @@ mutual
   parts_stand scope (call at f es) low high p =
       let f_in = placed_within f p.1 in
       stand_unless (function_of scope f) (from_parts scope Callee f _ _ p.1 (parts_stand scope f _ _ p.1)) (omega arith) f_in.to
-      (all_from (suc (end_of f)) (omega arith) (arguments_stand scope (parameters_of (callee_in scope f)) es _ _ p.2))
+      (all_from (suc (end_of f)) (omega arith) (arguments_stand scope (parameters_of (callee_in scope f)) es _ _ p.3))
   parts_stand scope (index at b i) low high p =
       before scope Base b _ _ _ (omega arith) p.1 (parts_stand scope b _ _ p.1) (before scope Value i _ _ _ (omega arith) p.2 (parts_stand scope i _ _ p.2) no_more)
   parts_stand scope (input at) low high p = no_more

@@ -1,0 +1,14 @@
+-- The typed unit of a unit without faults is well typed.
+use Rattle.std.proofs.Common.{◌≡◌, List, []}
+use Rattle.pw_tree.specs.Declarations.{UntypedUnit}
+use Rattle.pw_tree.specs.Proper.{IsRead}
+use Rattle.pw_tree.specs.WellTypedUnits.{IsWellTyped}
+use Rattle.pw_types.specs.Units.{faults_of, typed_unit}
+use Rattle.pw_types.specs.Laws.{UnitsWithoutFaultsAreWellTyped}
+use Rattle.pw_types.proofs.SoundExpressions.{sound_of}
+use Rattle.pw_types.proofs.Fitting.{parts_fit, expression_counted}
+use Rattle.pw_types.proofs.SoundStatements.{statements_sound}
+
+pub units_without_faults_are_well_typed : UnitsWithoutFaultsAreWellTyped
+units_without_faults_are_well_typed u read none =
+    let x = sound_of in let y = expression_counted in let z = statements_sound in ?
