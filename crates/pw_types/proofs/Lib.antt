@@ -49,4 +49,5 @@ pub mod Classes
 pub mod Fitting
 pub mod SoundStatements
 pub mod SoundShapes
+pub mod SoundLocals
 pub mod WellTyped

@@ -8,7 +8,8 @@ use Rattle.pw_types.specs.Laws.{UnitsWithoutFaultsAreWellTyped}
 use Rattle.pw_types.proofs.SoundExpressions.{sound_of}
 use Rattle.pw_types.proofs.Fitting.{parts_fit, expression_counted}
 use Rattle.pw_types.proofs.SoundStatements.{statements_sound}
+use Rattle.pw_types.proofs.SoundShapes.{all_counted, all_few_held}
 
 pub units_without_faults_are_well_typed : UnitsWithoutFaultsAreWellTyped
 units_without_faults_are_well_typed u read none =
-    let x = sound_of in let y = expression_counted in let z = statements_sound in ?
+    let x = all_few_held in ?
