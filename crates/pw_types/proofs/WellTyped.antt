@@ -9,7 +9,8 @@ use Rattle.pw_types.proofs.SoundExpressions.{sound_of}
 use Rattle.pw_types.proofs.Fitting.{parts_fit, expression_counted}
 use Rattle.pw_types.proofs.SoundStatements.{statements_sound}
 use Rattle.pw_types.proofs.SoundShapes.{all_counted, all_few_held}
+use Rattle.pw_types.proofs.SoundLocals.{all_flow}
 
 pub units_without_faults_are_well_typed : UnitsWithoutFaultsAreWellTyped
 units_without_faults_are_well_typed u read none =
-    let x = all_few_held in ?
+    let x = all_flow in ?
