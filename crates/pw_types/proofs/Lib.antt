@@ -50,4 +50,6 @@ pub mod Fitting
 pub mod SoundStatements
 pub mod SoundShapes
 pub mod SoundLocals
+pub mod JoinedFiles
+pub mod NamedTexts
 pub mod WellTyped

@@ -10,7 +10,9 @@ use Rattle.pw_types.proofs.Fitting.{parts_fit, expression_counted}
 use Rattle.pw_types.proofs.SoundStatements.{statements_sound}
 use Rattle.pw_types.proofs.SoundShapes.{all_counted, all_few_held}
 use Rattle.pw_types.proofs.SoundLocals.{all_flow}
+use Rattle.pw_types.proofs.JoinedFiles.{apart}
+use Rattle.pw_types.proofs.NamedTexts.{text_of_name}
 
 pub units_without_faults_are_well_typed : UnitsWithoutFaultsAreWellTyped
 units_without_faults_are_well_typed u read none =
-    let x = all_flow in ?
+    let x = apart in let y = text_of_name in ?
