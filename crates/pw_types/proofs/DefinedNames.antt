@@ -24,19 +24,33 @@ use Rattle.pw_types.proofs.JoinedFiles.{bytes_same, bytes_itself, bytes_turned, 
 
 -- ---- what a declaration without faults does
 
-pub record NoFaultOf (files : List File) (d : Declaration) : Type 0 where
+pub record NoFaultOf (w : Whole) (files : List File) (elements : ℕ) (d : Declaration) : Type 0 where
   pub agrees : conflicts d (file_named d.name files) ≡ false
   pub first : is_redefined d (file_named d.name files) ≡ false
+  pub params : faults_of_parameters (is_definition_of_function d.form) [] (parameters_in d.form) ≡ []
+  pub large : is_too_large elements d ≡ false
+  pub form : faults_of_form w.lines (file_scope w (declared_by d files)) d.form ≡ []
 
-pub declares_well : (w : Whole) (files : List File) (elements : ℕ) (d : Declaration) → faults_of_declaration w files elements d ≡ [] → NoFaultOf files d
+pub declares_well : (w : Whole) (files : List File) (elements : ℕ) (d : Declaration) → faults_of_declaration w files elements d ≡ [] → NoFaultOf w files elements d
 unfolding faults_of_declaration
 declares_well w files elements d none =
-    let b = back_empty _ _ none in
-    let c = back_empty _ _ b in
-    let e = back_empty _ _ c in
+    let redeclared = broken_by rules.Redeclared d.name_at d.name (is_redefined d (file_named d.name files)) in
+    let reserved = broken_by rules.Reserved d.name_at d.name (is_reserved d.name) in
+    let params = faults_of_parameters (is_definition_of_function d.form) [] (parameters_in d.form) in
+    let conflict = broken_by rules.Conflict d.declarator d.name (conflicts d (file_named d.name files)) in
+    let large = broken rules.ArraySize d.declarator (is_too_large elements d) in
+    let form = faults_of_form w.lines (file_scope w (declared_by d files)) d.form in
+    let b : reserved ++ (params ++ (conflict ++ (large ++ form))) ≡ [] = back_empty redeclared _ none in
+    let c : params ++ (conflict ++ (large ++ form)) ≡ [] = back_empty reserved _ b in
+    let e : conflict ++ (large ++ form) ≡ [] = back_empty params _ c in
+    let f : large ++ form ≡ [] = back_empty conflict _ e in
     record {
-      agrees = not_broken_by _ d.declarator d.name (conflicts d (file_named d.name files)) (front_empty _ _ e);
-      first = not_broken_by _ d.name_at d.name (is_redefined d (file_named d.name files)) (front_empty _ _ none);
+      agrees = not_broken_by rules.Conflict d.declarator d.name (conflicts d (file_named d.name files)) (front_empty conflict (large ++ form) e);
+      first = not_broken_by rules.Redeclared d.name_at d.name (is_redefined d (file_named d.name files))
+          (front_empty redeclared (reserved ++ (params ++ (conflict ++ (large ++ form)))) none);
+      params = front_empty params (conflict ++ (large ++ form)) c;
+      large = not_broken rules.ArraySize d.declarator (is_too_large elements d) (front_empty large form f);
+      form = back_empty large form f;
     }
 
 -- ---- entries
@@ -97,12 +111,46 @@ or_false : (b : Bool) → b || false ≡ b
 or_false true = refl
 or_false false = refl
 
-module _ (d : Declaration) (files : List File) (good : NoFaultOf files d) where
-  now : File
+other_kind : {A : Type 0} (b : Bool) → b ≡ not b → A
+other_kind true h = cc
+other_kind false h = cc
+
+-- a static variable's declaration defines it
+static_defines : (l : Linkage) (f : DeclarationForm) → is_external l ≡ false → is_function (kind_of f) ≡ false → defines l f ≡ true
+static_defines Static (variable ty size init) h k = refl
+static_defines Static (prototype result params) h k = cc
+static_defines Static (definition result params body) h k = cc
+static_defines Plain f h k = cc
+static_defines Extern f h k = cc
+
+abbrev Lacks : List ℕ → List (List ℕ) → Type 0
+Lacks name names = AllByRecursion (λ other. bytes_eq other name ≡ false) names
+
+turned_lacks : (name : List ℕ) (names : List (List ℕ)) → Lacks name names → AllByRecursion (λ y. bytes_eq name y ≡ false) names
+turned_lacks name [] h = tt
+turned_lacks name (y ∷ ys) h = (bytes_turned name y ∙ h.0, turned_lacks name ys h.1)
+
+put_in : (x name : List ℕ) (xs ys : List (List ℕ)) → AllByRecursion (λ y. bytes_eq x y ≡ false) (xs ++ ys) → bytes_eq x name ≡ false →
+    AllByRecursion (λ y. bytes_eq x y ≡ false) (xs ++ name ∷ ys)
+put_in x name [] ys h d = (d, h)
+put_in x name (z ∷ zs) ys h d = (h.0, put_in x name zs ys h.1 d)
+
+-- one name more between two lists
+apart_between : (name : List ℕ) (xs ys : List (List ℕ)) → IsDistinct bytes_eq (xs ++ ys) → Lacks name xs → Lacks name ys →
+    IsDistinct bytes_eq (xs ++ name ∷ ys)
+unfolding IsDistinct
+apart_between name [] ys h l m = (turned_lacks name ys m, h)
+apart_between name (x ∷ xs) ys h l m = (put_in x name xs ys h.0 l.0, apart_between name xs ys h.1 l.1 m)
+
+both_lack : (name : List ℕ) (xs ys : List (List ℕ)) → Lacks name xs → Lacks name ys → Lacks name (xs ++ ys)
+both_lack name [] ys l m = m
+both_lack name (x ∷ xs) ys l m = (l.0, both_lack name xs ys l.1 m)
+
+module _ (w : Whole) (elements : ℕ) (d : Declaration) (files : List File) (good : NoFaultOf w files elements d) where
+  abbrev now : File
   now = joined_file (first_of d) (file_named d.name files)
 
   now_there : file_named d.name (declared_by d files) ≡ Some now
-  unfolding now
   now_there = named_now (first_of d) files
 
   kind_by : (o : Option File) → conflicts d o ≡ false → (joined_file (first_of d) o).kind ≡ kind_of d.form
@@ -114,11 +162,9 @@ module _ (d : Declaration) (files : List File) (good : NoFaultOf files d) where
   linkage_by (Some f) h = no_conflict_linkage d f h
 
   now_kind : now.kind ≡ kind_of d.form
-  unfolding now
   now_kind = kind_by (file_named d.name files) good.agrees
 
   now_linkage : now.external ≡ is_external d.linkage
-  unfolding now
   now_linkage = linkage_by (file_named d.name files) good.agrees
 
   defined_by : (o : Option File) → defines d.linkage d.form ≡ true → (joined_file (first_of d) o).defined ≡ true
@@ -126,7 +172,6 @@ module _ (d : Declaration) (files : List File) (good : NoFaultOf files d) where
   defined_by (Some f) h = ap (λ x. f.defined || x) h ∙ or_true f.defined
 
   now_defined : defines d.linkage d.form ≡ true → now.defined ≡ true
-  unfolding now
   now_defined h = defined_by (file_named d.name files) h
 
   -- where this declaration defines nothing, it was defined before
@@ -139,34 +184,34 @@ module _ (d : Declaration) (files : List File) (good : NoFaultOf files d) where
 
   defined_before : (o : Option File) → file_named d.name files ≡ o → conflicts d o ≡ false → defines d.linkage d.form ≡ false →
       (joined_file (first_of d) o).defined ≡ true → WasDefined
-  defined_before None is h no t = cc
-  defined_before (Some f) is h no t = record {
+  defined_before None is h lacking t = cc
+  defined_before (Some f) is h lacking t = record {
     old = f;
     there = is;
-    defined = sym (or_false f.defined) ∙ sym (ap (λ x. f.defined || x) no) ∙ t;
+    defined = sym (or_false f.defined) ∙ sym (ap (λ x. f.defined || x) lacking) ∙ t;
     kind = no_conflict_kind d f h;
     linkage = no_conflict_linkage d f h;
   }
 
   -- where it defines, it was not defined before
   undefined_by : (o : Option File) (f : File) → o ≡ Some f → is_redefined d o ≡ false → defines d.linkage d.form ≡ true → f.defined ≡ false
-  undefined_by None f is h yes = cc
-  undefined_by (Some g) f is h yes =
+  undefined_by None f is h does = cc
+  undefined_by (Some g) f is h does =
       let e : g ≡ f = cc in
-      subst (λ (x : File). x.defined ≡ false) e (sym (ap (λ x. x && g.defined) yes) ∙ h)
+      subst (λ (x : File). x.defined ≡ false) e (sym (ap (λ x. x && g.defined) does) ∙ h)
 
   lacks_by : {A : Type 0} (g : File) → bytes_eq g.name d.name ≡ true → StandsIn files g → defines d.linkage d.form ≡ true → A
-  lacks_by g same s yes =
+  lacks_by g same s does =
       let there : file_named d.name files ≡ Some s.file = subst (λ n. file_named n files ≡ Some s.file) (bytes_same g.name d.name same) s.there in
-      let no : s.file.defined ≡ false = undefined_by (file_named d.name files) s.file there good.first yes in
-      let c : true ≡ false = sym s.defined ∙ no in cc
+      let lacking : s.file.defined ≡ false = undefined_by (file_named d.name files) s.file there good.first does in
+      let c : true ≡ false = sym s.defined ∙ lacking in cc
 
   -- so no definition has its name
   lacks : (entries : List File) → AllByRecursion (StandsIn files) entries → defines d.linkage d.form ≡ true → file_named d.name entries ≡ None
-  lacks [] h yes = refl
-  lacks (g ∷ gs) h yes = elim (cases_Bool (bytes_eq g.name d.name)) [
-    | inl same ↦ lacks_by g same h.0 yes
-    | inr other ↦ ap (λ b. cond b (Some g) (file_named d.name gs)) other ∙ lacks gs h.1 yes
+  lacks [] h does = refl
+  lacks (g ∷ gs) h does = elim (cases_Bool (bytes_eq g.name d.name)) [
+    | inl same ↦ lacks_by g same h.0 does
+    | inr other ↦ ap (λ b. cond b (Some g) (file_named d.name gs)) other ∙ lacks gs h.1 does
   ]
 
   -- definitions stand further
@@ -187,18 +232,18 @@ module _ (d : Declaration) (files : List File) (good : NoFaultOf files d) where
 
   -- and this one stands
   stands_now : defines d.linkage d.form ≡ true → StandsIn (declared_by d files) (first_of d)
-  stands_now yes = record {
+  stands_now does = record {
     file = now;
     there = now_there;
-    defined = now_defined yes;
+    defined = now_defined does;
     kind = sym now_kind;
     linkage = sym now_linkage;
   }
 
   all_stand_now : (entries : List File) → AllByRecursion (StandsIn files) entries → defines d.linkage d.form ≡ true →
       AllByRecursion (StandsIn (declared_by d files)) (entries ++ first_of d ∷ [])
-  all_stand_now [] h yes = (stands_now yes, tt)
-  all_stand_now (g ∷ gs) h yes = (stands_later g h.0, all_stand_now gs h.1 yes)
+  all_stand_now [] h does = (stands_now does, tt)
+  all_stand_now (g ∷ gs) h does = (stands_later g h.0, all_stand_now gs h.1 does)
 
   -- a file that stands under the declared name is the one that the declaration left
   is_now : (name : List ℕ) (f : File) → bytes_eq d.name name ≡ true → file_named name (declared_by d files) ≡ Some f → now ≡ f
@@ -214,9 +259,8 @@ module _ (d : Declaration) (files : List File) (good : NoFaultOf files d) where
   -- where no definition of such a kind is added
   found_before_now : (b : Bool) (entries : List File) (name : List ℕ) → AreFound b files entries → bytes_eq d.name name ≡ true →
       defines d.linkage d.form ≡ false → now.defined ≡ true → is_function now.kind ≡ b → FoundIn name entries now
-  unfolding now
-  found_before_now b entries name found same no defined kind =
-      let w = defined_before (file_named d.name files) refl good.agrees no defined in
+  found_before_now b entries name found same lacking defined kind =
+      let w = defined_before (file_named d.name files) refl good.agrees lacking defined in
       let r = found d.name w.old w.there w.defined (ap is_function (w.kind ∙ sym now_kind) ∙ kind) in
       record {
         entry = r.entry;
@@ -235,7 +279,7 @@ module _ (d : Declaration) (files : List File) (good : NoFaultOf files d) where
       AreFound b (declared_by d files) entries
   found_kept b entries found why name f there defined kind = elim (cases_Bool (bytes_eq d.name name)) [
     | inl same ↦ elim why [
-      | inl no ↦ is_now_found b entries name f (is_now name f same there) (found_before_now b entries name found same no) defined kind
+      | inl lacking ↦ is_now_found b entries name f (is_now name f same there) (found_before_now b entries name found same lacking) defined kind
       | inr other ↦ is_now_found b entries name f (is_now name f same there) (λ x y. other_kind b (sym y ∙ ap is_function now_kind ∙ other)) defined kind
     ]
     | inr other ↦ found name f (is_old name f other there) defined kind
@@ -244,11 +288,11 @@ module _ (d : Declaration) (files : List File) (good : NoFaultOf files d) where
   -- where this declaration adds one
   found_added : (b : Bool) (entries : List File) → AreFound b files entries → AllByRecursion (StandsIn files) entries → defines d.linkage d.form ≡ true →
       AreFound b (declared_by d files) (entries ++ first_of d ∷ [])
-  found_added b entries found stand yes name f there defined kind = elim (cases_Bool (bytes_eq d.name name)) [
+  found_added b entries found stand does name f there defined kind = elim (cases_Bool (bytes_eq d.name name)) [
     | inl same ↦ is_now_found b (entries ++ first_of d ∷ []) name f (is_now name f same there) (λ x y. record {
         entry = first_of d;
         there = subst (λ n. file_named n (entries ++ first_of d ∷ []) ≡ Some (first_of d)) (bytes_same d.name name same)
-            (find_last d.name entries (first_of d) (lacks entries stand yes) ∙ ap (λ b. cond b (Some (first_of d)) None) (bytes_itself d.name));
+            (find_last d.name entries (first_of d) (lacks entries stand does) ∙ ap (λ b. cond b (Some (first_of d)) None) (bytes_itself d.name));
         kind = sym now_kind;
         linkage = sym now_linkage;
       }) defined kind
@@ -257,3 +301,105 @@ module _ (d : Declaration) (files : List File) (good : NoFaultOf files d) where
     where
       later : FoundIn name entries f → FoundIn name (entries ++ first_of d ∷ []) f
       later r = record { entry = r.entry; there = find_before name entries (first_of d) r.entry r.there; kind = r.kind; linkage = r.linkage }
+
+  statics_later : ((name : List ℕ) (f : File) → file_named name files ≡ Some f → f.external ≡ false → is_function f.kind ≡ false → f.defined ≡ true) →
+      (name : List ℕ) (f : File) → file_named name (declared_by d files) ≡ Some f → f.external ≡ false → is_function f.kind ≡ false → f.defined ≡ true
+  statics_later old name f there external kind = elim (cases_Bool (bytes_eq d.name name)) [
+    | inl same ↦
+        let e : now ≡ f = is_now name f same there in
+        let static : is_external d.linkage ≡ false = sym now_linkage ∙ subst (λ (x : File). x.external ≡ false) (sym e) external in
+        let no_function : is_function (kind_of d.form) ≡ false =
+        sym (ap is_function now_kind) ∙ subst (λ (x : File). is_function x.kind ≡ false) (sym e) kind in
+        subst (λ (x : File). x.defined ≡ true) e (now_defined (static_defines d.linkage d.form static no_function))
+    | inr other ↦ old name f (is_old name f other there) external kind
+  ]
+
+  module _ (functions variables : List File) (a : AreDefined files functions variables) where
+    -- nothing is added
+    adds_none : defines d.linkage d.form ≡ false → AreDefined (declared_by d files) functions variables
+    adds_none lacking = record {
+      apart = a.apart;
+      functions_stand = all_stand_later functions a.functions_stand;
+      variables_stand = all_stand_later variables a.variables_stand;
+      functions_found = found_kept true functions a.functions_found (inl lacking);
+      variables_found = found_kept false variables a.variables_found (inl lacking);
+      statics = statics_later a.statics;
+    }
+
+    adds_function : defines d.linkage d.form ≡ true → is_function (kind_of d.form) ≡ true →
+        AreDefined (declared_by d files) (functions ++ first_of d ∷ []) variables
+    adds_function does is = record {
+      apart = subst (λ l. IsDistinct bytes_eq l)
+          (sym (ap (λ l. l ++ names_of variables) (names_append functions (first_of d)) ∙ append_assoc (names_of functions) (d.name ∷ []) (names_of variables)))
+          (apart_between d.name (names_of functions) (names_of variables) a.apart
+          (all_lack d.name functions (lacks functions a.functions_stand does)) (all_lack d.name variables (lacks variables a.variables_stand does)));
+      functions_stand = all_stand_now functions a.functions_stand does;
+      variables_stand = all_stand_later variables a.variables_stand;
+      functions_found = found_added true functions a.functions_found a.functions_stand does;
+      variables_found = found_kept false variables a.variables_found (inr is);
+      statics = statics_later a.statics;
+    }
+
+    adds_variable : defines d.linkage d.form ≡ true → is_function (kind_of d.form) ≡ false →
+        AreDefined (declared_by d files) functions (variables ++ first_of d ∷ [])
+    adds_variable does is = record {
+      apart = subst (λ l. IsDistinct bytes_eq l)
+          (sym (ap (λ l. names_of functions ++ l) (names_append variables (first_of d)) ∙ sym (append_assoc (names_of functions) (names_of variables) (d.name ∷ []))))
+          (apart_last d.name (names_of functions ++ names_of variables) a.apart
+          (both_lack d.name (names_of functions) (names_of variables)
+          (all_lack d.name functions (lacks functions a.functions_stand does)) (all_lack d.name variables (lacks variables a.variables_stand does))));
+      functions_stand = all_stand_later functions a.functions_stand;
+      variables_stand = all_stand_now variables a.variables_stand does;
+      functions_found = found_kept true functions a.functions_found (inr is);
+      variables_found = found_added false variables a.variables_found a.variables_stand does;
+      statics = statics_later a.statics;
+    }
+
+    unchanged : AreDefined (declared_by d files) functions variables → AreDefined (declared_by d files) (functions ++ []) (variables ++ [])
+    unchanged h =
+        subst (λ l. AreDefined (declared_by d files) l (variables ++ [])) (sym (append-nil functions))
+        (subst (λ l. AreDefined (declared_by d files) functions l) (sym (append-nil variables)) h)
+
+    adds_by : (f : DeclarationForm) → d.form ≡ f → AreDefined (declared_by d files) (functions ++ function_entry d f) (variables ++ variable_entry d f)
+    adds_by (prototype result params) is = unchanged (adds_none (ap (defines d.linkage) is))
+    adds_by (definition result params body) is =
+        subst (λ l. AreDefined (declared_by d files) (functions ++ first_of d ∷ []) l) (sym (append-nil variables))
+        (adds_function (ap (defines d.linkage) is) (ap (λ f. is_function (kind_of f)) is))
+    adds_by (variable ty size init) is = elim (cases_Bool (is_extern d.linkage)) [
+      | inl extern ↦
+          subst (λ b. AreDefined (declared_by d files) (functions ++ []) (variables ++ (if b then [] else first_of d ∷ []))) (sym extern)
+          (unchanged (adds_none (ap (defines d.linkage) is ∙ ap not extern)))
+      | inr defined ↦
+          subst (λ b. AreDefined (declared_by d files) (functions ++ []) (variables ++ (if b then [] else first_of d ∷ []))) (sym defined)
+          (subst (λ l. AreDefined (declared_by d files) l (variables ++ first_of d ∷ [])) (sym (append-nil functions))
+          (adds_variable (ap (defines d.linkage) is ∙ ap not defined) (ap (λ f. is_function (kind_of f)) is)))
+    ]
+
+-- ---- all declarations
+
+pub all_defined : (w : Whole) (files : List File) (elements : ℕ) (ds : List Declaration) (functions variables : List File) →
+    faults_of_declarations w files elements ds ≡ [] → AreDefined files functions variables →
+    AreDefined (files_behind files ds) (functions ++ function_entries ds) (variables ++ variable_entries ds)
+unfolding faults_of_declarations files_behind
+all_defined w files elements [] functions variables none a =
+    subst (λ l. AreDefined files l (variables ++ [])) (sym (append-nil functions))
+    (subst (λ l. AreDefined files functions l) (sym (append-nil variables)) a)
+all_defined w files elements (d ∷ ds) functions variables none a =
+    let here = adds_by w elements d files (declares_well w files elements d (front_empty _ _ none)) functions variables a d.form refl in
+    let f = function_entry d d.form in
+    let v = variable_entry d d.form in
+    let later = all_defined w (declared_by d files) (elements + elements_of d) ds (functions ++ f) (variables ++ v) (back_empty _ _ none) here in
+    subst (λ l. AreDefined (files_behind (declared_by d files) ds) l (variables ++ (v ++ variable_entries ds))) (append_assoc functions f (function_entries ds))
+    (subst (λ l. AreDefined (files_behind (declared_by d files) ds) ((functions ++ f) ++ function_entries ds) l) (append_assoc variables v (variable_entries ds)) later)
+
+-- at the start there are none
+pub none_defined : AreDefined [] [] []
+unfolding IsDistinct
+none_defined = record {
+  apart = tt;
+  functions_stand = tt;
+  variables_stand = tt;
+  functions_found = λ name f there defined kind. cc;
+  variables_found = λ name f there defined kind. cc;
+  statics = λ name f there external kind. cc;
+}

@@ -52,4 +52,9 @@ pub mod SoundShapes
 pub mod SoundLocals
 pub mod JoinedFiles
 pub mod NamedTexts
+pub mod SameKinds
+pub mod DefinedNames
+pub mod FittingUnits
+pub mod FittingFunctions
+pub mod FittingVariables
 pub mod WellTyped

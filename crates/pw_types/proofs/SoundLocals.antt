@@ -50,7 +50,7 @@ unfoldable mutual
   types_in_all nil = []
   types_in_all (cons s ss) = types_in s ++ types_in_all ss
 
-  types_in_maybe : OptionalStatement → List Ty
+  pub types_in_maybe : OptionalStatement → List Ty
   types_in_maybe absent = []
   types_in_maybe (present s) = types_in s
 
@@ -88,12 +88,12 @@ unfoldable pub HaveClasses : List Class → ℕ → List Ty → Type 0
 HaveClasses classes n [] = ⊤
 HaveClasses classes n (ty ∷ tys) = (slice_get classes n ≡ Some (class_of ty)) × HaveClasses classes (suc n) tys
 
-have_left : (classes : List Class) (n : ℕ) (xs ys : List Ty) → HaveClasses classes n (xs ++ ys) → HaveClasses classes n xs
+pub have_left : (classes : List Class) (n : ℕ) (xs ys : List Ty) → HaveClasses classes n (xs ++ ys) → HaveClasses classes n xs
 unfolding HaveClasses
 have_left classes n [] ys h = tt
 have_left classes n (x ∷ xs) ys h = (h.0, have_left classes (suc n) xs ys h.1)
 
-have_right : (classes : List Class) (n m : ℕ) (xs ys : List Ty) → m ≡ n + length xs → HaveClasses classes n (xs ++ ys) → HaveClasses classes m ys
+pub have_right : (classes : List Class) (n m : ℕ) (xs ys : List Ty) → m ≡ n + length xs → HaveClasses classes n (xs ++ ys) → HaveClasses classes m ys
 unfolding HaveClasses
 have_right classes n m [] ys e h = subst (λ k. HaveClasses classes k ys) (let f : n ≡ m = omega arith in f) h
 have_right classes n m (x ∷ xs) ys e h = have_right classes (suc n) m xs ys (omega arith) h.1
@@ -114,7 +114,7 @@ classes_from pre (ty ∷ tys) n e = (
 
 -- ---- behind a statement
 
-count_behind : (b : Block) (s : Statement) → (behind s b).count ≡ b.count + locals_in s
+pub count_behind : (b : Block) (s : Statement) → (behind s b).count ≡ b.count + locals_in s
 unfolding locals_in
 count_behind b (empty at) = omega arith
 count_behind b (block at ss) = refl
@@ -129,7 +129,7 @@ count_behind b (returns at e) = omega arith
 count_behind b (breaks at) = omega arith
 count_behind b (continues at) = omega arith
 
-count_behind_maybe : (b : Block) (s : OptionalStatement) → (behind_maybe s b).count ≡ b.count + locals_in_maybe s
+pub count_behind_maybe : (b : Block) (s : OptionalStatement) → (behind_maybe s b).count ≡ b.count + locals_in_maybe s
 unfolding locals_in
 count_behind_maybe b absent = omega arith
 count_behind_maybe b (present s) = count_behind b s
@@ -310,7 +310,7 @@ simple_proper (returns at e) p = absurd p
 simple_proper (breaks at) p = absurd p
 simple_proper (continues at) p = absurd p
 
-last_proper : (s : OptionalStatement) → IsLastPart s → IsMaybeProper s
+pub last_proper : (s : OptionalStatement) → IsLastPart s → IsMaybeProper s
 unfolding IsProper
 last_proper absent p = tt
 last_proper (present s) p = simple_proper s p
