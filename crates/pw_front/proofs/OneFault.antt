@@ -5,7 +5,7 @@ use Rattle.pw_lex.specs.declared.error.LexError.{LexError}
 use Rattle.pw_lex.specs.declared.error.LexError.TheVariants as lex
 use Rattle.pw_lex.specs.Bytes.{Text}
 use Rattle.pw_lex.specs.Text.{line_of, place_of}
-use Rattle.pw_lex.proofs.OneWay.{one_list, one_fault as one_lex_fault, not_both}
+use Rattle.pw_lex.proofs.Exports.{one_list, one_fault as one_lex_fault, not_both}
 use Rattle.pw_grammar.specs.declared.error.SyntaxError.{SyntaxError}
 use Rattle.pw_grammar.specs.declared.error.SyntaxError.TheVariants.{At, TooNested, TooLong}
 use Rattle.pw_grammar.specs.declared.error.SyntaxError.TheVariants as syntax

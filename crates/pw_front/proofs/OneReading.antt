@@ -3,11 +3,11 @@ use Rattle.std.proofs.Common.{◌≡◌, ℕ, List, [], ◌∷◌, Option, Some,
 use Rattle.pw_base.specs.declared.pos.Pos.{Pos}
 use Rattle.pw_lex.specs.declared.error.LexError.{LexError}
 use Rattle.pw_lex.specs.Bytes.{Text}
-use Rattle.pw_lex.proofs.OneWay.{one_list, not_both}
+use Rattle.pw_lex.proofs.Exports.{one_list, not_both}
 use Rattle.pw_grammar.specs.declared.error.SyntaxError.{SyntaxError}
 use Rattle.pw_grammar.specs.Declarations.{Derives}
-use Rattle.pw_grammar.proofs.Known.{one_tree}
-use Rattle.pw_parse.specs.Whole.{IsFaultless}
+use Rattle.pw_grammar.proofs.Exports.{one_tree}
+use Rattle.pw_grammar.specs.Faults.{IsFaultless}
 use Rattle.pw_tree.specs.declared.decl.Unit.{Unit}
 use Rattle.pw_tree.specs.declared.tunit.TUnit.{TUnit}
 use Rattle.pw_tree.specs.Declarations.{untyped_unit_of}

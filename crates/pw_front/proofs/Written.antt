@@ -1,8 +1,8 @@
 -- The unit of a text stands in its tokens, and its functions weigh no more than its bytes.
 use Rattle.std.proofs.Common.{◌<◌, ◌≤◌, ◌^◌, [], length, sum_by, subst, sym, arith}
 use Rattle.pw_lex.specs.Bytes.{Text}
-use Rattle.pw_grammar.proofs.Weighed.{units_are_no_longer}
-use Rattle.pw_grammar.proofs.Written.{trees_are_written}
+use Rattle.pw_grammar.proofs.Exports.{units_are_no_longer}
+use Rattle.pw_grammar.proofs.Exports.{trees_are_written}
 use Rattle.pw_tree.specs.declared.decl.Unit.{Unit}
 use Rattle.pw_tree.specs.declared.tunit.TUnit.{TUnit}
 use Rattle.pw_tree.specs.Declarations.{declarations_of, untyped_unit_of}

@@ -10,8 +10,8 @@ use Rattle.pw_lex.specs.Text.{HasTokens, HasFault, is_newline, line_of, place_of
 use Rattle.pw_grammar.specs.declared.error.SyntaxError.{SyntaxError}
 use Rattle.pw_grammar.specs.declared.error.SyntaxError.TheVariants as syntax
 use Rattle.pw_grammar.specs.Declarations.{Derives}
-use Rattle.pw_grammar.specs.Faults.{IsFirstFault, token_of}
-use Rattle.pw_parse.specs.Whole.{IsFaultless, fault_line_of as line_of_token}
+use Rattle.pw_grammar.specs.Faults.{IsFaultless, IsFirstFault, token_of}
+use Rattle.pw_parse.specs.Whole.{fault_line_of as line_of_token}
 use Rattle.pw_tree.specs.declared.decl.Unit.{Unit}
 use Rattle.pw_tree.specs.declared.tunit.TUnit.{TUnit}
 use Rattle.pw_tree.specs.Declarations.{untyped_unit_of}

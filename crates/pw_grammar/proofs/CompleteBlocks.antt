@@ -7,9 +7,9 @@ use Rattle.pw_grammar.specs.Terminals.{sort, first_sort, is_same}
 use Rattle.pw_grammar.specs.Expressions.{spelled}
 use Rattle.pw_grammar.specs.Statements as st
 use Rattle.pw_grammar.specs.Statements.{StatementDerivation, StatementDerivations, empty, block, declare, simple, if_only, if_else, while_do, do_while, for_do, leave, jump, nil, cons, spelled_statement, spelled_statements, IsStatement, AreStatements, open_ended, kind_of, tree_of_statement, trees_of_statements, spelled_simple, spelled_local, jump_of}
-use Rattle.pw_grammar.specs.Steps.{Position, Parser, ◌>>=◌, pure, next_sort}
-use Rattle.pw_grammar.specs.ReadingExpressions.{expression}
-use Rattle.pw_grammar.specs.ReadingStatements as r
+use Rattle.pw_grammar.specs.Reading.Steps.{Position, Parser, ◌>>=◌, pure, next_sort}
+use Rattle.pw_grammar.specs.Reading.Expressions.{expression}
+use Rattle.pw_grammar.specs.Reading.Statements as r
 use Rattle.pw_grammar.proofs.CompleteTokens.{spot, then_, counted, done, valued, step_skip, step_expect, either_this, either_other, parted, told_apart, line_of_front, fits, node_is, ReadsExpressions}
 use Rattle.pw_grammar.proofs.CompleteTypes.{reads_local, local_begins}
 use Rattle.pw_grammar.proofs.Lengths.{statement_length}
@@ -238,18 +238,18 @@ mutual
   reads_statement e (suc n) (if_only t o a c y) at ts is other short =
       reads_whole (expression (suc n)) (r.statement n) (suc n) (if_only t o a c y) at ts s.If is is.0
       (reads_if_only (suc n) (expression (suc n)) (r.statement n) (e (suc n)) at t o a c y ts is.1 is.2 is.3 (other refl) short
-      (reads_statement e n y (st.behind_test at a) ts is.4 (λ p. other refl) (tested_fits t o (spelled a) c (spelled_statement y) ts n short)))
+      (reads_statement e n y (st.after_test at a) ts is.4 (λ p. other refl) (tested_fits t o (spelled a) c (spelled_statement y) ts n short)))
   reads_statement e (suc n) (if_else t o a c y x z) at ts is other short =
       reads_whole (expression (suc n)) (r.statement n) (suc n) (if_else t o a c y x z) at ts s.If is is.0
       (reads_if_else (suc n) (expression (suc n)) (r.statement n) (e (suc n)) at t o a c y x z ts is.1 is.2 is.3 is.6 short
-      (reads_statement e n y (st.behind_test at a) (x ∷ (spelled_statement z ++ ts)) is.4 (λ p. false_no_true (open_ended y) is.5 p)
+      (reads_statement e n y (st.after_test at a) (x ∷ (spelled_statement z ++ ts)) is.4 (λ p. false_no_true (open_ended y) is.5 p)
       (else_fits t o (spelled a) c (spelled_statement y) x (spelled_statement z) ts n short).0)
-      (reads_statement e n z (st.behind_part (st.behind_test at a) y) ts is.7 other
+      (reads_statement e n z (st.after_part (st.after_test at a) y) ts is.7 other
       (else_fits t o (spelled a) c (spelled_statement y) x (spelled_statement z) ts n short).1))
   reads_statement e (suc n) (while_do t o a c y) at ts is other short =
       reads_whole (expression (suc n)) (r.statement n) (suc n) (while_do t o a c y) at ts s.While is is.0
       (reads_while (suc n) (expression (suc n)) (r.statement n) (e (suc n)) at t o a c y ts is.1 is.2 is.3 short
-      (reads_statement e n y (st.behind_test at a) ts is.4 other (tested_fits t o (spelled a) c (spelled_statement y) ts n short)))
+      (reads_statement e n y (st.after_test at a) ts is.4 other (tested_fits t o (spelled a) c (spelled_statement y) ts n short)))
   reads_statement e (suc n) (do_while t y w o a c x) at ts is other short =
       reads_whole (expression (suc n)) (r.statement n) (suc n) (do_while t y w o a c x) at ts s.Do is is.0
       (reads_do (suc n) (expression (suc n)) (r.statement n) (e (suc n)) at t y w o a c x ts is.2 is.3 is.4 is.5 is.6 short
@@ -258,7 +258,7 @@ mutual
   reads_statement e (suc n) (for_do t o start a x step c y) at ts is other short =
       reads_whole (expression (suc n)) (r.statement n) (suc n) (for_do t o start a x step c y) at ts s.For is is.0
       (reads_for (suc n) (expression (suc n)) (r.statement n) (e (suc n)) at t o start a x step c y ts is.1 is.2 is.3 is.4 is.5 is.6 short
-      (reads_statement e n y (st.behind_head at start a step) ts is.7 other
+      (reads_statement e n y (st.after_head at start a step) ts is.7 other
       (head_fits t o (st.spelled_start start) (st.spelled_maybe a) x (st.spelled_step step) c (spelled_statement y) ts n short)))
   reads_statement e (suc n) (leave t a x) at ts is other short =
       reads_whole (expression (suc n)) (r.statement n) (suc n) (leave t a x) at ts s.Return is is.0

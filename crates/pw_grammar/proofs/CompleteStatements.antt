@@ -6,8 +6,8 @@ use Rattle.pw_grammar.specs.declared.sort.Sort.TheVariants as s
 use Rattle.pw_grammar.specs.Terminals.{sort, first_sort}
 use Rattle.pw_grammar.specs.Expressions.{ExpressionDerivation, spelled, IsAt, expression_tree}
 use Rattle.pw_grammar.specs.Statements as st
-use Rattle.pw_grammar.specs.Steps.{Parser, pure}
-use Rattle.pw_grammar.specs.ReadingStatements as r
+use Rattle.pw_grammar.specs.Reading.Steps.{Parser, pure}
+use Rattle.pw_grammar.specs.Reading.Statements as r
 use Rattle.pw_grammar.proofs.CompleteEnds.{ends_expression}
 use Rattle.pw_grammar.proofs.CompleteTokens.{spot, then_, done, step_skip, step_expect, either_this, either_other, parted, fits, ReadsExpressions}
 use Rattle.pw_tree.specs.declared.expr.Expr.{Expr}
@@ -41,7 +41,7 @@ tested_parts t o v c w ts = ap (λ u. t ∷ o ∷ u) (append_assoc v (c ∷ w) t
 pub reads_while : (n : ℕ) (expr : Parser Expr) (stmt : Parser Stmt) → ReadsExpressions n expr
     → (at : ℕ) (t o : Token) (a : ExpressionDerivation) (c : Token) (y : st.StatementDerivation) (ts : List Token)
     → sort o ≡ s.LeftParen → IsAt 13 a → sort c ≡ s.RightParen → length (st.spelled_statement (st.while_do t o a c y) ++ ts) < n
-    → ReadsPart stmt y (st.behind_test at a) ts
+    → ReadsPart stmt y (st.after_test at a) ts
     → r.while_loop expr stmt (spot at (st.spelled_statement (st.while_do t o a c y) ++ ts))
     ≡ Ok (st.kind_of at (st.while_do t o a c y), spot (at + length (st.spelled_statement (st.while_do t o a c y))) ts)
 unfolding r.while_loop st.spelled_statement st.kind_of
@@ -57,7 +57,7 @@ reads_while n expr stmt reads at t o a c y ts is_o is_a is_c short part =
 pub reads_if_only : (n : ℕ) (expr : Parser Expr) (stmt : Parser Stmt) → ReadsExpressions n expr
     → (at : ℕ) (t o : Token) (a : ExpressionDerivation) (c : Token) (y : st.StatementDerivation) (ts : List Token)
     → sort o ≡ s.LeftParen → IsAt 13 a → sort c ≡ s.RightParen → first_sort ts ≢ s.Else → length (st.spelled_statement (st.if_only t o a c y) ++ ts) < n
-    → ReadsPart stmt y (st.behind_test at a) ts
+    → ReadsPart stmt y (st.after_test at a) ts
     → r.conditional expr stmt (spot at (st.spelled_statement (st.if_only t o a c y) ++ ts))
     ≡ Ok (st.kind_of at (st.if_only t o a c y), spot (at + length (st.spelled_statement (st.if_only t o a c y))) ts)
 unfolding r.conditional r.maybe_else st.spelled_statement st.kind_of
@@ -69,7 +69,7 @@ reads_if_only n expr stmt reads at t o a c y ts is_o is_a is_c other short part 
     (then_ _ (step_skip at t _)
     (then_ _ (reads_test n expr reads (suc at) o a c (st.spelled_statement y ++ ts) is_o is_a is_c (omega arith))
     (then_ _ part
-    (then_ _ (either_other s.Else (r.alternative stmt) (pure None) (spot (st.behind_test at a + length (st.spelled_statement y)) ts) other)
+    (then_ _ (either_other s.Else (r.alternative stmt) (pure None) (spot (st.after_test at a + length (st.spelled_statement y)) ts) other)
     (done _ _ ts (omega (arith, length-append (spelled a) (c ∷ st.spelled_statement y))))))))
 
 else_parts : (t o : Token) (v : List Token) (c : Token) (w : List Token) (e : Token) (z ts : List Token)
@@ -79,7 +79,7 @@ else_parts t o v c w e z ts = ap (λ u. t ∷ o ∷ u) (append_assoc v (c ∷ (w
 pub reads_if_else : (n : ℕ) (expr : Parser Expr) (stmt : Parser Stmt) → ReadsExpressions n expr
     → (at : ℕ) (t o : Token) (a : ExpressionDerivation) (c : Token) (y : st.StatementDerivation) (e : Token) (z : st.StatementDerivation) (ts : List Token)
     → sort o ≡ s.LeftParen → IsAt 13 a → sort c ≡ s.RightParen → sort e ≡ s.Else → length (st.spelled_statement (st.if_else t o a c y e z) ++ ts) < n
-    → ReadsPart stmt y (st.behind_test at a) (e ∷ (st.spelled_statement z ++ ts)) → ReadsPart stmt z (st.behind_part (st.behind_test at a) y) ts
+    → ReadsPart stmt y (st.after_test at a) (e ∷ (st.spelled_statement z ++ ts)) → ReadsPart stmt z (st.after_part (st.after_test at a) y) ts
     → r.conditional expr stmt (spot at (st.spelled_statement (st.if_else t o a c y e z) ++ ts))
     ≡ Ok (st.kind_of at (st.if_else t o a c y e z), spot (at + length (st.spelled_statement (st.if_else t o a c y e z))) ts)
 unfolding r.conditional r.maybe_else r.alternative st.spelled_statement st.kind_of
@@ -92,8 +92,8 @@ reads_if_else n expr stmt reads at t o a c y e z ts is_o is_a is_c is_e short pa
     (then_ _ (step_skip at t _)
     (then_ _ (reads_test n expr reads (suc at) o a c (st.spelled_statement y ++ e ∷ (st.spelled_statement z ++ ts)) is_o is_a is_c (omega arith))
     (then_ _ part
-    (then_ _ (either_this s.Else (r.alternative stmt) (pure None) (spot (st.behind_test at a + length (st.spelled_statement y)) (e ∷ (st.spelled_statement z ++ ts))) is_e
-    ∙ then_ _ (step_skip (st.behind_test at a + length (st.spelled_statement y)) e (st.spelled_statement z ++ ts)) (then_ _ rest refl))
+    (then_ _ (either_this s.Else (r.alternative stmt) (pure None) (spot (st.after_test at a + length (st.spelled_statement y)) (e ∷ (st.spelled_statement z ++ ts))) is_e
+    ∙ then_ _ (step_skip (st.after_test at a + length (st.spelled_statement y)) e (st.spelled_statement z ++ ts)) (then_ _ rest refl))
     (done _ _ ts (omega (
       arith,
       length-append (spelled a) (c ∷ (st.spelled_statement y ++ e ∷ st.spelled_statement z)),

@@ -4,13 +4,13 @@ use Rattle.std.proofs.lemmas.List.{append-nil, append_assoc, take-append-drop, l
 use Rattle.std.proofs.lemmas.Bool.{leb-true, leb-false}
 use Rattle.pw_grammar.specs.declared.error.SyntaxError.{SyntaxError}
 use Rattle.pw_grammar.specs.declared.error.SyntaxError.TheVariants.{At, TooNested, TooLong, NoMemory}
-use Rattle.pw_grammar.specs.Declarations.{UnitDerivation, spelled_unit, IsUnit}
+use Rattle.pw_grammar.specs.Declarations.{UnitDerivation, spelled_unit, IsUnit, lines_of}
 use Rattle.pw_grammar.specs.Faults.{Begins, IsStuck, IsFault, IsFirstFault, ComesBefore, GoesOnTooLong, token_of, StandsLate}
-use Rattle.pw_grammar.specs.Limits.{first_nested, first_late, anew, Walk}
-use Rattle.pw_grammar.specs.Reading.{earlier, first_limit, up_to, judged_by, value_of, judged, parsed}
-use Rattle.pw_grammar.specs.Laws.{HasTree, Tells}
-use Rattle.pw_grammar.specs.Steps.{ReadResult}
-use Rattle.pw_grammar.specs.ReadingDeclarations.{unit}
+use Rattle.pw_grammar.specs.Reading.Limits.{first_nested, first_late, anew, Walk}
+use Rattle.pw_grammar.specs.Reading.Whole.{earlier, first_limit, up_to, judged_by, value_of, judged, parsed, Tells}
+use Rattle.pw_grammar.specs.Laws.{HasTree}
+use Rattle.pw_grammar.specs.Reading.Steps.{ReadResult}
+use Rattle.pw_grammar.specs.Reading.Declarations.{unit}
 use Rattle.pw_grammar.proofs.Lawful.{near_or_far}
 use Rattle.pw_grammar.proofs.Whole.{Knows, IsRead, IsRefused, TellsOf, from_start, reading_tells, before_or_at}
 use Rattle.pw_lex.specs.declared.token.Token.{Token}
@@ -151,8 +151,11 @@ refused_first l ts fault r none = subst (λ e. IsFirstFault ts e) (sym r.is) (re
     others (TooLong m) f = let n = late_fault l ts m f.0 f.1 in no_some (ComesBefore (At r.at) (TooLong m)) n.0 (sym none.late ∙ n.1)
     others NoMemory f = absurd f
 
-read_has_tree : (l : KnowsLimits) (ts : List Token) (ds : List Decl) → IsRead ts ds → NoLimit (first_nested 0 0 ts) (first_late (anew 0) ts) → HasTree ts ds
-read_has_tree l ts ds r none = record { phrase = r.phrase; is = r.is; spells = r.spells; trees = r.trees; no_fault = faultless }
+read_has_tree : (l : KnowsLimits) (ts : List Token) (ds : List Decl) → IsRead ts ds → NoLimit (first_nested 0 0 ts) (first_late (anew 0) ts) → HasTree ts (record { decls = ds; lines = lines_of ts })
+read_has_tree l ts ds r none = record {
+  derives = record { phrase = r.phrase; is = r.is; spells = r.spells; decls = r.trees; lines = refl };
+  no_fault = faultless;
+}
   where
     whole : Begins ts
     whole = record { phrase = r.phrase; is = r.is; rest = []; spells = r.spells ∙ sym (append-nil ts) }

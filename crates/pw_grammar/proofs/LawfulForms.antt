@@ -5,9 +5,9 @@ use Rattle.pw_grammar.specs.declared.sort.Sort.{Sort}
 use Rattle.pw_grammar.specs.declared.sort.Sort.TheVariants as s
 use Rattle.pw_grammar.specs.Terminals.{sort, is_same}
 use Rattle.pw_grammar.specs.Expressions.{ExpressionDerivation, spelled, IsAt, expression_tree}
-use Rattle.pw_grammar.specs.Statements.{spelled_simple, IsSimple, kind_of_simple, spelled_start, IsStart, tree_of_start, spelled_maybe, IsMaybe, tree_of_maybe, spelled_step, IsStep, tree_of_step, StatementDerivation, empty, block, simple, if_only, if_else, while_do, do_while, for_do, leave, jump, spelled_statement, spelled_statements, open_ended, IsStatement, AreStatements, kind_of, trees_of_statements, tree_of_statement, jump_of, behind_test}
-use Rattle.pw_grammar.specs.Steps.{Parser, sees}
-use Rattle.pw_grammar.specs.ReadingStatements as r
+use Rattle.pw_grammar.specs.Statements.{spelled_simple, IsSimple, kind_of_simple, spelled_start, IsStart, tree_of_start, spelled_maybe, IsMaybe, tree_of_maybe, spelled_step, IsStep, tree_of_step, StatementDerivation, empty, block, simple, if_only, if_else, while_do, do_while, for_do, leave, jump, spelled_statement, spelled_statements, open_ended, IsStatement, AreStatements, kind_of, trees_of_statements, tree_of_statement, jump_of, after_test}
+use Rattle.pw_grammar.specs.Reading.Steps.{Parser, sees}
+use Rattle.pw_grammar.specs.Reading.Statements as r
 use Rattle.pw_grammar.proofs.Lawful.{Language, sort_before, GoesOn, Lawful, Within, Lax, within, Seq, bind, Pure, lawful_pure}
 use Rattle.pw_grammar.proofs.Branches.{Keeps, keeps_pure, lawful_test, keeps_within, same_sorts, other_sorts}
 use Rattle.pw_grammar.proofs.Parts.{AnExpression, Then, lawful_then, keeps_then}
@@ -159,7 +159,7 @@ record Head (t o : Token) (a : ExpressionDerivation) (c : Token) (y : StatementD
 
 conditional_by : (at : ℕ) (kind : StmtKind) (u : List Token) (x : Sort) (t o : Token) (a : ExpressionDerivation) (c : Token) (y : StatementDerivation) (n : Option Stmt) (v : List Token)
     → Head t o a c y s.If → u ≡ t ∷ o ∷ (spelled a ++ c ∷ (spelled_statement y ++ v)) → (open_ended y ≡ true → sort_before v x ≢ s.Else)
-    → IsElse (behind_test at a + length (spelled_statement y)) n v x → kind ≡ k.If (expression_tree (suc (suc at)) a) (tree_of_statement (behind_test at a) y) n
+    → IsElse (after_test at a + length (spelled_statement y)) n v x → kind ≡ k.If (expression_tree (suc (suc at)) a) (tree_of_statement (after_test at a) y) n
     → IsForm at kind u x
 unfolding spelled_statement IsStatement open_ended kind_of
 conditional_by at kind u x t o a c y None v h e closed z f = record {
@@ -182,7 +182,7 @@ conditional_by at kind u x t o a c y (Some n) v h e closed z f = record {
     z.second.is,
   );
   spells = e ∙ ap (λ v. t ∷ o ∷ (spelled a ++ c ∷ (spelled_statement y ++ v))) (z.splits ∙ ap (λ v. z.token ∷ v) z.second.spells);
-  kind_is = f ∙ ap (λ n. k.If (expression_tree (suc (suc at)) a) (tree_of_statement (behind_test at a) y) (Some n)) z.second.tree;
+  kind_is = f ∙ ap (λ n. k.If (expression_tree (suc (suc at)) a) (tree_of_statement (after_test at a) y) (Some n)) z.second.tree;
   closed = z.second.closed;
 }
 
@@ -196,7 +196,7 @@ conditional_is at kind u x t =
     (record { word_is = same_sorts (sort t.token) s.If t.sort_is; left_is = a.left_is; test_is = a.is; right_is = a.right_is; body_is = y.is })
     (t.splits ∙ ap (λ v. t.token ∷ v) (a.splits ∙ ap (λ v. a.left ∷ (spelled a.phrase ++ a.right ∷ v)) (y.splits ∙ ap (λ v. spelled_statement y.phrase ++ v) same)))
     (λ e. subst (λ v. sort_before v x ≢ s.Else) same (y.closed e))
-    (subst (λ v. AnElse (behind_test at a.phrase + length (spelled_statement y.phrase)) n.value n.front (sort_before v x)) n.second.empty n.first)
+    (subst (λ v. AnElse (after_test at a.phrase + length (spelled_statement y.phrase)) n.value n.front (sort_before v x)) n.second.empty n.first)
     n.second.is
 
 pub lawful_conditional : (n : ℕ) (p q : Parser Expr) (v w : Parser Stmt) → Lawful n (AnExpression 13) p q → Lawful n (AStatement false) v w

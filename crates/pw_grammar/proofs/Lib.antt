@@ -1,4 +1,3 @@
-pub mod Words
 pub mod Lawful
 pub mod Branches
 pub mod Tokens
@@ -45,6 +44,7 @@ pub mod LawfulFunctions
 pub mod LawfulDeclarations
 pub mod LawfulUnits
 pub mod Known
+pub mod OneReading
 pub mod PlainNodes
 pub mod PlacedExpressions
 pub mod PlacedForms
@@ -54,3 +54,4 @@ pub mod PlacedDeclarations
 pub mod Typed
 pub mod Written
 pub mod Weighed
+pub mod Exports

@@ -6,7 +6,7 @@ use Rattle.pw_grammar.specs.declared.sort.Sort.{Sort}
 use Rattle.pw_grammar.specs.declared.sort.Sort.TheVariants as s
 use Rattle.pw_grammar.specs.Terminals.{sort}
 use Rattle.pw_grammar.specs.Expressions.{ExpressionDerivation, spelled}
-use Rattle.pw_grammar.specs.Statements.{TypeDerivation, word, unsigned, spelled_type, type_of, type_or, type_in, LocalDerivation, plain, spelled_local, kind_of_local, SimpleDerivation, assign, assign_element, spelled_simple, kind_of_simple, ForStartDerivation, no_start, local_start, simple_start, spelled_start, spelled_maybe, tree_of_maybe, spelled_step, StatementDerivation, block, declare, simple, if_only, while_do, do_while, for_do, leave, jump, StatementDerivations, spelled_statement, spelled_statements, statement_node, tree_of_start, tree_of_step, jump_of, kind_of, trees_of_statements, behind_test, behind_head, behind_part}
+use Rattle.pw_grammar.specs.Statements.{TypeDerivation, word, unsigned, spelled_type, type_of, type_or, type_in, LocalDerivation, plain, spelled_local, kind_of_local, SimpleDerivation, assign, assign_element, spelled_simple, kind_of_simple, ForStartDerivation, no_start, local_start, simple_start, spelled_start, spelled_maybe, tree_of_maybe, spelled_step, StatementDerivation, block, declare, simple, if_only, while_do, do_while, for_do, leave, jump, StatementDerivations, spelled_statement, spelled_statements, statement_node, tree_of_start, tree_of_step, jump_of, kind_of, trees_of_statements, after_test, after_head, after_part}
 use Rattle.pw_grammar.specs.Statements as phrase
 use Rattle.pw_grammar.proofs.PlainNodes.{statement_place, statement-Empty, statement-Block, statement-Local, statement-Set, statement-Eval, statement-If, statement-While, statement-Do, statement-For, statement-Return, statement-Break, statement-Continue}
 use Rattle.pw_grammar.proofs.PlacedExpressions.{stands}
@@ -92,20 +92,20 @@ mutual
   statement_stands at (if_only t o a c y) = by_form (statement-If at (spelled_statement (if_only t o a c y)) _ _ None)
       (stands_if false at (length (spelled a)) (length (spelled_statement y)) 0 (spelled_statement (if_only t o a c y)) _ _ _
       (omega (arith, length-append (spelled a) (c ∷ spelled_statement y))) (stands (suc (suc at)) a)
-      (statement_stands (behind_test at a) y) (no_maybe false _ 0))
+      (statement_stands (after_test at a) y) (no_maybe false _ 0))
   statement_stands at (phrase.if_else t o a c y e n) = by_form (statement-If at (spelled_statement (phrase.if_else t o a c y e n)) _ _ (Some _))
       (stands_if false at (length (spelled a)) (length (spelled_statement y)) (suc (length (spelled_statement n)))
       (spelled_statement (phrase.if_else t o a c y e n)) _ _ _
       (omega (arith, length-append (spelled a) (c ∷ (spelled_statement y ++ e ∷ spelled_statement n)), length-append (spelled_statement y) (e ∷ spelled_statement n)))
-      (stands (suc (suc at)) a) (statement_stands (behind_test at a) y)
-      (maybe_behind (behind_test at a + length (spelled_statement y)) _ _ (statement_stands (behind_part (behind_test at a) y) n)))
+      (stands (suc (suc at)) a) (statement_stands (after_test at a) y)
+      (maybe_behind (after_test at a + length (spelled_statement y)) _ _ (statement_stands (after_part (after_test at a) y) n)))
   statement_stands at (while_do t o a c y) = by_form (statement-While at (spelled_statement (while_do t o a c y)) _ _)
       (stands_while false at (length (spelled a)) (length (spelled_statement y)) (spelled_statement (while_do t o a c y)) _ _
-      (omega (arith, length-append (spelled a) (c ∷ spelled_statement y))) (stands (suc (suc at)) a) (statement_stands (behind_test at a) y))
+      (omega (arith, length-append (spelled a) (c ∷ spelled_statement y))) (stands (suc (suc at)) a) (statement_stands (after_test at a) y))
   statement_stands at (do_while t y w o a c e) = by_form (statement-Do at (spelled_statement (do_while t y w o a c e)) _ _)
       (stands_do false at (length (spelled_statement y)) (length (spelled a)) (spelled_statement (do_while t y w o a c e)) _ _
       (omega (arith, length-append (spelled_statement y) (w ∷ o ∷ (spelled a ++ c ∷ e ∷ [])), length-append (spelled a) (c ∷ e ∷ [])))
-      (statement_stands (suc at) y) (stands (suc (behind_part (suc at) y)) a))
+      (statement_stands (suc at) y) (stands (suc (after_part (suc at) y)) a))
   statement_stands at (for_do t o start a e step c y) = by_form (statement-For at (spelled_statement (for_do t o start a e step c y)) _ _ _ _)
       (stands_for false at (length (spelled_start start)) (length (spelled_maybe a)) (length (spelled_step step)) (length (spelled_statement y))
       (spelled_statement (for_do t o start a e step c y)) _ _ _ _
@@ -117,7 +117,7 @@ mutual
       ))
       (start_stands (suc (suc at)) start) (maybe_stands (suc (suc at) + length (spelled_start start)) a)
       (step_stands (suc (suc (suc at) + length (spelled_start start) + length (spelled_maybe a))) step)
-      (statement_stands (behind_head at start a step) y))
+      (statement_stands (after_head at start a step) y))
   statement_stands at (leave t a e) = by_form (statement-Return at (spelled_statement (leave t a e)) _)
       (stands_returns false at (length (spelled_maybe a)) (spelled_statement (leave t a e)) _
       (omega (arith, length-append (spelled_maybe a) (e ∷ []))) (maybe_stands (suc at) a))

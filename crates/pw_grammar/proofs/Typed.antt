@@ -11,6 +11,7 @@ use Rattle.pw_grammar.specs.Declarations as phrase
 use Rattle.pw_tree.specs.Declarations.{declaration_of}
 use Rattle.pw_tree.specs.Placed.{HaveValueTypes, HasTypes, HaveTypes}
 use Rattle.pw_tree.specs.Types.{IsValueType}
+use Rattle.pw_tree.specs.Types as types
 use Rattle.pw_tree.specs.Placed as placed
 use Rattle.pw_tree.specs.declared.ty.Ty.{Ty}
 use Rattle.pw_tree.specs.declared.ty.Ty.TheVariants as ty
@@ -30,13 +31,13 @@ pub value_type : (ty : TypeDerivation) → IsType ty → IsValueType (type_in ty
 value_type (statement.word t) is = one_word (sort t) is.0 is.1
 value_type (unsigned u l) is = tt
 
-is_a_type : (ty : Ty) → IsValueType ty → placed.IsType ty
+is_a_type : (ty : Ty) → IsValueType ty → types.IsType ty
 is_a_type ty.Void h = absurd h
 is_a_type ty.Long h = tt
 is_a_type ty.Ulong h = tt
 is_a_type (ty.Fn k) h = h
 
-result_type : (r : ResultDerivation) → IsResult r → placed.IsType (result_in r)
+result_type : (r : ResultDerivation) → IsResult r → types.IsType (result_in r)
 result_type (phrase.nothing t) is = tt
 result_type (phrase.value ty) is = is_a_type (type_in ty) (value_type ty is)
 

@@ -17,6 +17,7 @@ use Rattle.pw_tree.specs.declared.expr.ExprKind.TheVariants as e
 -- ---- data: an expression with all of its tokens
 
 mutual
+  -- an expression, by the rule that it is made by
   pub data ExpressionDerivation : Type 0 where
     identifier : Token → ExpressionDerivation
     constant : Token → ExpressionDerivation
@@ -35,11 +36,12 @@ mutual
     -- c ? a : b
     choice : ExpressionDerivation → Token → ExpressionDerivation → Token → ExpressionDerivation → ExpressionDerivation
 
+  -- the arguments of a call
   pub data Arguments : Type 0 where
     nothing : Arguments
     arguments : ExpressionDerivation → More → Arguments
 
-  -- further arguments, each behind its comma
+  -- further arguments, each after its comma
   pub data More : Type 0 where
     end : More
     more : Token → ExpressionDerivation → More → More
@@ -47,6 +49,7 @@ mutual
 -- ---- the tokens of a derivation, in order
 
 unfoldable mutual
+  -- of an expression
   pub spelled : ExpressionDerivation → List Token
   spelled (identifier t) = t ∷ []
   spelled (constant t) = t ∷ []
@@ -59,10 +62,12 @@ unfoldable mutual
   spelled (binary a t b) = spelled a ++ t ∷ spelled b
   spelled (choice c q a n b) = spelled c ++ q ∷ (spelled a ++ n ∷ spelled b)
 
+  -- of arguments
   pub spelled_arguments : Arguments → List Token
   spelled_arguments nothing = []
   spelled_arguments (arguments a xs) = spelled a ++ spelled_more xs
 
+  -- of further arguments
   pub spelled_more : More → List Token
   spelled_more end = []
   spelled_more (more t a xs) = t ∷ (spelled a ++ spelled_more xs)
@@ -80,6 +85,7 @@ IsOperator level x = (op : Bin) × (binary_of x ≡ Some op) × (level_of op ≡
 abbrev pub IsPrefix : Sort → Type 0
 IsPrefix x = (op : Un) × (prefix_of x ≡ Some op)
 
+-- the symbol is a constant
 abbrev pub IsConstant : Sort → Type 0
 IsConstant x = (x ≡ s.Number) ⊎ (x ≡ s.Character)
 
@@ -97,10 +103,12 @@ unfoldable mutual
   IsAt n (binary a t b) = (tighter : ℕ) × (suc tighter ≤ n) × IsAt (suc tighter) a × IsOperator (suc tighter) (sort t) × IsAt tighter b
   IsAt n (choice c q a m b) = (13 ≤ n) × IsAt 12 c × (sort q ≡ s.Question) × IsAt 13 a × (sort m ≡ s.Colon) × IsAt 13 b
 
+  -- each argument is an expression
   pub AreArguments : Arguments → Type 0
   AreArguments nothing = ⊤
   AreArguments (arguments a xs) = IsAt 13 a × AreMore xs
 
+  -- and so is each further one, after a comma
   pub AreMore : More → Type 0
   AreMore end = ⊤
   AreMore (more t a xs) = (sort t ≡ s.Comma) × IsAt 13 a × AreMore xs
@@ -115,6 +123,7 @@ name_in (t.Char value) = []
 name_in (t.Keyword number) = []
 name_in (t.Punct number) = []
 
+-- the value of a constant; 0 for another token
 abbrev pub value_in : TokenKind → ℕ
 value_in (t.Word name) = 0
 value_in (t.Number value unsigned) = value
@@ -122,6 +131,7 @@ value_in (t.Char value) = value
 value_in (t.Keyword number) = 0
 value_in (t.Punct number) = 0
 
+-- whether the type of a constant is unsigned long
 abbrev pub is_unsigned : TokenKind → Bool
 is_unsigned (t.Word name) = false
 is_unsigned (t.Number value unsigned) = unsigned
@@ -129,17 +139,21 @@ is_unsigned (t.Char value) = false
 is_unsigned (t.Keyword number) = false
 is_unsigned (t.Punct number) = false
 
+-- the operator, or any where there is none
 abbrev pub prefix_or : Option Un → Un
 prefix_or (Some op) = op
 prefix_or None = Neg
 
+-- the prefix operator that a token is
 abbrev pub prefix_in : Token → Un
 prefix_in token = prefix_or (prefix_of (sort token))
 
+-- the operator, or any where there is none
 abbrev pub binary_or : Option Bin → Bin
 binary_or (Some op) = op
 binary_or None = Mul
 
+-- the binary operator that a token is
 abbrev pub binary_in : Token → Bin
 binary_in token = binary_or (binary_of (sort token))
 
@@ -150,6 +164,7 @@ node first count token kind = roll-Expr (record { first = first; last = first + 
 -- The tree of an expression whose first token has the number `at`. Brackets leave no node: what stands in them has its
 -- own tokens, and the phrase round it counts them among its own.
 unfoldable mutual
+  -- of an expression
   pub expression_tree : ℕ → ExpressionDerivation → Expr
   expression_tree at (identifier t) = node at 1 t (e.Word (name_in t.kind))
   expression_tree at (constant t) = node at 1 t (e.Num (value_in t.kind) (is_unsigned t.kind))
@@ -169,10 +184,12 @@ unfoldable mutual
       (e.Cond (expression_tree at c) (expression_tree (suc (at + length (spelled c))) a)
       (expression_tree (suc (suc (at + length (spelled c)) + length (spelled a))) b))
 
+  -- of arguments
   pub argument_trees : ℕ → Arguments → List Expr
   argument_trees at nothing = []
   argument_trees at (arguments a xs) = expression_tree at a ∷ more_argument_trees (at + length (spelled a)) xs
 
+  -- of further arguments
   pub more_argument_trees : ℕ → More → List Expr
   more_argument_trees at end = []
   more_argument_trees at (more t a xs) = expression_tree (suc at) a ∷ more_argument_trees (suc at + length (spelled a)) xs

@@ -26,32 +26,36 @@ pub record IsWhole (tokens : List Token) : Type 0 where
 
 -- ---- brackets
 
+-- whether the symbol opens a bracket
 abbrev pub opens_by : Sort → Bool
 opens_by s.LeftParen = true
 opens_by s.LeftBracket = true
 opens_by s.LeftBrace = true
 opens_by _ = false
 
+-- whether the symbol closes a bracket
 abbrev pub closes_by : Sort → Bool
 closes_by s.RightParen = true
 closes_by s.RightBracket = true
 closes_by s.RightBrace = true
 closes_by _ = false
 
+-- whether the token opens a bracket
 abbrev pub opens : Token → Bool
 opens t = opens_by (sort t)
 
+-- whether the token closes a bracket
 abbrev pub closes : Token → Bool
 closes t = closes_by (sort t)
 
--- how many brackets are open behind a token, where n are open before it
+-- how many brackets are open after a token, where n are open before it
 abbrev pub bracket : ℕ → Token → ℕ
 bracket n t = if opens t then suc n else (if closes t then n - 1 else n)
 
--- how many brackets are open behind these tokens
-unfoldable pub open_behind : ℕ → List Token → ℕ
-open_behind n [] = n
-open_behind n (t ∷ ts) = open_behind (bracket n t) ts
+-- how many brackets are open after these tokens
+unfoldable pub open_after : ℕ → List Token → ℕ
+open_after n [] = n
+open_after n (t ∷ ts) = open_after (bracket n t) ts
 
 -- ---- long functions
 
@@ -62,7 +66,7 @@ before_body (function g r x o ps c b body e) =
     Some (length (spelled_storage g) + length (spelled_result r) + length (spelled_parameters ps) + 3)
 before_body _ = None
 
--- token t, counted from the declaration's first, stands in the body, its braces included, behind 8,192 others
+-- token t, counted from the declaration's first, stands in the body, its braces included, after as many others as a function may have
 abbrev pub IsLate : DeclarationDerivation → ℕ → Option ℕ → Type 0
 IsLate c t None = ⊥
 IsLate c t (Some brace) = (brace ≤ t) × (function_tokens ≤ t) × (t < length (spelled_declaration c))
@@ -87,12 +91,18 @@ pub record GoesOnTooLong (tokens : List Token) (t : ℕ) : Type 0 where
 abbrev pub IsStuck : List Token → ℕ → Type 0
 IsStuck tokens t = ((t < length tokens) × (Begins (take (suc t) tokens) → ⊥)) ⊎ ((t ≡ length tokens) × (IsWhole tokens → ⊥))
 
+-- the list has this fault
 abbrev pub IsFault : List Token → SyntaxError → Type 0
 IsFault tokens (At t) = IsStuck tokens t
-IsFault tokens (TooNested t) = (t < length tokens) × (opens_by (first_sort (drop t tokens)) ≡ true) × (open_brackets ≤ open_behind 0 (take t tokens))
+IsFault tokens (TooNested t) = (t < length tokens) × (opens_by (first_sort (drop t tokens)) ≡ true) × (open_brackets ≤ open_after 0 (take t tokens))
 IsFault tokens (TooLong t) = (t < length tokens) × GoesOnTooLong tokens t
 IsFault tokens NoMemory = ⊥
 
+-- the tokens have no fault
+abbrev pub IsFaultless : List Token → Type 0
+IsFaultless tokens = (fault : SyntaxError) → IsFault tokens fault → ⊥
+
+-- the number of the faulty token; 0 where memory was refused
 abbrev pub token_of : SyntaxError → ℕ
 token_of (At t) = t
 token_of (TooNested t) = t

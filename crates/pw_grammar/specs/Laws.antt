@@ -1,49 +1,34 @@
--- Laws of the grammar.
-use Rattle.std.specs.Prelude.{◌≡◌, ℕ, ◌^◌, ◌<◌, ◌≤◌, List, length, sum_by, Result, Ok, Err}
+-- Laws of the grammar: each list of tokens has one tree or one first fault, and what holds of each tree.
+use Rattle.std.specs.Prelude.{◌≡◌, ℕ, ◌^◌, ◌<◌, ◌≤◌, ◌⊎◌, List, length, sum_by}
 use Rattle.pw_grammar.specs.declared.error.SyntaxError.{SyntaxError}
-use Rattle.pw_grammar.specs.Declarations.{UnitDerivation, spelled_unit, IsUnit, trees_of_declarations, Derives}
-use Rattle.pw_grammar.specs.Faults.{IsFault, IsFirstFault}
-use Rattle.pw_grammar.specs.Reading.{parsed}
-use Rattle.pw_grammar.specs.Terminals.{keywords, punctuators, symbol_beside, sort_of}
+use Rattle.pw_grammar.specs.Declarations.{Derives}
+use Rattle.pw_grammar.specs.Faults.{IsFaultless, IsFirstFault}
 use Rattle.pw_grammar.specs.Weights.{weight}
-use Rattle.pw_lex.specs.Bytes.{Text}
-use Rattle.pw_lex.specs.Token.{IsToken}
 use Rattle.pw_lex.specs.declared.token.Token.{Token}
-use Rattle.pw_lex.specs.declared.token.TokenKind.TheVariants as t
-use Rattle.pw_tree.specs.declared.decl.Decl.{Decl}
 use Rattle.pw_tree.specs.declared.decl.Unit.{Unit}
 use Rattle.pw_tree.specs.Declarations.{declarations_of, untyped_unit_of}
 use Rattle.pw_tree.specs.Placed.{IsParsed}
 
--- the symbol of each keyword is the one beside its text
-abbrev pub KeywordsByText : Type 0
-KeywordsByText =
-    (text : Text) (number : ℕ) → IsToken text (t.Keyword number) → sort_of (t.Keyword number) ≡ symbol_beside keywords text
+-- the grammar derives this unit from the tokens, and they have no fault
+pub record HasTree (tokens : List Token) (unit : Unit) : Type 0 where
+  pub derives : Derives tokens unit
+  pub no_fault : IsFaultless tokens
 
--- the symbol of each punctuator is the one beside its text, or `Other` where none is
-abbrev pub PunctuatorsByText : Type 0
-PunctuatorsByText =
-    (text : Text) (number : ℕ) → IsToken text (t.Punct number) → sort_of (t.Punct number) ≡ symbol_beside punctuators text
+-- a list of tokens, however long, has a tree or a first fault
+abbrev pub HasReading : Type 0
+HasReading = (tokens : List Token) → ((unit : Unit) × HasTree tokens unit) ⊎ ((fault : SyntaxError) × IsFirstFault tokens fault)
 
--- the tokens have no fault, and the grammar derives these declarations from them
-pub record HasTree (tokens : List Token) (decls : List Decl) : Type 0 where
-  pub phrase : UnitDerivation
-  pub is : IsUnit phrase
-  pub spells : spelled_unit phrase ≡ tokens
-  pub trees : decls ≡ trees_of_declarations 0 phrase
-  pub no_fault : (fault : SyntaxError) → IsFault tokens fault → ⊥
+-- and not both
+abbrev pub NotBoth : Type 0
+NotBoth = (tokens : List Token) (unit : Unit) (fault : SyntaxError) → HasTree tokens unit → ¬ (IsFirstFault tokens fault)
 
-abbrev pub Tells : List Token → Result (List Decl) SyntaxError → Type 0
-Tells tokens (Ok decls) = HasTree tokens decls
-Tells tokens (Err fault) = IsFirstFault tokens fault
-
--- reading from left to right gives the tree, or exactly the first fault
-abbrev pub ReadingTells : Type 0
-ReadingTells = (n : ℕ) (tokens : List Token) → length tokens < n → Tells tokens (parsed n tokens)
-
--- no list of tokens has two trees
+-- no list of tokens has two trees, whether or not it has a fault
 abbrev pub OneTree : Type 0
 OneTree = (tokens : List Token) (a b : Unit) → Derives tokens a → Derives tokens b → a ≡ b
+
+-- no list of tokens has two first faults
+abbrev pub OneFault : Type 0
+OneFault = (tokens : List Token) (fault other : SyntaxError) → IsFirstFault tokens fault → IsFirstFault tokens other → fault ≡ other
 
 -- the trees of a unit stand in its tokens, of which there are fewer than 2 to the 32nd
 abbrev pub TreesAreWritten : Type 0

@@ -31,18 +31,22 @@ type_of s.Fn5 = Some (ty.Fn 5)
 type_of s.Fn6 = Some (ty.Fn 6)
 type_of _ = None
 
+-- the tokens of a type
 abbrev pub spelled_type : TypeDerivation → List Token
 spelled_type (word t) = t ∷ []
 spelled_type (unsigned u l) = u ∷ l ∷ []
 
+-- the derivation is one of a type
 abbrev pub IsType : TypeDerivation → Type 0
 IsType (word t) = (x : Ty) × (type_of (sort t) ≡ Some x)
 IsType (unsigned u l) = (sort u ≡ s.Unsigned) × (sort l ≡ s.Long)
 
+-- the type, or void where there is none
 abbrev pub type_or : Option Ty → Ty
 type_or (Some x) = x
 type_or None = ty.Void
 
+-- the type that is derived
 abbrev pub type_in : TypeDerivation → Ty
 type_in (word t) = type_or (type_of (sort t))
 type_in (unsigned u l) = ty.Ulong
@@ -54,14 +58,17 @@ pub data LocalDerivation : Type 0 where
   plain : TypeDerivation → Token → Token → LocalDerivation
   set : TypeDerivation → Token → Token → ExpressionDerivation → Token → LocalDerivation
 
+-- the tokens of a local declaration
 abbrev pub spelled_local : LocalDerivation → List Token
 spelled_local (plain ty x e) = spelled_type ty ++ x ∷ e ∷ []
 spelled_local (set ty x q a e) = spelled_type ty ++ x ∷ q ∷ (spelled a ++ e ∷ [])
 
+-- the derivation is one of a local declaration
 abbrev pub IsLocal : LocalDerivation → Type 0
 IsLocal (plain ty x e) = IsType ty × (sort x ≡ s.Name) × (sort e ≡ s.Semicolon)
 IsLocal (set ty x q a e) = IsType ty × (sort x ≡ s.Name) × (sort q ≡ s.Assign) × IsAt 13 a × (sort e ≡ s.Semicolon)
 
+-- the tree of a local declaration whose first token has the number `at`
 abbrev pub kind_of_local : ℕ → LocalDerivation → StmtKind
 kind_of_local at (plain ty x e) = k.Local (type_in ty) (name_in x.kind) None
 kind_of_local at (set ty x q a e) =
@@ -73,17 +80,20 @@ pub data SimpleDerivation : Type 0 where
   assign_element : Token → Token → ExpressionDerivation → Token → Token → ExpressionDerivation → SimpleDerivation
   evaluate : ExpressionDerivation → SimpleDerivation
 
+-- the tokens of an assignment or an expression
 abbrev pub spelled_simple : SimpleDerivation → List Token
 spelled_simple (assign x q a) = x ∷ q ∷ spelled a
 spelled_simple (assign_element x o i c q a) = x ∷ o ∷ (spelled i ++ c ∷ q ∷ spelled a)
 spelled_simple (evaluate a) = spelled a
 
+-- the derivation is one of an assignment or an expression
 abbrev pub IsSimple : SimpleDerivation → Type 0
 IsSimple (assign x q a) = (sort x ≡ s.Name) × (sort q ≡ s.Assign) × IsAt 13 a
 IsSimple (assign_element x o i c q a) =
     (sort x ≡ s.Name) × (sort o ≡ s.LeftBracket) × IsAt 13 i × (sort c ≡ s.RightBracket) × (sort q ≡ s.Assign) × IsAt 13 a
 IsSimple (evaluate a) = IsAt 13 a
 
+-- the tree of one whose first token has the number `at`
 abbrev pub kind_of_simple : ℕ → SimpleDerivation → StmtKind
 kind_of_simple at (assign x q a) = k.Set (name_in x.kind) None (expression_tree (suc (suc at)) a)
 kind_of_simple at (assign_element x o i c q a) =
@@ -96,11 +106,13 @@ pub data ForStartDerivation : Type 0 where
   local_start : LocalDerivation → ForStartDerivation
   simple_start : SimpleDerivation → Token → ForStartDerivation
 
+-- the tokens of the first part of a `for`
 abbrev pub spelled_start : ForStartDerivation → List Token
 spelled_start (no_start e) = e ∷ []
 spelled_start (local_start l) = spelled_local l
 spelled_start (simple_start a e) = spelled_simple a ++ e ∷ []
 
+-- the derivation is one of the first part of a `for`
 abbrev pub IsStart : ForStartDerivation → Type 0
 IsStart (no_start e) = sort e ≡ s.Semicolon
 IsStart (local_start l) = IsLocal l
@@ -108,22 +120,27 @@ IsStart (simple_start a e) = IsSimple a × (sort e ≡ s.Semicolon)
 
 -- what may be left out
 
+-- the tokens of an expression that may be left out
 abbrev pub spelled_maybe : Option ExpressionDerivation → List Token
 spelled_maybe None = []
 spelled_maybe (Some a) = spelled a
 
+-- there is none, or it is an expression
 abbrev pub IsMaybe : Option ExpressionDerivation → Type 0
 IsMaybe None = ⊤
 IsMaybe (Some a) = IsAt 13 a
 
+-- its tree, whose first token has the number `at`
 abbrev pub tree_of_maybe : ℕ → Option ExpressionDerivation → Option Expr
 tree_of_maybe at None = None
 tree_of_maybe at (Some a) = Some (expression_tree at a)
 
+-- the tokens of the last part of a `for`
 abbrev pub spelled_step : Option SimpleDerivation → List Token
 spelled_step None = []
 spelled_step (Some a) = spelled_simple a
 
+-- there is none, or it is an assignment or an expression
 abbrev pub IsStep : Option SimpleDerivation → Type 0
 IsStep None = ⊤
 IsStep (Some a) = IsSimple a
@@ -131,6 +148,7 @@ IsStep (Some a) = IsSimple a
 -- ---- statements
 
 mutual
+  -- a statement, by the rule that it is made by
   pub data StatementDerivation : Type 0 where
     -- ;
     empty : Token → StatementDerivation
@@ -155,11 +173,13 @@ mutual
     -- break ;   continue ;
     jump : Token → Token → StatementDerivation
 
+  -- statements one after another
   pub data StatementDerivations : Type 0 where
     nil : StatementDerivations
     cons : StatementDerivation → StatementDerivations → StatementDerivations
 
 unfoldable mutual
+  -- the tokens of a statement, in order
   pub spelled_statement : StatementDerivation → List Token
   spelled_statement (empty e) = e ∷ []
   spelled_statement (block o body c) = o ∷ (spelled_statements body ++ c ∷ [])
@@ -174,11 +194,12 @@ unfoldable mutual
   spelled_statement (leave t a e) = t ∷ (spelled_maybe a ++ e ∷ [])
   spelled_statement (jump t e) = t ∷ e ∷ []
 
+  -- the tokens of statements
   pub spelled_statements : StatementDerivations → List Token
   spelled_statements nil = []
   spelled_statements (cons y ys) = spelled_statement y ++ spelled_statements ys
 
--- the statement ends in an `if` without `else`, to which an `else` behind it would belong
+-- the statement ends in an `if` without `else`, to which an `else` after it would belong
 unfoldable pub open_ended : StatementDerivation → Bool
 open_ended (empty e) = false
 open_ended (block o body c) = false
@@ -222,6 +243,7 @@ unfoldable mutual
 
 -- ---- the trees
 
+-- the line of the first token
 abbrev pub first_line : List Token → ℕ
 first_line [] = 0
 first_line (t ∷ ts) = t.line
@@ -231,29 +253,32 @@ abbrev pub statement_node : ℕ → List Token → StmtKind → Stmt
 statement_node first tokens kind =
     roll-Stmt (record { first = first; last = first + length tokens - 1; line = first_line tokens; kind = kind })
 
+-- the tree of the first part of a `for`, whose first token has the number `at`
 abbrev pub tree_of_start : ℕ → ForStartDerivation → Option Stmt
 tree_of_start at (no_start e) = None
 tree_of_start at (local_start l) = Some (statement_node at (spelled_local l) (kind_of_local at l))
 tree_of_start at (simple_start a e) = Some (statement_node at (spelled_simple a) (kind_of_simple at a))
 
+-- the tree of the last part of a `for`, whose first token has the number `at`
 abbrev pub tree_of_step : ℕ → Option SimpleDerivation → Option Stmt
 tree_of_step at None = None
 tree_of_step at (Some a) = Some (statement_node at (spelled_simple a) (kind_of_simple at a))
 
+-- `break` or `continue`
 abbrev pub jump_of : Sort → StmtKind
 jump_of s.Break = k.Break
 jump_of _ = k.Continue
 
--- the numbers of the tokens behind `( e )`, behind the head of a `for`, and behind a part and a word
-abbrev pub behind_test : ℕ → ExpressionDerivation → ℕ
-behind_test at a = suc (suc (suc at) + length (spelled a))
+-- the numbers of the tokens after `( e )`, after the head of a `for`, and after a part and a word
+abbrev pub after_test : ℕ → ExpressionDerivation → ℕ
+after_test at a = suc (suc (suc at) + length (spelled a))
 
-abbrev pub behind_head : ℕ → ForStartDerivation → Option ExpressionDerivation → Option SimpleDerivation → ℕ
-behind_head at start a step =
+abbrev pub after_head : ℕ → ForStartDerivation → Option ExpressionDerivation → Option SimpleDerivation → ℕ
+after_head at start a step =
     suc (suc (suc (suc at) + length (spelled_start start) + length (spelled_maybe a)) + length (spelled_step step))
 
-abbrev pub behind_part : ℕ → StatementDerivation → ℕ
-behind_part at y = suc (at + length (spelled_statement y))
+abbrev pub after_part : ℕ → StatementDerivation → ℕ
+after_part at y = suc (at + length (spelled_statement y))
 
 -- a `for` whose first part begins at `at`
 abbrev pub for_kind : ℕ → ForStartDerivation → Option ExpressionDerivation → Option SimpleDerivation → Stmt → StmtKind
@@ -269,20 +294,21 @@ unfoldable mutual
   kind_of at (declare l) = kind_of_local at l
   kind_of at (simple a e) = kind_of_simple at a
   kind_of at (if_only t o a c y) =
-      k.If (expression_tree (suc (suc at)) a) (statement_node (behind_test at a) (spelled_statement y) (kind_of (behind_test at a) y)) None
+      k.If (expression_tree (suc (suc at)) a) (statement_node (after_test at a) (spelled_statement y) (kind_of (after_test at a) y)) None
   kind_of at (if_else t o a c y e n) =
-      k.If (expression_tree (suc (suc at)) a) (statement_node (behind_test at a) (spelled_statement y) (kind_of (behind_test at a) y))
-      (Some (statement_node (behind_part (behind_test at a) y) (spelled_statement n) (kind_of (behind_part (behind_test at a) y) n)))
+      k.If (expression_tree (suc (suc at)) a) (statement_node (after_test at a) (spelled_statement y) (kind_of (after_test at a) y))
+      (Some (statement_node (after_part (after_test at a) y) (spelled_statement n) (kind_of (after_part (after_test at a) y) n)))
   kind_of at (while_do t o a c y) =
-      k.While (expression_tree (suc (suc at)) a) (statement_node (behind_test at a) (spelled_statement y) (kind_of (behind_test at a) y))
+      k.While (expression_tree (suc (suc at)) a) (statement_node (after_test at a) (spelled_statement y) (kind_of (after_test at a) y))
   kind_of at (do_while t y w o a c e) =
-      k.Do (statement_node (suc at) (spelled_statement y) (kind_of (suc at) y)) (expression_tree (suc (behind_part (suc at) y)) a)
+      k.Do (statement_node (suc at) (spelled_statement y) (kind_of (suc at) y)) (expression_tree (suc (after_part (suc at) y)) a)
   kind_of at (for_do t o start a e step c y) =
       for_kind (suc (suc at)) start a step
-      (statement_node (behind_head at start a step) (spelled_statement y) (kind_of (behind_head at start a step) y))
+      (statement_node (after_head at start a step) (spelled_statement y) (kind_of (after_head at start a step) y))
   kind_of at (leave t a e) = k.Return (tree_of_maybe (suc at) a)
   kind_of at (jump t e) = jump_of (sort t)
 
+  -- the trees of statements, whose first token has the number `at`
   pub trees_of_statements : ℕ → StatementDerivations → List Stmt
   trees_of_statements at nil = []
   trees_of_statements at (cons y ys) =

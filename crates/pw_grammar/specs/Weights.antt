@@ -14,5 +14,6 @@ form_weight (prototype result params) = 0
 form_weight (definition result params body) = 6 + statement_count body
 form_weight (variable ty size init) = 0
 
+-- so for a whole declaration
 abbrev pub weight : Declaration → ℕ
 weight d = form_weight d.form

@@ -12,10 +12,10 @@ pub enum SyntaxError {
     /// No unit begins with the tokens up to this one; the number of tokens, where the list ends too early.
     #[error("syntax")]
     At(u32),
-    /// The token opens the 201st bracket that is open at once.
+    /// The token opens a bracket while `Limits::OPEN_BRACKETS` are open.
     #[error("brackets too deep")]
     TooNested(u32),
-    /// The token is the first of a function's body that is past the 8,192nd of its declaration.
+    /// The token is the first of a function's body that stands after `Limits::FUNCTION_TOKENS` tokens of the function.
     #[error("function too long")]
     TooLong(u32),
     /// Memory for the tree was refused.

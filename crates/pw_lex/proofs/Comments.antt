@@ -7,11 +7,11 @@ use Rattle.pw_lex.specs.Fault.{not_newline, EndsLine, closes}
 use Rattle.pw_lex.specs.Reading.{close_from}
 
 -- a line comment's body is followed by the end of the line or of the text
-pub EndsLine-behind : (text : Text) → EndsLine (drop (prefix_len not_newline text) text)
-EndsLine-behind [] = tt
-EndsLine-behind (byte ∷ text) =
+pub EndsLine-after : (text : Text) → EndsLine (drop (prefix_len not_newline text) text)
+EndsLine-after [] = tt
+EndsLine-after (byte ∷ text) =
     elim (cases_Bool (not_newline byte)) [
-      | inl holds ↦ rw (holds, one-add) (EndsLine-behind text)
+      | inl holds ↦ rw (holds, one-add) (EndsLine-after text)
       | inr fails ↦ rw fails (eqb-true byte 10 (not-false (nat_eq byte 10) fails))
     ]
 
@@ -34,7 +34,7 @@ slash_first : (text : Text) → slice_index text 0 ≡ 47 → (rest : Text) × (
 slash_first [] is = absurd (omega arith)
 slash_first (byte ∷ rest) is = (rest, ap (λ b. b ∷ rest) is)
 
--- where a body does not begin with */, neither does it with one byte of the close behind it
+-- where a body does not begin with */, neither does it with one byte of the close after it
 same_first : (body rest : Text) → slice_index (body ++ 42 ∷ 47 ∷ rest) 0 ≡ slice_index (body ++ 42 ∷ []) 0
 same_first [] rest = refl
 same_first (byte ∷ body) rest = refl

@@ -49,23 +49,23 @@ pub record ConstantIs (bytes : Text) (constant : Constant) : Type 0 where
 some_digits : (digits : Text) (len : ℕ) → length digits ≡ len → nat_eq len 0 ≡ false → digits ≢ []
 some_digits digits len is none empty = eqb-false len 0 none (sym is ∙ ap length empty)
 
-found_constant : (radix : Radix) (mark behind : Text) → IsMark radix mark → (len : ℕ) (test : Bool) (u : Option Bool) (constant : Constant)
-    → list_all (is_digit_in radix) (take len behind) ≡ true → length (take len behind) ≡ len
-    → (nat_eq len 0 || has_leading_zero radix (take len behind)) ≡ test → suffix_has_u (drop len behind) ≡ u
-    → cond test None (option_map (constant_with radix (take len behind)) u) ≡ Some constant → ConstantIs (mark ++ behind) constant
-found_constant radix mark behind marked len true u constant all long tested suffixed found = cc
-found_constant radix mark behind marked len false None constant all long tested suffixed found = cc
-found_constant radix mark behind marked len false (Some u) constant all long tested suffixed found =
-    let parts = or_parts (nat_eq len 0) (has_leading_zero radix (take len behind)) tested in
-    let same : constant_with radix (take len behind) u ≡ constant = some_constant _ _ found in
-    subst (λ c. ConstantIs (mark ++ behind) c) same (record {
-      digits = take len behind;
+found_constant : (radix : Radix) (mark after : Text) → IsMark radix mark → (len : ℕ) (test : Bool) (u : Option Bool) (constant : Constant)
+    → list_all (is_digit_in radix) (take len after) ≡ true → length (take len after) ≡ len
+    → (nat_eq len 0 || has_leading_zero radix (take len after)) ≡ test → suffix_has_u (drop len after) ≡ u
+    → cond test None (option_map (constant_with radix (take len after)) u) ≡ Some constant → ConstantIs (mark ++ after) constant
+found_constant radix mark after marked len true u constant all long tested suffixed found = cc
+found_constant radix mark after marked len false None constant all long tested suffixed found = cc
+found_constant radix mark after marked len false (Some u) constant all long tested suffixed found =
+    let parts = or_parts (nat_eq len 0) (has_leading_zero radix (take len after)) tested in
+    let same : constant_with radix (take len after) u ≡ constant = some_constant _ _ found in
+    subst (λ c. ConstantIs (mark ++ after) c) same (record {
+      digits = take len after;
       is = record {
         mark = mark;
-        suffix = drop len behind;
-        spelled = ap (λ t. mark ++ t) (sym (take-append-drop len behind));
+        suffix = drop len after;
+        spelled = ap (λ t. mark ++ t) (sym (take-append-drop len after));
         marked = marked;
-        some = some_digits (take len behind) len long parts.0;
+        some = some_digits (take len after) len long parts.0;
         all_digits = all;
         no_octal = parts.1;
         suffixed = suffixed;
@@ -76,12 +76,12 @@ found_constant radix mark behind marked len false (Some u) constant all long tes
     some_constant : (a b : Constant) → Some a ≡ Some b → a ≡ b
     some_constant a b same = cc
 
-constant_in-Some : (radix : Radix) (mark behind : Text) → IsMark radix mark → (constant : Constant) → constant_in radix behind ≡ Some constant → ConstantIs (mark ++ behind) constant
+constant_in-Some : (radix : Radix) (mark after : Text) → IsMark radix mark → (constant : Constant) → constant_in radix after ≡ Some constant → ConstantIs (mark ++ after) constant
 unfolding constant_in
-constant_in-Some radix mark behind marked constant found =
-    let len = prefix_len (is_digit_in radix) behind in
-    found_constant radix mark behind marked len (nat_eq len 0 || has_leading_zero radix (take len behind)) (suffix_has_u (drop len behind)) constant
-    (list_all-take_while (is_digit_in radix) behind) (length-take_while (is_digit_in radix) behind) refl refl found
+constant_in-Some radix mark after marked constant found =
+    let len = prefix_len (is_digit_in radix) after in
+    found_constant radix mark after marked len (nat_eq len 0 || has_leading_zero radix (take len after)) (suffix_has_u (drop len after)) constant
+    (list_all-take_while (is_digit_in radix) after) (length-take_while (is_digit_in radix) after) refl refl found
 
 pub constant_of-Some : (bytes : Text) (constant : Constant) → constant_of bytes ≡ Some constant → ConstantIs bytes constant
 constant_of-Some bytes constant found =
@@ -123,10 +123,10 @@ read_radix Decimal mark digits suffix marked some no_octal all = rw marked (deci
 read_radix Hexadecimal mark digits suffix (inl small) some no_octal all = rw small refl
 read_radix Hexadecimal mark digits suffix (inr large) some no_octal all = rw large refl
 
-read_behind : (radix : Radix) (mark behind : Text) → IsMark radix mark → drop (mark_len radix) (mark ++ behind) ≡ behind
-read_behind Decimal mark behind marked = rw marked refl
-read_behind Hexadecimal mark behind (inl small) = rw small refl
-read_behind Hexadecimal mark behind (inr large) = rw large refl
+read_after : (radix : Radix) (mark after : Text) → IsMark radix mark → drop (mark_len radix) (mark ++ after) ≡ after
+read_after Decimal mark after marked = rw marked refl
+read_after Hexadecimal mark after (inl small) = rw small refl
+read_after Hexadecimal mark after (inr large) = rw large refl
 
 not_empty : (digits : Text) → digits ≢ [] → nat_eq (length digits) 0 ≡ false
 not_empty [] some = absurd (some refl)
@@ -145,8 +145,8 @@ pub constant_of_is : (bytes : Text) (radix : Radix) (digits : Text) (has_u : Boo
 constant_of_is bytes radix digits has_u c =
     let suffix_is = suffix_bytes c.suffix has_u c.suffixed in
     let radix_is = read_radix radix c.mark digits c.suffix c.marked c.some c.no_octal suffix_is in
-    let behind_is = read_behind radix c.mark (digits ++ c.suffix) c.marked in
-    rw (c.spelled, radix_is, behind_is) (constant_in_is radix digits c.suffix has_u c.some c.all_digits c.no_octal c.suffixed)
+    let after_is = read_after radix c.mark (digits ++ c.suffix) c.marked in
+    rw (c.spelled, radix_is, after_is) (constant_in_is radix digits c.suffix has_u c.some c.all_digits c.no_octal c.suffixed)
 
 -- ---- one constant at most
 

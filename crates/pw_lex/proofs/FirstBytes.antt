@@ -11,11 +11,11 @@ use Rattle.pw_lex.specs.declared.number.Radix.TheVariants.{Decimal, Hexadecimal}
 use Rattle.pw_lex.specs.declared.token.TokenKind.{TokenKind}
 use Rattle.pw_lex.specs.declared.token.TokenKind.TheVariants.{Word, Number, Char, Keyword, Punct}
 use Rattle.pw_lex.specs.Bytes.{Text, class_of, BeginsWith, runs_on, is_run_byte}
-use Rattle.pw_lex.specs.Tables.{keywords, punctuators, IsListed}
+use Rattle.pw_lex.specs.Spellings.{keywords, punctuators, IsListed}
 use Rattle.pw_lex.specs.Number.{IsMark, IsConstant, is_digit_in, is_u, is_l, suffix_has_u}
 use Rattle.pw_lex.specs.Character.{IsCharacter, plain, escape}
 use Rattle.pw_lex.specs.Token.{IsToken}
-use Rattle.pw_lex.proofs.Lists.{list_all-Contains}
+use Rattle.pw_lex.proofs.Entries.{listed_passes}
 
 -- ---- classes by the numbers of the bytes
 
@@ -109,28 +109,28 @@ unfolding opens_with
 begins_other [] h = cc
 begins_other (byte ∷ bytes) h = other_from (class_of byte) h
 
-keywords_open : list_all (λ entry. opens_with Letter entry.0) keywords ≡ true
+keywords_open : list_all (opens_with Letter) keywords ≡ true
 unfolding keywords opens_with opens_as class_of
 keywords_open = refl
 
-keywords_run : list_all (λ entry. list_all is_run_byte entry.0) keywords ≡ true
+keywords_run : list_all (λ entry. list_all is_run_byte entry) keywords ≡ true
 unfolding keywords class_of
 keywords_run = refl
 
-punctuators_open : list_all (λ entry. opens_with Other entry.0) punctuators ≡ true
+punctuators_open : list_all (opens_with Other) punctuators ≡ true
 unfolding punctuators opens_with opens_as class_of
 punctuators_open = refl
 
 keyword_begins : (bytes : Text) (number : ℕ) → IsListed keywords bytes number → BeginsWith Letter bytes
 keyword_begins bytes number listed =
-    begins_letter bytes (list_all-Contains (λ entry. opens_with Letter entry.0) keywords (bytes, number) keywords_open listed)
+    begins_letter bytes (listed_passes (opens_with Letter) keywords bytes number keywords_open listed)
 
 keyword_runs : (bytes : Text) (number : ℕ) → IsListed keywords bytes number → list_all is_run_byte bytes ≡ true
-keyword_runs bytes number listed = list_all-Contains (λ entry. list_all is_run_byte entry.0) keywords (bytes, number) keywords_run listed
+keyword_runs bytes number listed = listed_passes (λ entry. list_all is_run_byte entry) keywords bytes number keywords_run listed
 
 punctuator_begins : (bytes : Text) (number : ℕ) → IsListed punctuators bytes number → BeginsWith Other bytes
 punctuator_begins bytes number listed =
-    begins_other bytes (list_all-Contains (λ entry. opens_with Other entry.0) punctuators (bytes, number) punctuators_open listed)
+    begins_other bytes (listed_passes (opens_with Other) punctuators bytes number punctuators_open listed)
 
 -- ---- numbers
 

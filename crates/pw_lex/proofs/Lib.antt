@@ -5,7 +5,8 @@ pub mod FirstBytes
 pub mod Comments
 pub mod Characters
 pub mod Constants
-pub mod Fronts
+pub mod Prefixes
 pub mod Whole
 pub mod OneWay
 pub mod Places
+pub mod Exports

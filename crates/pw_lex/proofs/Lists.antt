@@ -1,10 +1,10 @@
--- Fronts of lists that pass a test, and members of lists.
-use Rattle.std.proofs.Common.{◌≡◌, zero, suc, ◌+◌, ◌≤◌, Bool, true, ◌⊎◌, inl, inr, List, [], ◌∷◌, ◌++◌, length, take, Contains, length-take-le, one-add, refl, arith}
+-- Prefixes of lists that pass a test.
+use Rattle.std.proofs.Common.{◌≡◌, ◌+◌, ◌≤◌, Bool, true, inl, inr, List, [], ◌∷◌, ◌++◌, length, take, length-take-le, one-add, refl, arith}
 use Rattle.std.proofs.lemmas.List.Sums.{prefix_len-le-length}
 use Rattle.std.specs.List.{prefix_len, list_all}
 use Rattle.std.proofs.lemmas.Bool.{and_parts, cases_Bool}
 
--- a front that passes counts whole
+-- a prefix that passes counts whole
 pub prefix_len-append : {X : Type 0} (p : X → Bool) (v t : List X) → list_all p v ≡ true → prefix_len p (v ++ t) ≡ length v + prefix_len p t
 prefix_len-append p [] t passes = omega arith
 prefix_len-append p (x ∷ v) t passes =
@@ -25,24 +25,3 @@ list_all-take_while p (x ∷ xs) =
 
 pub length-take_while : {X : Type 0} (p : X → Bool) (xs : List X) → length (take (prefix_len p xs) xs) ≡ prefix_len p xs
 length-take_while p xs = length-take-le (prefix_len p xs) xs (prefix_len-le-length p xs)
-
--- a member is the first, or a member of the rest
-pub Contains-cons_cases : {X : Type 0} (x y : X) (xs : List X) → Contains (x ∷ xs) y → (x ≡ y) ⊎ Contains xs y
-Contains-cons_cases x y xs (zero, within, is) = inl is
-Contains-cons_cases x y xs (suc k, within, is) = inr (k, omega arith, is)
-
-pub Contains-head : {X : Type 0} (x : X) (xs : List X) → Contains (x ∷ xs) x
-Contains-head x xs = (0, omega arith, refl)
-
-pub Contains-tail : {X : Type 0} (x y : X) (xs : List X) → Contains xs y → Contains (x ∷ xs) y
-Contains-tail x y xs (k, within, is) = (suc k, omega arith, is)
-
--- what all pass, each member passes
-pub list_all-Contains : {X : Type 0} (p : X → Bool) (xs : List X) (y : X) → list_all p xs ≡ true → Contains xs y → p y ≡ true
-list_all-Contains p [] y passes (k, within, is) = absurd (omega arith)
-list_all-Contains p (x ∷ xs) y passes member =
-    let parts = and_parts (p x) (list_all p xs) passes in
-    elim (Contains-cons_cases x y xs member) [
-      | inl same ↦ rw same at parts.0
-      | inr later ↦ list_all-Contains p xs y parts.1 later
-    ]

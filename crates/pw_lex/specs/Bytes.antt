@@ -5,6 +5,7 @@ use Rattle.pw_base.specs.Name.{is_from}
 use Rattle.pw_lex.specs.declared.bytes.Class.{Class}
 use Rattle.pw_lex.specs.declared.bytes.Class.TheVariants.{White, Letter, Digit, Quote, Other}
 
+-- the bytes of a text, as numbers
 abbrev pub Text : Type 0
 Text = List ℕ
 
@@ -21,6 +22,7 @@ abbrev pub BeginsWith : Class → Text → Type 0
 BeginsWith class [] = ⊥
 BeginsWith class (byte ∷ _) = class_of byte ≡ class
 
+-- whether a byte of the class may stand in a name, a keyword or a number
 abbrev pub runs_on : Class → Bool
 runs_on White = false
 runs_on Letter = true
@@ -32,6 +34,6 @@ runs_on Other = false
 abbrev pub is_run_byte : ℕ → Bool
 is_run_byte byte = runs_on (class_of byte)
 
--- the letters and digits at the front of a text, as many as stand together
+-- the letters and digits at the beginning of a text, as many as stand together
 abbrev pub run : Text → Text
 run text = take_while is_run_byte text

@@ -1,6 +1,7 @@
 -- What stands at a place of a text: a piece, judged with what follows it, or a fault.
 use Rattle.std.specs.Prelude.{◌≡◌, ◌≢◌, ℕ, ◌<◌, ◌≤◌, Bool, true, false, not, ◌&&◌, ◌||◌, nat_eq, ◌⊎◌, [], ◌∷◌, ◌++◌, length, slice_index, ⊤}
 use Rattle.std.specs.List.{list_all}
+use Rattle.pw_base.specs.Limits.{name_bytes}
 use Rattle.pw_lex.specs.declared.bytes.Class.TheVariants.{White, Letter, Digit}
 use Rattle.pw_lex.specs.declared.token.TokenKind.{TokenKind}
 use Rattle.pw_lex.specs.declared.number.Radix.{Radix}
@@ -27,6 +28,7 @@ abbrev pub closes : Text → Bool
 closes [] = false
 closes (byte ∷ text) = (nat_eq byte 42 && nat_eq (slice_index text 0) 47) || closes text
 
+-- whether the byte does not end a line
 abbrev pub not_newline : ℕ → Bool
 not_newline byte = not (nat_eq byte 10)
 
@@ -39,7 +41,7 @@ EndsLine (byte ∷ _) = byte ≡ 10
 abbrev pub OpensComment : Text → Type 0
 OpensComment text = (rest : Text) × ((text ≡ 47 ∷ 47 ∷ rest) ⊎ (text ≡ 47 ∷ 42 ∷ rest))
 
--- /* with no */ behind it
+-- /* with no */ after it
 abbrev pub IsOpenComment : Text → Type 0
 IsOpenComment text = (body : Text) × (text ≡ 47 ∷ 42 ∷ body) × (closes body ≡ false)
 
@@ -54,11 +56,11 @@ IsTooWide text =
     BeginsWith Digit text
     × ((radix : Radix) × (digits : Text) × (has_u : Bool) × IsConstant (run text) radix digits has_u × (limit radix has_u < value radix digits))
 
--- a run that begins with a letter and has more than 63 bytes
+-- a run that begins with a letter and is longer than a name may be
 abbrev pub IsLongName : Text → Type 0
-IsLongName text = BeginsWith Letter text × (63 < length (run text))
+IsLongName text = BeginsWith Letter text × (name_bytes < length (run text))
 
--- At the front of `text` stands the token `bytes`: no comment and no faulty run begins there, and no longer token
+-- The text begins with the token `bytes`: no comment and no faulty run begins there, and no longer token
 -- (C, 6.4, "the longest sequence of characters that could constitute" one).
 pub record BeginsToken (text bytes : Text) (kind : TokenKind) : Type 0 where
   pub token : IsToken bytes kind

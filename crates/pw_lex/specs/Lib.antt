@@ -1,5 +1,5 @@
 pub mod Bytes
-pub mod Tables
+pub mod Spellings
 pub mod Number
 pub mod Character
 pub mod Token

@@ -6,10 +6,12 @@ use Rattle.pw_lex.specs.declared.number.Radix.{Radix}
 use Rattle.pw_lex.specs.declared.number.Radix.TheVariants.{Decimal, Hexadecimal}
 use Rattle.pw_lex.specs.Bytes.{Text}
 
+-- the number that each digit counts
 abbrev pub base : Radix → ℕ
 base Decimal = 10
 base Hexadecimal = 16
 
+-- whether the byte is a digit of the base: 0 to 9, and in base sixteen A to F and a to f too
 abbrev pub is_digit_in : Radix → ℕ → Bool
 is_digit_in Decimal byte = is_from 48 57 byte
 is_digit_in Hexadecimal byte = is_from 48 57 byte || is_from 65 70 byte || is_from 97 102 byte
@@ -18,13 +20,14 @@ is_digit_in Hexadecimal byte = is_from 48 57 byte || is_from 65 70 byte || is_fr
 abbrev pub digit_value : ℕ → ℕ
 digit_value byte = if nat_le byte 57 then byte - 48 else (if nat_le byte 70 then byte - 55 else byte - 87)
 
--- the value of digits, the most significant first, behind digits of the value `above`
-abbrev pub value_behind : Radix → ℕ → Text → ℕ
-value_behind radix above [] = above
-value_behind radix above (digit ∷ digits) = value_behind radix (base radix * above + digit_value digit) digits
+-- the value of digits, the most significant first, after digits of the value `above`
+abbrev pub value_after : Radix → ℕ → Text → ℕ
+value_after radix above [] = above
+value_after radix above (digit ∷ digits) = value_after radix (base radix * above + digit_value digit) digits
 
+-- the value of digits
 abbrev pub value : Radix → Text → ℕ
-value radix digits = value_behind radix 0 digits
+value radix digits = value_after radix 0 digits
 
 -- what stands before the digits: nothing in base ten, 0x or 0X in base sixteen
 abbrev pub IsMark : Radix → Text → Type 0
@@ -37,9 +40,11 @@ has_leading_zero Decimal (first ∷ second ∷ _) = nat_eq first 48
 has_leading_zero Decimal _ = false
 has_leading_zero Hexadecimal _ = false
 
+-- u or U
 abbrev pub is_u : ℕ → Bool
 is_u byte = nat_eq byte 117 || nat_eq byte 85
 
+-- l or L
 abbrev pub is_l : ℕ → Bool
 is_l byte = nat_eq byte 108 || nat_eq byte 76
 

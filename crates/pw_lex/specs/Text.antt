@@ -7,16 +7,17 @@ use Rattle.pw_lex.specs.declared.error.LexError.TheVariants.{BadByte, OpenCommen
 use Rattle.pw_lex.specs.Bytes.{Text}
 use Rattle.pw_lex.specs.Fault.{Piece, white, line_comment, block_comment, token, bytes_of, StandsBefore, IsBadByte, IsOpenComment, IsBadNumber, IsTooWide, IsLongName}
 
+-- whether the byte ends a line
 abbrev pub is_newline : ℕ → Bool
 is_newline byte = byte == 10
 
--- the line, from 1, of what stands behind a text: a line ends at a byte 10
-abbrev pub line_behind : Text → ℕ
-line_behind before = 1 + count_by is_newline before
+-- the line, from 1, of what stands after a text: a line ends at a byte 10
+abbrev pub line_after : Text → ℕ
+line_after before = 1 + count_by is_newline before
 
 -- the line of the byte at `at`, or of the end
 abbrev pub line_of : Text → ℕ → ℕ
-line_of text at = line_behind (take at text)
+line_of text at = line_after (take at text)
 
 -- the text of pieces
 abbrev pub spelled : List Piece → Text
@@ -28,27 +29,27 @@ abbrev pub Stand : List Piece → Text → Type 0
 Stand [] rest = ⊤
 Stand (piece ∷ pieces) rest = StandsBefore piece (spelled pieces ++ rest) × Stand pieces rest
 
--- the token that a piece behind `before` is, if it is one
+-- the token that a piece after `before` is, if it is one
 abbrev pub tokens_of_piece : Text → Piece → List Token
 tokens_of_piece before (white _) = []
 tokens_of_piece before (line_comment _) = []
 tokens_of_piece before (block_comment _) = []
 tokens_of_piece before (token bytes kind) =
-    record { kind = kind; first = length before; end = length before + length bytes; line = line_behind before } ∷ []
+    record { kind = kind; first = length before; end = length before + length bytes; line = line_after before } ∷ []
 
--- the tokens among pieces that stand behind `before`
-abbrev pub tokens_behind : Text → List Piece → List Token
-tokens_behind before [] = []
-tokens_behind before (piece ∷ pieces) = tokens_of_piece before piece ++ tokens_behind (before ++ bytes_of piece) pieces
+-- the tokens among pieces that stand after `before`
+abbrev pub tokens_after : Text → List Piece → List Token
+tokens_after before [] = []
+tokens_after before (piece ∷ pieces) = tokens_of_piece before piece ++ tokens_after (before ++ bytes_of piece) pieces
 
 -- the text is white bytes, comments and tokens, and these are its tokens
 pub record HasTokens (text : Text) (tokens : List Token) : Type 0 where
   pub pieces : List Piece
   pub stand : Stand pieces []
   pub text_is : text ≡ spelled pieces
-  pub tokens_are : tokens ≡ tokens_behind [] pieces
+  pub tokens_are : tokens ≡ tokens_after [] pieces
 
--- the fault stands at the front of `rest`, at the place `at`
+-- the fault stands at the beginning of `rest`, at the place `at`
 abbrev pub FaultStands : ℕ → Text → LexError → Type 0
 FaultStands at rest (BadByte place) = IsBadByte rest × (place ≡ at)
 FaultStands at rest (OpenComment place) = IsOpenComment rest × (place ≡ at)

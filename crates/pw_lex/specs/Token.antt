@@ -1,19 +1,20 @@
 -- The classes of tokens (C, 6.4).
 use Rattle.std.specs.Prelude.{◌≡◌, ℕ, ◌≤◌, true, length}
 use Rattle.std.specs.List.{list_all}
+use Rattle.pw_base.specs.Limits.{name_bytes}
 use Rattle.pw_lex.specs.declared.bytes.Class.TheVariants.{Letter}
 use Rattle.pw_lex.specs.declared.token.TokenKind.{TokenKind}
 use Rattle.pw_lex.specs.declared.token.TokenKind.TheVariants.{Word, Number, Char, Keyword, Punct}
 use Rattle.pw_lex.specs.Bytes.{Text, BeginsWith, is_run_byte}
-use Rattle.pw_lex.specs.Tables.{keywords, punctuators, IsListed}
+use Rattle.pw_lex.specs.Spellings.{keywords, punctuators, IsListed}
 use Rattle.pw_lex.specs.Number.{IsNumber}
 use Rattle.pw_lex.specs.Character.{IsCharacter}
 
--- a name: a letter, then letters and digits, at most 63 bytes, and no keyword (C, 6.4.2.1)
+-- a name: a letter, then letters and digits, at most as many bytes as a name may have, and no keyword (C, 6.4.2.1)
 pub record IsWord (bytes : Text) : Type 0 where
   pub begins : BeginsWith Letter bytes
   pub goes_on : list_all is_run_byte bytes ≡ true
-  pub short : length bytes ≤ 63
+  pub within_limit : length bytes ≤ name_bytes
   pub no_keyword : (number : ℕ) → ¬ (IsListed keywords bytes number)
 
 -- the bytes are a token of this kind

@@ -4,7 +4,7 @@ ghost use Rattle.std.specs.List.{prefix_len};
 ghost use Rattle.pw_lex.specs.Bytes as spec;
 
 /// What a byte begins.
-#[derive(Clone, Copy, Debug)]
+#[derive(Clone, Copy)]
 pub enum Class {
     /// White space.
     White,
@@ -45,7 +45,7 @@ fn is_run_byte(byte: u8) -> bool
     }
 }
 
-/// How many letters and digits stand together at the front.
+/// How many letters and digits stand together at the beginning.
 pub fn run_len(text: &[u8]) -> usize
     ensures value { result ≡ prefix_len spec.is_run_byte text.now }
     ensures within { result ≤ length text.now }

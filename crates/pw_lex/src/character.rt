@@ -25,7 +25,7 @@ fn escaped(byte: u8) -> Option<u8>
     }
 }
 
-/// The value and the length of the character constant at the front of a text that begins with a quote.
+/// The value and the length of the character constant at the beginning of a text that begins with a quote.
 #[tactic(auto, unfolding(crate::specs::Reading::character_of))]
 pub fn character_of(text: &[u8]) -> Option<(u8, usize)>
     ensures { result ≡ spec.character_of text.now }

@@ -1,4 +1,4 @@
-//! Comments: the length of the one at the front of a text.
+//! Comments: the length of the one at the beginning of a text.
 ghost use Rattle.std.specs.Prelude.{◌≡◌, ◌≤◌, length, IfSome};
 ghost use Rattle.std.specs.List.{prefix_len};
 ghost use Rattle.pw_lex.specs.Fault.{not_newline};

@@ -11,7 +11,7 @@ pub enum LexError {
     /// No white space, comment or token begins here.
     #[error("bad byte")]
     BadByte(u32),
-    /// A `/*` with no `*/` behind it.
+    /// A `/*` with no `*/` after it.
     #[error("open comment")]
     OpenComment(u32),
     /// A run of letters, digits and `_` that begins with a digit and is no integer constant.
@@ -20,7 +20,7 @@ pub enum LexError {
     /// An integer constant whose value is too large for its type.
     #[error("number too wide")]
     TooWide(u32),
-    /// A name of more than 63 bytes.
+    /// A name of more than `Limits::NAME_BYTES` bytes.
     #[error("name too long")]
     LongName(u32),
     /// Memory for the tokens was refused.

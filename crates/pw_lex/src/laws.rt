@@ -1,7 +1,9 @@
-//! Laws of texts and of the tables, each the contract of a function.
-ghost use Rattle.std.specs.Prelude.{◌≡◌, true};
+//! Laws of texts and of their tokens, each the contract of a function.
+ghost use Rattle.std.specs.Prelude.{◌≡◌, map};
 ghost use Rattle.pw_lex.specs.Laws.{HasReading, NotBoth, OneList, OneFault, TokensStand};
-ghost use Rattle.pw_lex.specs.Tables.{keywords, punctuators, all_differ, is_longest_first, is_numbered_from, is_counted};
+ghost use Rattle.pw_lex.specs.Spellings.{keywords, punctuators};
+
+use crate::spellings::{KEYWORDS, PUNCTUATORS};
 
 /// A text has tokens or a fault, and never both; and it has one list of tokens, or one fault, at most.
 pub fn a_text_reads_in_one_way()
@@ -16,13 +18,9 @@ pub fn tokens_stand_in_their_text()
     ensures { TokensStand }
 {}
 
-/// The keywords are numbered in order, the punctuators from 0 to one below their count; no two entries of a table
-/// are alike, and no punctuator stands before a longer one.
-#[tactic(auto, unfolding(crate::specs::Tables::keywords, crate::specs::Tables::punctuators))]
-pub fn the_tables_keep_their_rules()
-    ensures keywords_numbered { is_numbered_from 0 keywords ≡ true }
-    ensures keywords_differ { all_differ keywords ≡ true }
-    ensures punctuators_counted { is_counted punctuators ≡ true }
-    ensures punctuators_differ { all_differ punctuators ≡ true }
-    ensures longest_first { is_longest_first punctuators ≡ true }
+/// The texts that tokens are read by are the keywords and the punctuators of the language, each with its number.
+#[tactic(auto, unfolding(crate::specs::Spellings::keywords, crate::specs::Spellings::punctuators))]
+pub fn tokens_go_by_their_spellings()
+    ensures keywords { map (λ entry. entry.now) KEYWORDS ≡ keywords }
+    ensures punctuators { map (λ entry. entry.now) PUNCTUATORS ≡ punctuators }
 {}

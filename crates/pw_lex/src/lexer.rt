@@ -4,30 +4,30 @@ ghost use Rattle.pw_lex.specs.Text.{HasTokens, HasFault, place_of};
 ghost use Rattle.pw_lex.specs.Reading as spec;
 
 use crate::error::LexError;
-use crate::front::{Front, read_front};
 use crate::line::newlines;
+use crate::prefix::{Prefix, read_prefix};
 use crate::token::Token;
 use sqlite_items::Items;
 use std::alloc::Global;
 
-impl Front {
+impl Prefix {
     /// Its length in bytes.
     fn len(&self) -> usize
         ensures { result ≡ spec.len_of self.now }
     {
         match self {
-            Front::Gap(len) | Front::Token(_, len) => *len,
+            Prefix::Gap(len) | Prefix::Token(_, len) => *len,
         }
     }
 }
 
 /// Adds the token, if it is one, that stands at `at` on a line.
-fn keep(tokens: &mut Items<Token>, front: Front, at: u32, line: u32) -> Result<(), LexError>
-    requires { at + spec.len_of front < 2 ^ 32 }
-    ensures kept { OnOk result (tokens.new ≡ tokens.old ++ spec.tokens_of_front at line front) }
+fn keep(tokens: &mut Items<Token>, prefix: Prefix, at: u32, line: u32) -> Result<(), LexError>
+    requires { at + spec.len_of prefix < 2 ^ 32 }
+    ensures kept { OnOk result (tokens.new ≡ tokens.old ++ spec.tokens_of_prefix at line prefix) }
     ensures memory { IfErr result (λ fault. fault ≡ LexError.NoMemory) }
 {
-    if let Front::Token(kind, len) = front {
+    if let Prefix::Token(kind, len) = prefix {
         let token = Token {
             kind,
             first: at,
@@ -53,11 +53,11 @@ pub fn tokens(alloc: Global, text: &[u8]) -> Result<Items<Token>, LexError>
     let mut rest = text;
     while !rest.is_empty() {
         let at = (text.len() - rest.len()) as u32;
-        let front = read_front(alloc, rest, at)?;
-        let (bytes, behind) = rest.split_at(front.len());
-        keep(&mut tokens, front, at, line as u32)?;
+        let prefix = read_prefix(alloc, rest, at)?;
+        let (bytes, after) = rest.split_at(prefix.len());
+        keep(&mut tokens, prefix, at, line as u32)?;
         line += newlines(bytes);
-        rest = behind;
+        rest = after;
     }
     Ok(tokens)
 }

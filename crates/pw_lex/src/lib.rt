@@ -8,22 +8,17 @@ mod bytes;
 mod character;
 mod comment;
 mod error;
-mod front;
-pub mod keyword;
 mod laws;
 mod lexer;
 mod line;
 mod number;
-pub mod punct;
-mod table;
+mod prefix;
+mod spellings;
 mod token;
 mod word;
 
 pub use error::LexError;
-pub use laws::{a_text_reads_in_one_way, the_tables_keep_their_rules, tokens_stand_in_their_text};
+pub use laws::{a_text_reads_in_one_way, tokens_go_by_their_spellings, tokens_stand_in_their_text};
 pub use lexer::tokens;
 pub use line::{end_line, line_at};
 pub use token::{Token, TokenKind};
-
-#[cfg(test)]
-mod tests;

@@ -9,14 +9,14 @@ use crate::error::LexError;
 use crate::token::TokenKind;
 
 /// The base of an integer constant.
-#[derive(Clone, Copy, Debug)]
+#[derive(Clone, Copy)]
 pub enum Radix {
     Decimal,
     Hexadecimal,
 }
 
 /// What the spelling of an integer constant says.
-#[derive(Clone, Copy, Debug)]
+#[derive(Clone, Copy)]
 pub struct Constant {
     pub radix: Radix,
     /// Its value, or `None` for one of more than 64 bits.
@@ -36,8 +36,8 @@ fn radix_of(bytes: &[u8]) -> Radix
     }
 }
 
-/// What stands behind the mark of the base.
-fn behind_mark(radix: Radix, bytes: &[u8]) -> &[u8]
+/// What stands after the mark of the base.
+fn after_mark(radix: Radix, bytes: &[u8]) -> &[u8]
     requires { spec.mark_len radix ≤ length bytes.now }
     ensures { result.now ≡ drop (spec.mark_len radix) bytes.now }
 {
@@ -139,10 +139,10 @@ fn value(radix: Radix, digits: &[u8]) -> Option<u64>
 }
 
 #[tactic(auto, unfolding(crate::specs::Reading::constant_in))]
-fn constant_in(radix: Radix, behind: &[u8]) -> Option<Constant>
-    ensures { result ≡ spec.constant_in radix behind.now }
+fn constant_in(radix: Radix, after: &[u8]) -> Option<Constant>
+    ensures { result ≡ spec.constant_in radix after.now }
 {
-    let (digits, suffix) = behind.split_at(digits_len(radix, behind));
+    let (digits, suffix) = after.split_at(digits_len(radix, after));
     if digits.is_empty() || has_leading_zero(radix, digits) {
         return None;
     }
@@ -176,7 +176,7 @@ pub fn number(bytes: &[u8], at: u32) -> Result<TokenKind, LexError>
     ensures { result ≡ spec.number at (spec.constant_of bytes.now) }
 {
     let radix = radix_of(bytes);
-    match constant_in(radix, behind_mark(radix, bytes)) {
+    match constant_in(radix, after_mark(radix, bytes)) {
         None => Err(LexError::BadNumber(at)),
         Some(constant) => number_kind(constant.radix, constant.has_u, constant.value, at),
     }

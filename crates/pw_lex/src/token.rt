@@ -8,7 +8,7 @@ pub struct Token {
     pub kind: TokenKind,
     /// Its first byte, from 0.
     pub first: u32,
-    /// The byte behind its last.
+    /// The byte after its last.
     pub end: u32,
     /// Its line, from 1.
     pub line: u32,

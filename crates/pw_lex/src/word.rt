@@ -3,8 +3,7 @@ ghost use Rattle.std.specs.Prelude.{◌≡◌, ◌≢◌, IfOk, IfErr};
 ghost use Rattle.pw_lex.specs.Reading as spec;
 
 use crate::error::LexError;
-use crate::keyword::KEYWORDS;
-use crate::table::number_of;
+use crate::spellings::{KEYWORDS, number_of};
 use crate::token::TokenKind;
 use pw_base::{Limits, Name};
 use std::alloc::Global;
@@ -21,7 +20,7 @@ fn name(alloc: Global, bytes: &[u8]) -> Result<TokenKind, LexError>
 }
 
 /// The name or the keyword that a whole run is, which stands at `at`. Refusals: `LongName`, and want of memory.
-#[tactic(auto, unfolding(crate::specs::Reading::word_in, crate::specs::Tables::keywords))]
+#[tactic(auto, unfolding(crate::specs::Reading::word_in, crate::specs::Spellings::keywords))]
 pub fn word(alloc: Global, bytes: &[u8], at: u32) -> Result<TokenKind, LexError>
     ensures kind { IfOk result (λ kind. spec.word_in at bytes.now ≡ Ok kind) }
     ensures fault { IfErr result (λ fault. fault ≢ LexError.NoMemory → spec.word_in at bytes.now ≡ Err fault) }

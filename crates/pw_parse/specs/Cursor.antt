@@ -1,7 +1,7 @@
 -- What a cursor shows, and what bounds it.
 use Rattle.std.specs.Prelude.{◌+◌, ◌^◌, ◌<◌, length}
 use Rattle.pw_parse.specs.declared.cursor.Cursor.TheInside.{Inside}
-use Rattle.pw_grammar.specs.Steps.{Position}
+use Rattle.pw_grammar.specs.Reading.Steps.{Position}
 
 abbrev pub place_of : Inside → Position
 place_of c = record { at = c.at; rest = c.rest.now }

@@ -4,8 +4,8 @@ use Rattle.std.specs.declared.alloc.Global.{Global}
 use denote.Ref.{MutBor}
 use Rattle.pw_tree.specs.declared.expr.Expr.{Expr}
 use Rattle.pw_grammar.specs.declared.error.SyntaxError.{SyntaxError}
-use Rattle.pw_grammar.specs.Steps.{Position, Reads}
-use Rattle.pw_grammar.specs.ReadingExpressions.{expression}
+use Rattle.pw_grammar.specs.Reading.Steps.{Position, Reads}
+use Rattle.pw_grammar.specs.Reading.Expressions.{expression}
 
 pub record Nests (depth : ℕ) (pre : Global → MutBor Position → ℕ → Type 0)
     (post : Global → MutBor Position → ℕ → Result Expr SyntaxError → MutBor Position → Type 0) : Type 0 where

@@ -3,8 +3,8 @@ use Rattle.std.specs.Prelude.{ℕ, Result}
 use Rattle.std.specs.declared.alloc.Global.{Global}
 use denote.Ref.{MutBor}
 use Rattle.pw_grammar.specs.declared.error.SyntaxError.{SyntaxError}
-use Rattle.pw_grammar.specs.Steps.{Position, Reads}
-use Rattle.pw_grammar.specs.ReadingStatements.{statement}
+use Rattle.pw_grammar.specs.Reading.Steps.{Position, Reads}
+use Rattle.pw_grammar.specs.Reading.Statements.{statement}
 use Rattle.pw_tree.specs.declared.stmt.Stmt.{Stmt}
 
 pub record NestsStatements (depth : ℕ) (pre : Global → MutBor Position → ℕ → Type 0)

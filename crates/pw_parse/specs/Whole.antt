@@ -2,7 +2,6 @@
 use Rattle.std.specs.Prelude.{◌≡◌, ◌≢◌, ℕ, List, map, slice_index_or, Result, Ok, Err}
 use Rattle.pw_grammar.specs.declared.error.SyntaxError.{SyntaxError}
 use Rattle.pw_grammar.specs.declared.error.SyntaxError.TheVariants.{NoMemory}
-use Rattle.pw_grammar.specs.Faults.{IsFault}
 use Rattle.pw_lex.specs.declared.token.Token.{Token}
 use Rattle.pw_tree.specs.declared.decl.Decl.{Decl}
 
@@ -10,10 +9,6 @@ use Rattle.pw_tree.specs.declared.decl.Decl.{Decl}
 abbrev pub Answers : Result (List Decl) SyntaxError → Result (List Decl) SyntaxError → Type 0
 Answers answer (Ok decls) = answer ≡ Ok decls
 Answers answer (Err e) = e ≢ NoMemory → answer ≡ Err e
-
--- the tokens have no fault
-abbrev pub IsFaultless : List Token → Type 0
-IsFaultless tokens = (fault : SyntaxError) → IsFault tokens fault → ⊥
 
 -- the line of a token, or of the end
 abbrev pub fault_line_of : List Token → ℕ → ℕ → ℕ

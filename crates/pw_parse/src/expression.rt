@@ -1,6 +1,6 @@
 //! Whole expressions: choices (C17, 6.5.15).
-ghost use Rattle.pw_grammar.specs.ReadingExpressions as spec;
-ghost use Rattle.pw_grammar.specs.Steps.{Reads};
+ghost use Rattle.pw_grammar.specs.Reading.Expressions as spec;
+ghost use Rattle.pw_grammar.specs.Reading.Steps.{Reads};
 ghost use Rattle.pw_parse.specs.Nests.{Nests};
 
 use crate::cursor::Cursor;
@@ -15,7 +15,7 @@ const LOOSEST: usize = 12;
 
 impl<F: Fn(Global, &mut Cursor<'_>, usize) -> Result<Expr, SyntaxError>> Grammar<F> {
     /// The branches of a choice whose first token has the number `first`.
-    #[tactic(auto, unfolding(pw_grammar::specs::ReadingExpressions::branches))]
+    #[tactic(auto, unfolding(pw_grammar::specs::Reading::Expressions::branches))]
     fn branches(&self, cursor: &mut Cursor<'_>, first: u32, test: Expr) -> Result<Expr, SyntaxError>
         requires { Nests self.now.depth (F.pre self.now.expr) (F.post self.now.expr) }
         ensures { Reads (spec.branches (spec.expression self.now.depth) first test cursor.old) result cursor.new }
@@ -33,7 +33,7 @@ impl<F: Fn(Global, &mut Cursor<'_>, usize) -> Result<Expr, SyntaxError>> Grammar
     }
 
     /// A choice, or an expression of a tighter level.
-    #[tactic(auto, unfolding(pw_grammar::specs::ReadingExpressions::choice))]
+    #[tactic(auto, unfolding(pw_grammar::specs::Reading::Expressions::choice))]
     pub fn choice(&self, cursor: &mut Cursor<'_>) -> Result<Expr, SyntaxError>
         requires { Nests self.now.depth (F.pre self.now.expr) (F.post self.now.expr) }
         ensures { Reads (spec.choice (spec.expression self.now.depth) self.now.turns cursor.old) result cursor.new }

@@ -1,6 +1,6 @@
 //! The rules that hold expressions take the reader of those as a parameter, so that each is proved by itself.
-ghost use Rattle.pw_grammar.specs.ReadingExpressions as spec;
-ghost use Rattle.pw_grammar.specs.Steps.{Reads};
+ghost use Rattle.pw_grammar.specs.Reading.Expressions as spec;
+ghost use Rattle.pw_grammar.specs.Reading.Steps.{Reads};
 ghost use Rattle.pw_parse.specs.Nests.{Nests};
 
 use crate::cursor::Cursor;

@@ -1,7 +1,7 @@
 //! Heads: what stands of a statement in front of a statement that it holds.
 ghost use Rattle.std.specs.Prelude.{◌≡◌, ◌≤◌, ◌<◌, length, Ok, IfOk, IfNone};
-ghost use Rattle.pw_grammar.specs.ReadingExpressions as expressions;
-ghost use Rattle.pw_grammar.specs.Steps.{Reads};
+ghost use Rattle.pw_grammar.specs.Reading.Expressions as expressions;
+ghost use Rattle.pw_grammar.specs.Reading.Steps.{Reads};
 ghost use Rattle.pw_parse.specs.Heads as spec;
 ghost use Rattle.pw_parse.specs.Nesting as nesting;
 ghost use Rattle.pw_parse.specs.Nesting.{Resumes};
@@ -89,7 +89,7 @@ fn for_head(alloc: Global, cursor: &mut Cursor<'_>, depth: usize) -> Result<Head
 }
 
 /// A head, if a token of this sort begins one.
-#[tactic(auto, unfolding(pw_grammar::specs::ReadingStatements::some))]
+#[tactic(auto, unfolding(pw_grammar::specs::Reading::Statements::some))]
 pub(crate) fn maybe_head(
     alloc: Global,
     cursor: &mut Cursor<'_>,

@@ -1,7 +1,7 @@
 //! Calls and indices (C17, 6.5.2).
 ghost use Rattle.std.specs.Prelude.{[], ◌∷◌};
-ghost use Rattle.pw_grammar.specs.ReadingExpressions as spec;
-ghost use Rattle.pw_grammar.specs.Steps.{Reads};
+ghost use Rattle.pw_grammar.specs.Reading.Expressions as spec;
+ghost use Rattle.pw_grammar.specs.Reading.Steps.{Reads};
 ghost use Rattle.pw_parse.specs.Nests.{Nests};
 
 use crate::cursor::Cursor;
@@ -33,7 +33,7 @@ impl<F: Fn(Global, &mut Cursor<'_>, usize) -> Result<Expr, SyntaxError>> Grammar
     }
 
     /// One argument or more.
-    #[tactic(auto, unfolding(pw_grammar::specs::ReadingExpressions::some_arguments))]
+    #[tactic(auto, unfolding(pw_grammar::specs::Reading::Expressions::some_arguments))]
     fn some_arguments(&self, cursor: &mut Cursor<'_>) -> Result<Items<Expr>, SyntaxError>
         requires { Nests self.now.depth (F.pre self.now.expr) (F.post self.now.expr) }
         ensures { Reads (spec.some_arguments (spec.expression self.now.depth) self.now.turns cursor.old) result cursor.new }
@@ -44,7 +44,7 @@ impl<F: Fn(Global, &mut Cursor<'_>, usize) -> Result<Expr, SyntaxError>> Grammar
     }
 
     /// The arguments of a call.
-    #[tactic(auto, unfolding(pw_grammar::specs::ReadingExpressions::arguments))]
+    #[tactic(auto, unfolding(pw_grammar::specs::Reading::Expressions::arguments))]
     fn arguments(&self, cursor: &mut Cursor<'_>) -> Result<Items<Expr>, SyntaxError>
         requires { Nests self.now.depth (F.pre self.now.expr) (F.post self.now.expr) }
         ensures { Reads (spec.arguments (spec.expression self.now.depth) self.now.turns cursor.old) result cursor.new }
@@ -57,7 +57,7 @@ impl<F: Fn(Global, &mut Cursor<'_>, usize) -> Result<Expr, SyntaxError>> Grammar
     }
 
     /// A call of the callee, whose first token has the number `first`.
-    #[tactic(auto, unfolding(pw_grammar::specs::ReadingExpressions::call))]
+    #[tactic(auto, unfolding(pw_grammar::specs::Reading::Expressions::call))]
     fn call(&self, cursor: &mut Cursor<'_>, first: u32, callee: Expr) -> Result<Expr, SyntaxError>
         requires { Nests self.now.depth (F.pre self.now.expr) (F.post self.now.expr) }
         ensures { Reads (spec.call (spec.expression self.now.depth) self.now.turns first callee cursor.old) result cursor.new }
@@ -74,7 +74,7 @@ impl<F: Fn(Global, &mut Cursor<'_>, usize) -> Result<Expr, SyntaxError>> Grammar
     }
 
     /// An index into the base, whose first token has the number `first`.
-    #[tactic(auto, unfolding(pw_grammar::specs::ReadingExpressions::index))]
+    #[tactic(auto, unfolding(pw_grammar::specs::Reading::Expressions::index))]
     fn index(&self, cursor: &mut Cursor<'_>, first: u32, base: Expr) -> Result<Expr, SyntaxError>
         requires { Nests self.now.depth (F.pre self.now.expr) (F.post self.now.expr) }
         ensures { Reads (spec.index (spec.expression self.now.depth) first base cursor.old) result cursor.new }
@@ -113,7 +113,7 @@ impl<F: Fn(Global, &mut Cursor<'_>, usize) -> Result<Expr, SyntaxError>> Grammar
     }
 
     /// A primary expression, with the calls and indices behind it.
-    #[tactic(auto, unfolding(pw_grammar::specs::ReadingExpressions::postfix))]
+    #[tactic(auto, unfolding(pw_grammar::specs::Reading::Expressions::postfix))]
     pub fn postfix(&self, cursor: &mut Cursor<'_>) -> Result<Expr, SyntaxError>
         requires { Nests self.now.depth (F.pre self.now.expr) (F.post self.now.expr) }
         ensures { Reads (spec.postfix (spec.expression self.now.depth) self.now.turns cursor.old) result cursor.new }

@@ -1,9 +1,9 @@
 //! Statements that hold expressions alone: locals, assignments, and expressions by themselves.
 ghost use Rattle.std.specs.Prelude.{◌≡◌, Some, Ok};
-ghost use Rattle.pw_grammar.specs.Steps as steps;
-ghost use Rattle.pw_grammar.specs.Steps.{Reads};
-ghost use Rattle.pw_grammar.specs.ReadingExpressions as expressions;
-ghost use Rattle.pw_grammar.specs.ReadingStatements as spec;
+ghost use Rattle.pw_grammar.specs.Reading.Steps as steps;
+ghost use Rattle.pw_grammar.specs.Reading.Steps.{Reads};
+ghost use Rattle.pw_grammar.specs.Reading.Expressions as expressions;
+ghost use Rattle.pw_grammar.specs.Reading.Statements as spec;
 
 use crate::cursor::Cursor;
 use crate::expression::expression;
@@ -26,7 +26,7 @@ pub(crate) fn finished(cursor: &Cursor<'_>, first: u32, line: u32, kind: StmtKin
 }
 
 /// `= e`, or nothing.
-#[tactic(auto, unfolding(pw_grammar::specs::ReadingStatements::maybe_value, pw_grammar::specs::ReadingStatements::value))]
+#[tactic(auto, unfolding(pw_grammar::specs::Reading::Statements::maybe_value, pw_grammar::specs::Reading::Statements::value))]
 fn maybe_value(
     alloc: Global,
     cursor: &mut Cursor<'_>,
@@ -43,7 +43,7 @@ fn maybe_value(
 }
 
 /// A local's declaration.
-#[tactic(auto, unfolding(pw_grammar::specs::ReadingStatements::local))]
+#[tactic(auto, unfolding(pw_grammar::specs::Reading::Statements::local))]
 pub(crate) fn local(
     alloc: Global,
     cursor: &mut Cursor<'_>,
@@ -71,7 +71,7 @@ fn word_of(first: u32, expr: Expr) -> Option<Name>
 }
 
 /// The name, or the name and the index, that an expression assigns to where it stands at the front of a statement.
-#[tactic(auto, unfolding(pw_grammar::specs::ReadingStatements::target))]
+#[tactic(auto, unfolding(pw_grammar::specs::Reading::Statements::target))]
 fn target(first: u32, expr: Expr) -> Option<(Name, Option<Expr>)>
     ensures { result ≡ spec.target first expr }
 {
@@ -104,7 +104,7 @@ fn assigned(
 }
 
 /// An assignment, or an expression by itself.
-#[tactic(auto, unfolding(pw_grammar::specs::ReadingStatements::simple))]
+#[tactic(auto, unfolding(pw_grammar::specs::Reading::Statements::simple))]
 fn simple(alloc: Global, cursor: &mut Cursor<'_>, depth: usize) -> Result<StmtKind, SyntaxError>
     ensures { Reads (spec.simple (expressions.expression depth) cursor.old) result cursor.new }
 {
@@ -120,7 +120,7 @@ fn simple(alloc: Global, cursor: &mut Cursor<'_>, depth: usize) -> Result<StmtKi
 }
 
 /// An assignment, or an expression by itself, without its `;`.
-#[tactic(auto, unfolding(pw_grammar::specs::ReadingStatements::simple_statement))]
+#[tactic(auto, unfolding(pw_grammar::specs::Reading::Statements::simple_statement))]
 pub(crate) fn simple_statement(
     alloc: Global,
     cursor: &mut Cursor<'_>,
@@ -135,7 +135,7 @@ pub(crate) fn simple_statement(
 }
 
 /// An assignment or an expression, and `;`.
-#[tactic(auto, unfolding(pw_grammar::specs::ReadingStatements::evaluated))]
+#[tactic(auto, unfolding(pw_grammar::specs::Reading::Statements::evaluated))]
 pub(crate) fn evaluated(
     alloc: Global,
     cursor: &mut Cursor<'_>,
@@ -149,7 +149,7 @@ pub(crate) fn evaluated(
 }
 
 /// `( e )`
-#[tactic(auto, unfolding(pw_grammar::specs::ReadingStatements::test))]
+#[tactic(auto, unfolding(pw_grammar::specs::Reading::Statements::test))]
 pub(crate) fn test(
     alloc: Global,
     cursor: &mut Cursor<'_>,

@@ -1,10 +1,10 @@
 //! The tree of a whole token list, or its first fault.
 ghost use Rattle.std.specs.Prelude.{◌≡◌, ◌≢◌, ◌<◌, ◌^◌, ◌-◌, length, map, IfOk, IfErr};
 ghost use Rattle.pw_grammar.specs.Declarations.{Derives, lines_of};
-ghost use Rattle.pw_grammar.specs.Faults.{IsFirstFault, IsFault, token_of};
-ghost use Rattle.pw_grammar.specs.Reading as spec;
-ghost use Rattle.pw_grammar.specs.ReadingDeclarations as declarations;
-ghost use Rattle.pw_parse.specs.Whole.{Answers, IsFaultless, fault_line_of};
+ghost use Rattle.pw_grammar.specs.Faults.{IsFaultless, IsFirstFault, IsFault, token_of};
+ghost use Rattle.pw_grammar.specs.Reading.Whole as spec;
+ghost use Rattle.pw_grammar.specs.Reading.Declarations as declarations;
+ghost use Rattle.pw_parse.specs.Whole.{Answers, fault_line_of};
 
 use crate::cursor::Cursor;
 use crate::limits::first_limit;
@@ -47,7 +47,7 @@ fn without_limit(alloc: Global, tokens: &[Token]) -> Result<Items<Decl>, SyntaxE
 }
 
 /// The declarations of a list, or its first fault.
-#[tactic(auto, unfolding(pw_grammar::specs::Reading::parsed))]
+#[tactic(auto, unfolding(pw_grammar::specs::Reading::Whole::parsed))]
 fn parsed(alloc: Global, tokens: &[Token]) -> Result<Items<Decl>, SyntaxError>
     requires { length tokens.now < 2 ^ 32 }
     ensures { Answers (spec.parsed (2 ^ 32) tokens.now) result }

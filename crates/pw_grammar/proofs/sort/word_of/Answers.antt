@@ -4,7 +4,7 @@ use Rattle.std.proofs.lemmas.Grind.{common_steps}
 use Rattle.std.proofs.lemmas.Bool.{false≢true}
 use Rattle.pw_grammar.specs.declared.sort.Sort.{Sort}
 use Rattle.pw_grammar.specs.declared.sort.Sort.TheVariants as s
-use Rattle.pw_grammar.specs.Terminals.{keywords, punctuators, symbols, numbered, sort_of, is_same}
+use Rattle.pw_grammar.specs.Terminals.{keyword_symbols, punctuator_symbols, numbered, sort_of, is_same}
 use Rattle.pw_lex.specs.declared.token.TokenKind.{TokenKind}
 use Rattle.pw_lex.specs.declared.token.TokenKind.TheVariants as t
 use Rattle.pw_grammar.proofs.sort.word_of.Goals as goal
@@ -29,8 +29,8 @@ unfolding sort_of is_same
 other (t.Word name) differs = absurd (differs name refl)
 other (t.Number value unsigned) differs = refl
 other (t.Char value) differs = refl
-other (t.Keyword number) differs = fails_at (λ x. is_same x s.Name) (symbols keywords) number refl refl
-other (t.Punct number) differs = fails_at (λ x. is_same x s.Name) (symbols punctuators) number refl refl
+other (t.Keyword number) differs = fails_at (λ x. is_same x s.Name) keyword_symbols number refl refl
+other (t.Punct number) differs = fails_at (λ x. is_same x s.Name) punctuator_symbols number refl refl
 
 pub returns-in-Number : goal.returns-in-Number
 returns-in-Number c = other c.args.kind.now (λ name e. first_of (search rules, grind (arith, common_steps)))

@@ -5,7 +5,7 @@ use Rattle.pw_grammar.specs.declared.sort.Sort.{Sort}
 use Rattle.pw_grammar.specs.declared.sort.Sort.TheVariants as s
 use Rattle.pw_grammar.specs.Terminals.{prefix_of, binary_of, level_of}
 use Rattle.pw_grammar.specs.Expressions.{name_in, value_in, is_unsigned}
-use Rattle.pw_grammar.specs.Steps.{Parser, either, on_option, ◌>>=◌, pure, refuse, next_sort, sees, here, take, skip, expect, finish}
+use Rattle.pw_grammar.specs.Reading.Steps.{Parser, either, on_option, ◌>>=◌, pure, refuse, next_sort, sees, here, take, skip, expect, finish}
 use Rattle.pw_tree.specs.declared.operator.Un.{Un}
 use Rattle.pw_tree.specs.declared.operator.Bin.{Bin}
 use Rattle.pw_tree.specs.declared.expr.Expr.{Expr, roll-Expr}
@@ -78,7 +78,7 @@ some_arguments expr n = do
 unfoldable pub arguments : Parser Expr → ℕ → Parser (List Expr)
 arguments expr n = λ i. if sees s.RightParen i then pure [] i else some_arguments expr n i
 
--- behind an expression whose first token has the number `first`
+-- after an expression whose first token has the number `first`
 unfoldable pub call : Parser Expr → ℕ → ℕ → Expr → Parser Expr
 call expr n first left = do
   line ← skip
@@ -122,7 +122,7 @@ unfoldable pub operators : ℕ → List (Un × ℕ) → Parser (List (Un × ℕ)
 operators zero found = pure found
 operators (suc n) found = prefix_operator >>= (λ x. on_option x (pure found) (λ op. operators n (found ++ op ∷ [])))
 
--- the operand behind these operators, the first of which has the number `at`; `last` is the operand's last token
+-- the operand after these operators, the first of which has the number `at`; `last` is the operand's last token
 unfoldable pub wrapped : ℕ → ℕ → List (Un × ℕ) → Expr → Expr
 wrapped at last [] a = a
 wrapped at last (op ∷ ops) a =
@@ -154,7 +154,7 @@ binary_by (Some op) = do
 unfoldable pub binary_operator : ℕ → Parser (Option (Bin × ℕ))
 binary_operator level = λ i. binary_by (at_level level (binary_of (next_sort i))) i
 
--- further operands of a level behind the left one, each read by `operand`
+-- further operands of a level after the left one, each read by `operand`
 unfoldable pub chain : ℕ → Parser Expr → ℕ → ℕ → Expr → Parser Expr
 chain level operand zero first left = pure left
 chain level operand (suc turns) first left = binary_operator level >>= (λ x. on_option x (pure left) (λ op. do

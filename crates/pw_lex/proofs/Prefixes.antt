@@ -1,4 +1,4 @@
--- What the code reads at the front of a text stands there, as the definitions say.
+-- What the code reads at the beginning of a text stands there, as the definitions say.
 use Rattle.std.proofs.Common.{◌≡◌, ℕ, ◌+◌, ◌<◌, ◌≤◌, Bool, true, false, ◌&&◌, cond, inl, inr, [], ◌∷◌, ◌++◌, length, take, drop, slice_index, Option, Some, None, Result, Ok, Err, nat_eq, nat_lt, refl, sym, ap, ◌∙◌, subst, arith, one-add, append_assoc, length-append, take-append-drop}
 use Rattle.std.specs.List.{prefix_len}
 use Rattle.std.proofs.lemmas.Bool.{and_parts, cases_Bool, eqb-true, both_ways, ltb-true, ltb-false}
@@ -7,24 +7,25 @@ use Rattle.pw_lex.specs.declared.bytes.Class.TheVariants.{White, Letter, Digit, 
 use Rattle.pw_lex.specs.declared.number.Radix.{Radix}
 use Rattle.pw_lex.specs.declared.error.LexError.{LexError}
 use Rattle.pw_lex.specs.declared.error.LexError.TheVariants.{BadByte, OpenComment, BadNumber, TooWide, LongName, NoMemory}
-use Rattle.pw_lex.specs.declared.front.Front.{Front}
-use Rattle.pw_lex.specs.declared.front.Front.TheVariants.{Gap, Token}
+use Rattle.pw_lex.specs.declared.prefix.Prefix.{Prefix}
+use Rattle.pw_lex.specs.declared.prefix.Prefix.TheVariants.{Gap, Token}
 use Rattle.pw_lex.specs.declared.token.TokenKind.{TokenKind}
 use Rattle.pw_lex.specs.declared.token.TokenKind.TheVariants.{Word, Number, Char, Keyword, Punct}
 use Rattle.pw_lex.specs.Bytes.{Text, class_of, BeginsWith, runs_on, is_run_byte, run}
-use Rattle.pw_lex.specs.Tables.{keywords, punctuators, is_longest_first}
+use Rattle.pw_base.specs.Limits.{name_bytes}
+use Rattle.pw_lex.specs.Spellings.{keywords, punctuators}
 use Rattle.pw_lex.specs.Number.{IsConstant, value, limit}
 use Rattle.pw_lex.specs.Character.{IsCharacter}
 use Rattle.pw_lex.specs.Token.{IsToken}
 use Rattle.pw_lex.specs.Fault as piece
 use Rattle.pw_lex.specs.Fault.{Piece, bytes_of, not_newline, closes, OpensComment, IsOpenComment, IsBadNumber, IsTooWide, IsLongName, BeginsToken, StandsBefore, IsBadByte}
-use Rattle.pw_lex.specs.Text.{tokens_of_piece, line_behind, FaultStands, place_of}
+use Rattle.pw_lex.specs.Text.{tokens_of_piece, line_after, FaultStands, place_of}
 use Rattle.pw_lex.specs.Reading as reading
-use Rattle.pw_lex.specs.Reading.{number_of, first_fit, close_from, character_of, constant_of, word_in, run_token, front_in, front, other, len_of, tokens_of_front}
+use Rattle.pw_lex.specs.Reading.{number_from, longest_punctuator, close_from, character_of, constant_of, word_in, run_token, prefix_in, prefix, other, len_of, tokens_of_prefix}
 use Rattle.pw_lex.proofs.Lists.{length-le-prefix_len, list_all-take_while, length-take_while}
-use Rattle.pw_lex.proofs.Entries.{number_of-Some, number_of-None, FitsFirst, first_fit-Some, first_fit-None}
+use Rattle.pw_lex.proofs.Entries.{number_from-Some, number_from-None, BeginsPunctuator, longest_punctuator-Some, longest_punctuator-None}
 use Rattle.pw_lex.proofs.FirstBytes.{class_slash, kind_class, token_begins, token_runs, token_some}
-use Rattle.pw_lex.proofs.Comments.{EndsLine-behind, ClosesAt, close_from-Some, close_from-None}
+use Rattle.pw_lex.proofs.Comments.{EndsLine-after, ClosesAt, close_from-Some, close_from-None}
 use Rattle.pw_lex.proofs.Characters.{pair, BeginsCharacter, character_of-Some, character_of_is}
 use Rattle.pw_lex.proofs.Constants.{IsNumberToken, number-Ok, NumberFault, number-Err, same_constant, word_value_some, word_value-Some, limit-lt}
 
@@ -34,15 +35,15 @@ pub one_class : (text : Text) (first second : Class) → BeginsWith first text �
 one_class [] first second begins too = absurd begins
 one_class (byte ∷ _) first second begins too = sym begins ∙ too
 
-pub begins_front : (class : Class) (front rest : Text) → BeginsWith class front → BeginsWith class (front ++ rest)
-begins_front class [] rest begins = absurd begins
-begins_front class (byte ∷ front) rest begins = begins
+pub begins_prefix : (class : Class) (prefix rest : Text) → BeginsWith class prefix → BeginsWith class (prefix ++ rest)
+begins_prefix class [] rest begins = absurd begins
+begins_prefix class (byte ∷ prefix) rest begins = begins
 
--- a token at the front of a text has the class of the text's first byte
-pub front_kind : (text bytes rest : Text) (kind : TokenKind) (class : Class) → text ≡ bytes ++ rest → IsToken bytes kind → BeginsWith class text → kind_class kind ≡ class
-front_kind text bytes rest kind class is token begins =
+-- a token at the beginning of a text has the class of the text's first byte
+pub prefix_kind : (text bytes rest : Text) (kind : TokenKind) (class : Class) → text ≡ bytes ++ rest → IsToken bytes kind → BeginsWith class text → kind_class kind ≡ class
+prefix_kind text bytes rest kind class is token begins =
     one_class text (kind_class kind) class
-    (subst (BeginsWith (kind_class kind)) (sym is) (begins_front (kind_class kind) bytes rest (token_begins bytes kind token))) begins
+    (subst (BeginsWith (kind_class kind)) (sym is) (begins_prefix (kind_class kind) bytes rest (token_begins bytes kind token))) begins
 
 pub opens_other : (text : Text) → OpensComment text → BeginsWith Other text
 opens_other text (rest, inl line) = subst (BeginsWith Other) (sym line) class_slash
@@ -59,7 +60,7 @@ run_rest text = sym (take-append-drop (prefix_len is_run_byte text) text)
 run_longest : (text bytes rest : Text) (kind : TokenKind) (class : Class) → BeginsWith class text → runs_on class ≡ true
     → text ≡ bytes ++ rest → IsToken bytes kind → length bytes ≤ length (run text)
 run_longest text bytes rest kind class begins on is token =
-    let class_is = front_kind text bytes rest kind class is token begins in
+    let class_is = prefix_kind text bytes rest kind class is token begins in
     let runs = token_runs bytes kind token (ap runs_on class_is ∙ on) in
     let long = length-le-prefix_len is_run_byte bytes rest runs in
     let whole = length-take_while is_run_byte text in
@@ -74,38 +75,38 @@ run_begins (byte ∷ text) class begins on =
 
 -- ---- names and keywords
 
-word_token : (text : Text) (found : Option ℕ) → BeginsWith Letter text → length (run text) ≤ 63 → number_of keywords (run text) ≡ found → IsToken (run text) (reading.word (run text) found)
+word_token : (text : Text) (found : Option ℕ) → BeginsWith Letter text → length (run text) ≤ name_bytes → number_from 0 keywords (run text) ≡ found → IsToken (run text) (reading.word (run text) found)
 word_token text None begins short found_is = (
   record {
     begins = run_begins text Letter begins refl;
     goes_on = list_all-take_while is_run_byte text;
-    short = short;
-    no_keyword = number_of-None keywords (run text) found_is;
+    within_limit = short;
+    no_keyword = number_from-None 0 keywords (run text) found_is;
   },
   refl,
 )
-word_token text (Some number) begins short found_is = number_of-Some keywords (run text) number found_is
+word_token text (Some number) begins short found_is = number_from-Some keywords (run text) number found_is
 
 ok_kind : (a b : TokenKind) → ◌≡◌ {A = Result TokenKind LexError} (Ok a) (Ok b) → a ≡ b
 ok_kind a b same = cc
 
-ok_front : (a b : Front) → ◌≡◌ {A = Result Front LexError} (Ok a) (Ok b) → a ≡ b
-ok_front a b same = cc
+ok_prefix : (a b : Prefix) → ◌≡◌ {A = Result Prefix LexError} (Ok a) (Ok b) → a ≡ b
+ok_prefix a b same = cc
 
 err_kind : (a b : LexError) → ◌≡◌ {A = Result TokenKind LexError} (Err a) (Err b) → a ≡ b
 err_kind a b same = cc
 
-err_front : (a b : LexError) → ◌≡◌ {A = Result Front LexError} (Err a) (Err b) → a ≡ b
-err_front a b same = cc
+err_prefix : (a b : LexError) → ◌≡◌ {A = Result Prefix LexError} (Err a) (Err b) → a ≡ b
+err_prefix a b same = cc
 
-letter_kind : (at : ℕ) (text : Text) (kind : TokenKind) → BeginsWith Letter text → word_in at (run text) ≡ Ok kind → IsToken (run text) kind × (length (run text) ≤ 63)
+letter_kind : (at : ℕ) (text : Text) (kind : TokenKind) → BeginsWith Letter text → word_in at (run text) ≡ Ok kind → IsToken (run text) kind × (length (run text) ≤ name_bytes)
 unfolding word_in
 letter_kind at text kind begins read =
-    elim (cases_Bool (nat_lt 63 (length (run text)))) [
+    elim (cases_Bool (nat_lt name_bytes (length (run text)))) [
       | inl holds ↦ (let e = rw holds at read in cc)
       | inr fails ↦ (
-          let short = ltb-false 63 (length (run text)) fails in
-          (subst (IsToken (run text)) (ok_kind _ _ (rw fails at read)) (word_token text (number_of keywords (run text)) begins short refl), short))
+          let short = ltb-false name_bytes (length (run text)) fails in
+          (subst (IsToken (run text)) (ok_kind _ _ (rw fails at read)) (word_token text (number_from 0 keywords (run text)) begins short refl), short))
     ]
 
 letter_token : (at : ℕ) (text : Text) (kind : TokenKind) → BeginsWith Letter text → word_in at (run text) ≡ Ok kind → BeginsToken text (run text) kind
@@ -123,8 +124,8 @@ letter_token at text kind begins read =
 letter_fault : (at : ℕ) (text : Text) (fault : LexError) → BeginsWith Letter text → word_in at (run text) ≡ Err fault → FaultStands at text fault
 unfolding word_in
 letter_fault at text fault begins read =
-    elim (cases_Bool (nat_lt 63 (length (run text)))) [
-      | inl holds ↦ subst (FaultStands at text) (err_kind _ _ (rw holds at read)) ((begins, ltb-true 63 (length (run text)) holds), refl)
+    elim (cases_Bool (nat_lt name_bytes (length (run text)))) [
+      | inl holds ↦ subst (FaultStands at text) (err_kind _ _ (rw holds at read)) ((begins, ltb-true name_bytes (length (run text)) holds), refl)
       | inr fails ↦ (let e = rw fails at read in cc)
     ]
 
@@ -180,14 +181,14 @@ quote_text : (text : Text) → BeginsWith Quote text → (rest : Text) × (text 
 quote_text [] begins = absurd begins
 quote_text (byte ∷ rest) begins = (rest, ap (λ b. b ∷ rest) (quote_byte byte begins))
 
--- a token at the front of a text that begins with a quote is a character that the code reads
-pub quote_front : (text bytes rest : Text) (kind : TokenKind) → BeginsWith Quote text → text ≡ bytes ++ rest → IsToken bytes kind
+-- a token at the beginning of a text that begins with a quote is a character that the code reads
+pub quote_prefix : (text bytes rest : Text) (kind : TokenKind) → BeginsWith Quote text → text ≡ bytes ++ rest → IsToken bytes kind
     → (character : ℕ) × (kind ≡ Char character) × (character_of text ≡ Some (pair character (length bytes)))
-quote_front text bytes rest (Char character) begins is token = (character, refl, ap character_of is ∙ character_of_is bytes character rest token)
-quote_front text bytes rest (Word name) begins is token = (let e = front_kind text bytes rest (Word name) Quote is token begins in cc)
-quote_front text bytes rest (Number n u) begins is token = (let e = front_kind text bytes rest (Number n u) Quote is token begins in cc)
-quote_front text bytes rest (Keyword k) begins is token = (let e = front_kind text bytes rest (Keyword k) Quote is token begins in cc)
-quote_front text bytes rest (Punct k) begins is token = (let e = front_kind text bytes rest (Punct k) Quote is token begins in cc)
+quote_prefix text bytes rest (Char character) begins is token = (character, refl, ap character_of is ∙ character_of_is bytes character rest token)
+quote_prefix text bytes rest (Word name) begins is token = (let e = prefix_kind text bytes rest (Word name) Quote is token begins in cc)
+quote_prefix text bytes rest (Number n u) begins is token = (let e = prefix_kind text bytes rest (Number n u) Quote is token begins in cc)
+quote_prefix text bytes rest (Keyword k) begins is token = (let e = prefix_kind text bytes rest (Keyword k) Quote is token begins in cc)
+quote_prefix text bytes rest (Punct k) begins is token = (let e = prefix_kind text bytes rest (Punct k) Quote is token begins in cc)
 
 some_pair : (a b : ℕ × ℕ) → Some a ≡ Some b → a ≡ b
 some_pair a b same = cc
@@ -196,7 +197,7 @@ quote_token : (text bytes rest : Text) (character : ℕ) → BeginsWith Quote te
 quote_token text bytes rest character begins is token = record {
   token = token;
   longest = λ longer more other text_is other_token. (
-      let found = quote_front text longer more other begins text_is other_token in
+      let found = quote_prefix text longer more other begins text_is other_token in
       let here : character_of text ≡ Some (pair character (length bytes)) = ap character_of is ∙ character_of_is bytes character rest token in
       let same : pair found.0 (length longer) ≡ pair character (length bytes) = some_pair _ _ (sym found.2 ∙ here) in
       let long : length longer ≡ length bytes = ap (λ p. p.1) same in
@@ -209,24 +210,20 @@ quote_token text bytes rest character begins is token = record {
 
 -- ---- what begins with another byte
 
-pub other_front : (text bytes rest : Text) (kind : TokenKind) → BeginsWith Other text → text ≡ bytes ++ rest → IsToken bytes kind → (number : ℕ) × (kind ≡ Punct number)
-other_front text bytes rest (Punct number) begins is token = (number, refl)
-other_front text bytes rest (Char character) begins is token = (let e = front_kind text bytes rest (Char character) Other is token begins in cc)
-other_front text bytes rest (Word name) begins is token = (let e = front_kind text bytes rest (Word name) Other is token begins in cc)
-other_front text bytes rest (Number n u) begins is token = (let e = front_kind text bytes rest (Number n u) Other is token begins in cc)
-other_front text bytes rest (Keyword k) begins is token = (let e = front_kind text bytes rest (Keyword k) Other is token begins in cc)
+pub other_prefix : (text bytes rest : Text) (kind : TokenKind) → BeginsWith Other text → text ≡ bytes ++ rest → IsToken bytes kind → (number : ℕ) × (kind ≡ Punct number)
+other_prefix text bytes rest (Punct number) begins is token = (number, refl)
+other_prefix text bytes rest (Char character) begins is token = (let e = prefix_kind text bytes rest (Char character) Other is token begins in cc)
+other_prefix text bytes rest (Word name) begins is token = (let e = prefix_kind text bytes rest (Word name) Other is token begins in cc)
+other_prefix text bytes rest (Number n u) begins is token = (let e = prefix_kind text bytes rest (Number n u) Other is token begins in cc)
+other_prefix text bytes rest (Keyword k) begins is token = (let e = prefix_kind text bytes rest (Keyword k) Other is token begins in cc)
 
-punctuators_fall : is_longest_first punctuators ≡ true
-unfolding punctuators
-punctuators_fall = refl
-
-punct_longest : (text longer more : Text) (kind : TokenKind) (number len : ℕ) (fits : FitsFirst punctuators text number len) → BeginsWith Other text
+punct_longest : (text longer more : Text) (kind : TokenKind) (number len : ℕ) (fits : BeginsPunctuator text number len) → BeginsWith Other text
     → text ≡ longer ++ more → IsToken longer kind → length longer ≤ length fits.spelling
 punct_longest text longer more kind number len fits begins text_is token =
-    let found = other_front text longer more kind begins text_is token in
+    let found = other_prefix text longer more kind begins text_is token in
     fits.longest longer more found.0 text_is (subst (IsToken longer) found.1 token)
 
-punct_token : (text : Text) (number len : ℕ) → BeginsWith Other text → ¬ (OpensComment text) → (fits : FitsFirst punctuators text number len) → BeginsToken text fits.spelling (Punct number)
+punct_token : (text : Text) (number len : ℕ) → BeginsWith Other text → ¬ (OpensComment text) → (fits : BeginsPunctuator text number len) → BeginsToken text fits.spelling (Punct number)
 punct_token text number len begins no_comment fits = record {
   token = fits.listed;
   longest = λ longer more kind text_is token. punct_longest text longer more kind number len fits begins text_is token;
@@ -236,34 +233,34 @@ punct_token text number len begins no_comment fits = record {
   no_long_name = λ long. (let e = one_class text Other Letter begins long.0 in cc);
 }
 
--- ---- what stands at the front
+-- ---- what begins a text
 
 -- a piece as the code sees it
-abbrev pub front_of : Piece → Front
-front_of (piece.white byte) = Gap 1
-front_of (piece.line_comment body) = Gap (length body + 2)
-front_of (piece.block_comment body) = Gap (length body + 4)
-front_of (piece.token bytes kind) = Token kind (length bytes)
+abbrev pub prefix_of : Piece → Prefix
+prefix_of (piece.white byte) = Gap 1
+prefix_of (piece.line_comment body) = Gap (length body + 2)
+prefix_of (piece.block_comment body) = Gap (length body + 4)
+prefix_of (piece.token bytes kind) = Token kind (length bytes)
 
-pub len-front_of : (stands : Piece) → len_of (front_of stands) ≡ length (bytes_of stands)
-len-front_of (piece.white byte) = refl
-len-front_of (piece.line_comment body) = omega arith
-len-front_of (piece.block_comment body) = (let long = length-append body (42 ∷ 47 ∷ []) in omega arith)
-len-front_of (piece.token bytes kind) = refl
+pub len-prefix_of : (stands : Piece) → len_of (prefix_of stands) ≡ length (bytes_of stands)
+len-prefix_of (piece.white byte) = refl
+len-prefix_of (piece.line_comment body) = omega arith
+len-prefix_of (piece.block_comment body) = (let long = length-append body (42 ∷ 47 ∷ []) in omega arith)
+len-prefix_of (piece.token bytes kind) = refl
 
-pub tokens-front_of : (before : Text) (stands : Piece) → tokens_of_piece before stands ≡ tokens_of_front (length before) (line_behind before) (front_of stands)
-tokens-front_of before (piece.white byte) = refl
-tokens-front_of before (piece.line_comment body) = refl
-tokens-front_of before (piece.block_comment body) = refl
-tokens-front_of before (piece.token bytes kind) = refl
+pub tokens-prefix_of : (before : Text) (stands : Piece) → tokens_of_piece before stands ≡ tokens_of_prefix (length before) (line_after before) (prefix_of stands)
+tokens-prefix_of before (piece.white byte) = refl
+tokens-prefix_of before (piece.line_comment body) = refl
+tokens-prefix_of before (piece.block_comment body) = refl
+tokens-prefix_of before (piece.token bytes kind) = refl
 
--- a piece that the code sees so stands at the front of the text
-pub record Explains (text : Text) (found : Front) : Type 0 where
+-- a piece that the code sees so stands at the beginning of the text
+pub record Explains (text : Text) (found : Prefix) : Type 0 where
   pub stands : Piece
   pub rest : Text
   pub text_is : text ≡ bytes_of stands ++ rest
   pub right : StandsBefore stands rest
-  pub found_is : found ≡ front_of stands
+  pub found_is : found ≡ prefix_of stands
 
 white_explains : (byte : ℕ) (text : Text) → class_of byte ≡ White → Explains (byte ∷ text) (Gap 1)
 white_explains byte text is = record {
@@ -288,7 +285,7 @@ line_explains text = record {
   stands = piece.line_comment (take (prefix_len not_newline text) text);
   rest = drop (prefix_len not_newline text) text;
   text_is = ap (λ t. 47 ∷ 47 ∷ t) (sym (take-append-drop (prefix_len not_newline text) text));
-  right = (list_all-take_while not_newline text, EndsLine-behind text);
+  right = (list_all-take_while not_newline text, EndsLine-after text);
   found_is = (let long = length-take_while not_newline text in ap (λ n. Gap n) (omega arith));
 }
 
@@ -301,43 +298,43 @@ block_explains text len closed = record {
   found_is = (let is = closed.len_is in ap (λ n. Gap n) (omega arith));
 }
 
-letter_explains : (at : ℕ) (text : Text) (read : Result TokenKind LexError) (found : Front) → BeginsWith Letter text → word_in at (run text) ≡ read
+letter_explains : (at : ℕ) (text : Text) (read : Result TokenKind LexError) (found : Prefix) → BeginsWith Letter text → word_in at (run text) ≡ read
     → run_token (length (run text)) read ≡ Ok found → Explains text found
 letter_explains at text (Err fault) found begins read ran = cc
 letter_explains at text (Ok kind) found begins read ran =
-    subst (Explains text) (ok_front _ _ ran)
+    subst (Explains text) (ok_prefix _ _ ran)
     (token_explains text (run text) (drop (prefix_len is_run_byte text) text) kind (length (run text)) (run_rest text) (letter_token at text kind begins read) refl)
 
-digit_explains : (at : ℕ) (text : Text) (read : Result TokenKind LexError) (found : Front) → BeginsWith Digit text → reading.number at (constant_of (run text)) ≡ read
+digit_explains : (at : ℕ) (text : Text) (read : Result TokenKind LexError) (found : Prefix) → BeginsWith Digit text → reading.number at (constant_of (run text)) ≡ read
     → run_token (length (run text)) read ≡ Ok found → Explains text found
 digit_explains at text (Err fault) found begins read ran = cc
 digit_explains at text (Ok kind) found begins read ran =
-    subst (Explains text) (ok_front _ _ ran)
+    subst (Explains text) (ok_prefix _ _ ran)
     (token_explains text (run text) (drop (prefix_len is_run_byte text) text) kind (length (run text)) (run_rest text) (digit_token at text kind begins read) refl)
 
 character_explains : (text : Text) (character len : ℕ) → BeginsWith Quote text → BeginsCharacter text character len → Explains text (Token (Char character) len)
 character_explains text character len begins is =
     token_explains text is.bytes is.rest (Char character) len is.text_is (quote_token text is.bytes is.rest character begins is.text_is is.is) is.len_is
 
-quote_explains : (at : ℕ) (text : Text) (read : Option (ℕ × ℕ)) (found : Front) → BeginsWith Quote text → character_of text ≡ read
+quote_explains : (at : ℕ) (text : Text) (read : Option (ℕ × ℕ)) (found : Prefix) → BeginsWith Quote text → character_of text ≡ read
     → reading.character at read ≡ Ok found → Explains text found
 quote_explains at text None found begins read ran = cc
 quote_explains at text (Some (character, len)) found begins read ran =
     let quote = quote_text text begins in
     let is : BeginsCharacter text character len = subst (λ t. BeginsCharacter t character len) (sym quote.1) (character_of-Some quote.0 character len (sym (ap character_of quote.1) ∙ read)) in
-    subst (Explains text) (ok_front _ _ ran) (character_explains text character len begins is)
+    subst (Explains text) (ok_prefix _ _ ran) (character_explains text character len begins is)
 
-punct_explains : (at : ℕ) (text : Text) (read : Option (ℕ × ℕ)) (found : Front) → BeginsWith Other text → ¬ (OpensComment text) → first_fit punctuators text ≡ read
+punct_explains : (at : ℕ) (text : Text) (read : Option (ℕ × ℕ)) (found : Prefix) → BeginsWith Other text → ¬ (OpensComment text) → longest_punctuator text ≡ read
     → reading.punctuator at read ≡ Ok found → Explains text found
 punct_explains at text None found begins no_comment read ran = cc
 punct_explains at text (Some (number, len)) found begins no_comment read ran =
-    let fits = first_fit-Some punctuators text number len punctuators_fall read in
-    subst (Explains text) (ok_front _ _ ran)
+    let fits = longest_punctuator-Some text number len read in
+    subst (Explains text) (ok_prefix _ _ ran)
     (token_explains text fits.spelling fits.rest (Punct number) len fits.text_is (punct_token text number len begins no_comment fits) fits.len_is)
 
-block_read : (at : ℕ) (text : Text) (read : Option ℕ) (found : Front) → close_from 0 text ≡ read → reading.block_comment at read ≡ Ok found → Explains (47 ∷ 42 ∷ text) found
+block_read : (at : ℕ) (text : Text) (read : Option ℕ) (found : Prefix) → close_from 0 text ≡ read → reading.block_comment at read ≡ Ok found → Explains (47 ∷ 42 ∷ text) found
 block_read at text None found read ran = cc
-block_read at text (Some len) found read ran = subst (Explains (47 ∷ 42 ∷ text)) (ok_front _ _ ran) (block_explains text len (close_from-Some 0 text len read))
+block_read at text (Some len) found read ran = subst (Explains (47 ∷ 42 ∷ text)) (ok_prefix _ _ ran) (block_explains text len (close_from-Some 0 text len read))
 
 -- the first two bytes, where their tests hold
 two_bytes : (text : Text) (second : ℕ) → 0 < second → (nat_eq (slice_index text 0) 47 && nat_eq (slice_index text 1) second) ≡ true → (rest : Text) × (text ≡ 47 ∷ second ∷ rest)
@@ -358,14 +355,14 @@ no_comment_tests : (text : Text) → (nat_eq (slice_index text 0) 47 && nat_eq (
 no_comment_tests text line block (rest, inl is) = both_ways _ line (ap (λ t. nat_eq (slice_index t 0) 47 && nat_eq (slice_index t 1) 47) is)
 no_comment_tests text line block (rest, inr is) = both_ways _ block (ap (λ t. nat_eq (slice_index t 0) 47 && nat_eq (slice_index t 1) 42) is)
 
-other_explains : (at : ℕ) (text : Text) (found : Front) → BeginsWith Other text → other at text ≡ Ok found → Explains text found
+other_explains : (at : ℕ) (text : Text) (found : Prefix) → BeginsWith Other text → other at text ≡ Ok found → Explains text found
 unfolding other
 other_explains at text found begins read =
     elim (cases_Bool (nat_eq (slice_index text 0) 47 && nat_eq (slice_index text 1) 47)) [
       | inl line ↦ (
           let two = two_bytes text 47 (omega arith) line in
           let e = rw line at read in
-          subst (Explains text) (ok_front _ _ e) (subst (λ t. Explains t (Gap (prefix_len not_newline t))) (sym two.1) (line_explains two.0)))
+          subst (Explains text) (ok_prefix _ _ e) (subst (λ t. Explains t (Gap (prefix_len not_newline t))) (sym two.1) (line_explains two.0)))
       | inr no_line ↦ elim (cases_Bool (nat_eq (slice_index text 0) 47 && nat_eq (slice_index text 1) 42)) [
         | inl block ↦ (
             let two = two_bytes text 42 (omega arith) block in
@@ -374,19 +371,19 @@ other_explains at text found begins read =
             (block_read at two.0 (close_from 0 two.0) found refl (sym (ap (λ t. reading.block_comment at (close_from 0 (drop 2 t))) two.1) ∙ e)))
         | inr no_block ↦ (
             let e = rw (no_line, no_block) at read in
-            punct_explains at text (first_fit punctuators text) found begins (no_comment_tests text no_line no_block) refl e)
+            punct_explains at text (longest_punctuator text) found begins (no_comment_tests text no_line no_block) refl e)
       ]
     ]
 
-by_class : (class : Class) (at byte : ℕ) (text : Text) (found : Front) → class_of byte ≡ class → front_in class at (byte ∷ text) ≡ Ok found → Explains (byte ∷ text) found
-by_class White at byte text found is read = subst (Explains (byte ∷ text)) (ok_front _ _ read) (white_explains byte text is)
+by_class : (class : Class) (at byte : ℕ) (text : Text) (found : Prefix) → class_of byte ≡ class → prefix_in class at (byte ∷ text) ≡ Ok found → Explains (byte ∷ text) found
+by_class White at byte text found is read = subst (Explains (byte ∷ text)) (ok_prefix _ _ read) (white_explains byte text is)
 by_class Letter at byte text found is read = letter_explains at (byte ∷ text) (word_in at (run (byte ∷ text))) found is refl read
 by_class Digit at byte text found is read = digit_explains at (byte ∷ text) (reading.number at (constant_of (run (byte ∷ text)))) found is refl read
 by_class Quote at byte text found is read = quote_explains at (byte ∷ text) (character_of (byte ∷ text)) found is refl read
 by_class Other at byte text found is read = other_explains at (byte ∷ text) found is read
 
-pub explained : (at : ℕ) (text : Text) (found : Front) → 0 < length text → front at text ≡ Ok found → Explains text found
-unfolding front
+pub explained : (at : ℕ) (text : Text) (found : Prefix) → 0 < length text → prefix at text ≡ Ok found → Explains text found
+unfolding prefix
 explained at [] found some read = absurd (omega arith)
 explained at (byte ∷ text) found some read = by_class (class_of byte) at byte text found refl read
 
@@ -406,9 +403,9 @@ bad_quote at text begins missing = record {
     no_quote (piece.white byte) rest is right = (let e = one_class text Quote White begins (subst (BeginsWith White) (sym is) right) in cc)
     no_quote (piece.line_comment body) rest is right = (let e = one_class text Quote Other begins (subst (BeginsWith Other) (sym is) class_slash) in cc)
     no_quote (piece.block_comment body) rest is right = (let e = one_class text Quote Other begins (subst (BeginsWith Other) (sym is) class_slash) in cc)
-    no_quote (piece.token bytes kind) rest is right = (let found = quote_front text bytes rest kind begins is right.token in let e = sym missing ∙ found.2 in cc)
+    no_quote (piece.token bytes kind) rest is right = (let found = quote_prefix text bytes rest kind begins is right.token in let e = sym missing ∙ found.2 in cc)
 
-bad_other : (at : ℕ) (text : Text) → BeginsWith Other text → ¬ (OpensComment text) → first_fit punctuators text ≡ None → IsBadByte text
+bad_other : (at : ℕ) (text : Text) → BeginsWith Other text → ¬ (OpensComment text) → longest_punctuator text ≡ None → IsBadByte text
 bad_other at text begins no_comment missing = record {
   some = λ empty. (let e = subst (BeginsWith Other) empty begins in absurd e);
   no_piece = λ stands rest is right. no_other stands rest is right;
@@ -423,20 +420,20 @@ bad_other at text begins no_comment missing = record {
     no_other (piece.line_comment body) rest is right = no_comment (body ++ rest, inl is)
     no_other (piece.block_comment body) rest is right = no_comment ((body ++ 42 ∷ 47 ∷ []) ++ rest, inr is)
     no_other (piece.token bytes kind) rest is right =
-        let found = other_front text bytes rest kind begins is right.token in
-        first_fit-None punctuators text missing bytes rest found.0 is (subst (IsToken bytes) found.1 right.token)
+        let found = other_prefix text bytes rest kind begins is right.token in
+        longest_punctuator-None text missing bytes rest found.0 is (subst (IsToken bytes) found.1 right.token)
 
 quote_fault : (at : ℕ) (text : Text) (read : Option (ℕ × ℕ)) (fault : LexError) → BeginsWith Quote text → character_of text ≡ read → reading.character at read ≡ Err fault → FaultStands at text fault
-quote_fault at text None fault begins read ran = subst (FaultStands at text) (err_front _ _ ran) (bad_quote at text begins read, refl)
+quote_fault at text None fault begins read ran = subst (FaultStands at text) (err_prefix _ _ ran) (bad_quote at text begins read, refl)
 quote_fault at text (Some found) fault begins read ran = cc
 
-punct_fault : (at : ℕ) (text : Text) (read : Option (ℕ × ℕ)) (fault : LexError) → BeginsWith Other text → ¬ (OpensComment text) → first_fit punctuators text ≡ read
+punct_fault : (at : ℕ) (text : Text) (read : Option (ℕ × ℕ)) (fault : LexError) → BeginsWith Other text → ¬ (OpensComment text) → longest_punctuator text ≡ read
     → reading.punctuator at read ≡ Err fault → FaultStands at text fault
-punct_fault at text None fault begins no_comment read ran = subst (FaultStands at text) (err_front _ _ ran) (bad_other at text begins no_comment read, refl)
+punct_fault at text None fault begins no_comment read ran = subst (FaultStands at text) (err_prefix _ _ ran) (bad_other at text begins no_comment read, refl)
 punct_fault at text (Some found) fault begins no_comment read ran = cc
 
 block_fault : (at : ℕ) (text : Text) (read : Option ℕ) (fault : LexError) → close_from 0 text ≡ read → reading.block_comment at read ≡ Err fault → FaultStands at (47 ∷ 42 ∷ text) fault
-block_fault at text None fault read ran = subst (FaultStands at (47 ∷ 42 ∷ text)) (err_front _ _ ran) ((text, refl, close_from-None 0 text read), refl)
+block_fault at text None fault read ran = subst (FaultStands at (47 ∷ 42 ∷ text)) (err_prefix _ _ ran) ((text, refl, close_from-None 0 text read), refl)
 block_fault at text (Some len) fault read ran = cc
 
 other_fault : (at : ℕ) (text : Text) (fault : LexError) → BeginsWith Other text → other at text ≡ Err fault → FaultStands at text fault
@@ -452,15 +449,15 @@ other_fault at text fault begins read =
             (block_fault at two.0 (close_from 0 two.0) fault refl (sym (ap (λ t. reading.block_comment at (close_from 0 (drop 2 t))) two.1) ∙ e)))
         | inr no_block ↦ (
             let e = rw (no_line, no_block) at read in
-            punct_fault at text (first_fit punctuators text) fault begins (no_comment_tests text no_line no_block) refl e)
+            punct_fault at text (longest_punctuator text) fault begins (no_comment_tests text no_line no_block) refl e)
       ]
     ]
 
 run_fault : (len : ℕ) (read : Result TokenKind LexError) (fault : LexError) → run_token len read ≡ Err fault → read ≡ Err fault
-run_fault len (Err other) fault ran = ap Err (err_front _ _ ran)
+run_fault len (Err other) fault ran = ap Err (err_prefix _ _ ran)
 run_fault len (Ok kind) fault ran = cc
 
-fault_by_class : (class : Class) (at byte : ℕ) (text : Text) (fault : LexError) → class_of byte ≡ class → front_in class at (byte ∷ text) ≡ Err fault → FaultStands at (byte ∷ text) fault
+fault_by_class : (class : Class) (at byte : ℕ) (text : Text) (fault : LexError) → class_of byte ≡ class → prefix_in class at (byte ∷ text) ≡ Err fault → FaultStands at (byte ∷ text) fault
 fault_by_class White at byte text fault is read = cc
 fault_by_class Letter at byte text fault is read = letter_fault at (byte ∷ text) fault is (run_fault _ _ _ read)
 fault_by_class Digit at byte text fault is read =
@@ -468,8 +465,8 @@ fault_by_class Digit at byte text fault is read =
 fault_by_class Quote at byte text fault is read = quote_fault at (byte ∷ text) (character_of (byte ∷ text)) fault is refl read
 fault_by_class Other at byte text fault is read = other_fault at (byte ∷ text) fault is read
 
-pub fault_explained : (at : ℕ) (text : Text) (fault : LexError) → 0 < length text → front at text ≡ Err fault → FaultStands at text fault
-unfolding front
+pub fault_explained : (at : ℕ) (text : Text) (fault : LexError) → 0 < length text → prefix at text ≡ Err fault → FaultStands at text fault
+unfolding prefix
 fault_explained at [] fault some read = absurd (omega arith)
 fault_explained at (byte ∷ text) fault some read = fault_by_class (class_of byte) at byte text fault refl read
 

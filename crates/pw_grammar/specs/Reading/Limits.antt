@@ -1,6 +1,6 @@
 -- Reading the limits from left to right: the first bracket that nests too deep, and the first token of a function that
 -- is too long. Nothing of the grammar is asked but where a declaration ends: at a `;` outside brackets, or at the brace
--- that closes a function's body, which a brace outside brackets and behind a `)` opens.
+-- that closes a function's body, which a brace outside brackets and after a `)` opens.
 use Rattle.std.specs.Prelude.{ℕ, suc, ◌+◌, Bool, false, ◌||◌, ◌&&◌, if◌then◌else◌, ◌==◌, nat_le, List, [], ◌∷◌, Option, Some, None}
 use Rattle.pw_grammar.specs.declared.sort.Sort.TheVariants as s
 use Rattle.pw_grammar.specs.Terminals.{sort, is_same}
@@ -8,7 +8,7 @@ use Rattle.pw_grammar.specs.Faults.{opens, bracket}
 use Rattle.pw_base.specs.Limits.{open_brackets, function_tokens}
 use Rattle.pw_lex.specs.declared.token.Token.{Token}
 
--- the first token that opens a bracket where 200 are open; the first of the tokens has the number `at`, and n are open
+-- the first token that opens a bracket where as many are open as may be; the first of the tokens has the number `at`, and n are open
 unfoldable pub first_nested : ℕ → ℕ → List Token → Option ℕ
 first_nested at n [] = None
 first_nested at n (t ∷ ts) = if opens t && nat_le open_brackets n then Some at else first_nested (suc at) (bracket n t) ts
@@ -50,7 +50,7 @@ onward w t = record {
 unfoldable pub step : Walk → Token → Walk
 step w t = if is_last w t then anew (suc w.at) else onward w t
 
--- the first token that stands in a function's body behind 8,192 others of the function
+-- the first token that stands in a function's body after as many others of the function as it may have
 unfoldable pub first_late : Walk → List Token → Option ℕ
 first_late w [] = None
 first_late w (t ∷ ts) = if is_late w t then Some w.at else first_late (step w t) ts

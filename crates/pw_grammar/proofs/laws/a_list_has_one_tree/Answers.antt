@@ -1,5 +1,0 @@
-use Rattle.pw_grammar.proofs.Known.{one_tree}
-use Rattle.pw_grammar.proofs.laws.a_list_has_one_tree.Goals as goal
-
-pub returns : goal.returns
-returns c = one_tree
