@@ -19,7 +19,7 @@ use Rattle.pw_types.specs.declared.typed.Typed.{Typed}
 use Rattle.pw_types.specs.declared.statement_walk.Walk.{Walk}
 use Rattle.pw_types.specs.declared.statement_step.Setting.{Setting as Given}
 use Rattle.pw_types.specs.declared.statement_set.Array.{Array}
-use Rattle.pw_types.specs.declared.fault.Stop.{Stop}
+use Rattle.pw_types.specs.declared.fault.Refusal.{Refusal}
 use Rattle.pw_tree.specs.Types.{is_number}
 use Rattle.pw_types.specs.Faults.{broken, broken_by}
 use Rattle.pw_types.specs.Scopes.{Scope, Meaning, meaning}
@@ -31,12 +31,13 @@ use Rattle.pw_types.specs.Expressions.{has_type, faults}
 use Rattle.pw_types.specs.Blocks.{uses_by}
 use Rattle.pw_types.specs.Statements.{faults_of_target, faults_of_array, faults_by, type_of_target, type_of_kind, holds_too_many, element_holds_too_many, is_unknown_target, has_other_index, set_element_holds_too_many}
 use Rattle.pw_types.specs.TypedStatements.{typed_expression, typed_statement, assigned, element_assigned, bracket_line}
-use Rattle.pw_types.specs.CheckingStatements.{WalkResult, block_of, outcome_at, judged_at, setting_of, Fails}
-use Rattle.pw_types.specs.StatementValues.{Notes, IsValue}
-use Rattle.pw_types.specs.StatementTargets.{IsFile, IsLocal, IsArray, IsIndex, IsElementValue, faults_of_index, faults_of_element_value, holds_too_many_beside}
+use Rattle.pw_types.specs.Steps.CheckingStatements.{WalkResult, block_of, outcome_at, judged_at, setting_of}
+use Rattle.pw_types.specs.Steps.StatementValues.{Notes, IsValue}
+use Rattle.pw_types.specs.Steps.StatementTargets.{IsFile, IsLocal, IsArray, IsIndex, IsElementValue, faults_of_index, faults_of_element_value, holds_too_many_beside}
 use Rattle.pw_types.proofs.EnclosingStatements.{same, in_front, tree_is}
 use Rattle.pw_types.proofs.SimpleStatements.{noted}
 use Rattle.pw_types.proofs.Failing.{fails_in_front, fails_as}
+use Rattle.pw_types.specs.Steps.Refusals.{Fails}
 
 -- ---- what is noted by several
 
@@ -199,7 +200,7 @@ module _ (x : Given) (old noted mid : Walk) (at : Span) (name : List ℕ) (i e :
       in_front p.free ∙ (sym (append_assoc (faults old.scope roles.Value i) _ _)
       ∙ in_front (same_index old.scope at name i p.free ∙ (ap (λ (s : Scope). faults_of_index s at i) (sym p.note.scope) ∙ p.index_free)))
 
-  pub value_fails : (stop : Stop) → Fails (faults_of_element_value mid.scope index.held a.ty e (set_end x.in_head at)) stop
+  pub value_fails : (stop : Refusal) → Fails (faults_of_element_value mid.scope index.held a.ty e (set_end x.in_head at)) stop
       → Fails (faults_by (setting_of x) (block_of old) (set at name (Some i) e)) stop
   value_fails stop is = fails_as _ _ stop (value_faults (set_end x.in_head at) ∙ sym all_faults) is
 
@@ -236,7 +237,7 @@ module _ (x : Given) (old noted mid : Walk) (at : Span) (name : List ℕ) (i e :
       (subst (λ (n : ℕ). Notes (uses mid.scope e) n mid new) most value_is.notes)))
       ∙ ap (λ (c : TypedStatement). judged_at c new) (sym (command_of-SetElem a.reference a.size line index.tree value))
 
-pub index_fails : (x : Given) (old noted : Walk) (at : Span) (name : List ℕ) (i e : Expression) (us : List ℕ) (stop : Stop)
+pub index_fails : (x : Given) (old noted : Walk) (at : Span) (name : List ℕ) (i e : Expression) (us : List ℕ) (stop : Refusal)
     → faults_of_array old.scope name at.first ≡ [] → Notes us 0 old noted → Fails (faults_of_index noted.scope at i) stop
     → Fails (faults_by (setting_of x) (block_of old) (set at name (Some i) e)) stop
 unfolding faults_by

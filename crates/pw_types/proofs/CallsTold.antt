@@ -11,8 +11,8 @@ use Rattle.pw_types.specs.Scopes.{Scope}
 use Rattle.pw_tree.specs.Held.{held, held_arguments, count}
 use Rattle.pw_types.specs.Typed.{with_both, both_trees, typed, typed_all, parameters_of, called, Callee as Called}
 use Rattle.pw_types.specs.Expressions.{faults_of_arguments, other_parameters, callee_in, how_many, own}
-use Rattle.pw_types.specs.Judging.{Judge}
-use Rattle.pw_types.specs.CheckingExpressions.{Valued, capped, head, Aim, named, through, Taken, taking, call_tree, call_held, call_value, others_wanted}
+use Rattle.pw_types.specs.Steps.Judging.{Judge}
+use Rattle.pw_types.specs.Steps.CheckingExpressions.{Valued, capped, head, Aim, named, through, Taken, taking, call_tree, call_held, call_value, others_wanted}
 use Rattle.pw_types.proofs.Told.{full, Told}
 use Rattle.pw_types.proofs.OwnRules.{rules_of, own_rules, typed_told}
 
@@ -47,10 +47,10 @@ held_more n (s ∷ ts) t =
 
 -- what arguments that were judged are with what they hold
 abbrev pub taken : List TypedExpression → Taken
-taken ts = record { typed_expressions = ts; held = capped (held_arguments 0 (typed_expressions ts)) }
+taken ts = record { trees = ts; held = capped (held_arguments 0 (typed_expressions ts)) }
 
 abbrev pub with_held : List TypedExpression → ℕ → Taken
-with_held ts n = record { typed_expressions = ts; held = n }
+with_held ts n = record { trees = ts; held = n }
 
 pub taken_more : (ts : List TypedExpression) (t : TypedExpression) → taking (taken ts) (full t) ≡ taken (ts ++ t ∷ [])
 taken_more ts t =

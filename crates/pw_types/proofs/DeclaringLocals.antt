@@ -17,8 +17,8 @@ use Rattle.pw_tree.specs.Held.{held_option, held_by}
 use Rattle.pw_types.specs.Blocks.{with_local, declaring, uses_by}
 use Rattle.pw_types.specs.Statements.{faults_of_name, faults_of_option, faults_by}
 use Rattle.pw_types.specs.TypedStatements.{typed_expression, typed_statement}
-use Rattle.pw_types.specs.CheckingStatements.{block_of, outcome_at, judged_at}
-use Rattle.pw_types.specs.StatementValues.{IsMaybeValue, Declares}
+use Rattle.pw_types.specs.Steps.CheckingStatements.{block_of, outcome_at, judged_at}
+use Rattle.pw_types.specs.Steps.StatementValues.{IsMaybeValue, Declares}
 use Rattle.pw_types.proofs.EnclosingStatements.{same, in_front}
 
 same_block : (old new : Walk) (name : List ℕ) (ty : Ty)

@@ -17,7 +17,7 @@ use Rattle.pw_types.specs.Typed.{typed}
 use Rattle.pw_types.specs.Blocks.{Setting, part, body, head, Block, inner, locals_in, locals_in_all, locals_in_maybe, past, behind, behind_maybe, uses_by, uses_by_all, uses_by_maybe, uses_of_option}
 use Rattle.pw_types.specs.Statements.{faults_of_whole, faults_of_option, faults_by, faults_by_all, faults_by_maybe}
 use Rattle.pw_types.specs.TypedStatements.{no_expression, typed_expression, typed_statement, typed_statements, optional_typed_statement}
-use Rattle.pw_types.specs.CheckingStatements.{WalkResult, outcome, judged, leave, behind_all, before, rest_of_block, rest_of_if, rest_of_do, rest_of_for, behind_first, closed}
+use Rattle.pw_types.specs.Steps.CheckingStatements.{WalkResult, outcome, judged, leave, behind_all, before, rest_of_block, rest_of_if, rest_of_do, rest_of_for, behind_first, closed}
 use Rattle.pw_types.proofs.LeavingStatements.{then_keeps, keeps, keeps_maybe, keeps_all, left, left_inner, past_none}
 
 -- ---- two outcomes are one

@@ -13,28 +13,29 @@ use Rattle.pw_tree.specs.declared.texpr.TExpr.{TExpr}
 use Rattle.pw_tree.specs.declared.tstmt.TStmt.{TStmt}
 use Rattle.pw_tree.specs.declared.tstmt.TStmt.TheVariants as kinds
 use Rattle.pw_tree.proofs.CommandFolds.{command_of-Block}
-use Rattle.pw_types.specs.declared.fault.Stop.{Stop}
+use Rattle.pw_types.specs.declared.fault.Refusal.{Refusal}
 use Rattle.pw_types.specs.declared.role.Role.{Role}
 use Rattle.pw_types.specs.declared.role.Role.TheVariants as roles
 use Rattle.pw_types.specs.declared.statement_walk.Walk.{Walk}
 use Rattle.pw_types.specs.declared.statement_step.Setting.{Setting as Given}
 use Rattle.pw_types.specs.declared.statement_step.Outer.{Outer}
-use Rattle.pw_types.specs.declared.statement_step.Form.{Form}
-use Rattle.pw_types.specs.declared.statement_step.Form.TheVariants as forms
+use Rattle.pw_types.specs.declared.statement_step.StatementForm.{StatementForm}
+use Rattle.pw_types.specs.declared.statement_step.StatementForm.TheVariants as forms
 use Rattle.pw_types.specs.Blocks.{Setting, body, head, Block}
 use Rattle.pw_types.specs.Statements.{faults_of_whole, faults_of_option, faults_by}
-use Rattle.pw_types.specs.CheckingStatements.{WalkResult, outcome, block_of, outer_at, outcome_at, judged_at, setting_of, resumed_at, Fails, leave, behind_first_at, typed_maybe, block_at}
-use Rattle.pw_types.specs.StatementValues.{Notes, IsValue, IsMaybeValue, JudgesValue, JudgesMaybeValue}
+use Rattle.pw_types.specs.Steps.CheckingStatements.{WalkResult, outcome, block_of, outer_at, outcome_at, judged_at, setting_of, resumed_at, leave, behind_first_at, typed_maybe, block_at}
+use Rattle.pw_types.specs.Steps.StatementValues.{Notes, IsValue, IsMaybeValue, JudgesValue, JudgesMaybeValue}
 use Rattle.pw_types.proofs.EnclosingStatements.{tree_is, block_begins, block_of_none, if_begins, while_begins, do_begins, for_begins, for_begins_bare, for_goes_on, for_has_no_last}
 use Rattle.pw_types.proofs.Failing.{fails_of, fails_in_front}
+use Rattle.pw_types.specs.Steps.Refusals.{Fails}
 
 -- ---- values
 
-pub value_fails : (role : Role) (e : Expression) (old new : Walk) (stop : Stop) → JudgesValue role e old new (Err stop)
+pub value_fails : (role : Role) (e : Expression) (old new : Walk) (stop : Refusal) → JudgesValue role e old new (Err stop)
     → Fails (faults_of_whole old.scope role e) stop
 value_fails role e old new stop is = fails_of {A = TExpr} (faults_of_whole old.scope role e) (IsValue e old new) stop is
 
-pub maybe_value_fails : (role : Role) (e : Option Expression) (old new : Walk) (stop : Stop) → JudgesMaybeValue role e old new (Err stop)
+pub maybe_value_fails : (role : Role) (e : Option Expression) (old new : Walk) (stop : Refusal) → JudgesMaybeValue role e old new (Err stop)
     → Fails (faults_of_option old.scope role e) stop
 maybe_value_fails role e old new stop is = fails_of {A = Option TExpr} (faults_of_option old.scope role e) (IsMaybeValue e old new) stop is
 
@@ -57,7 +58,7 @@ noted_outer x us k old new notes = ap (outer_of x) (noted_block us k old new not
     outer_of : Given → Block → Outer
     outer_of y b = record { setting = y; start = b.start; visible = length b.scope.locals }
 
-pub entered : (form : Form) (o : Outer) (x x' y : Given) (us : List ℕ) (k : ℕ) (old new : Walk) (s : Statement)
+pub entered : (form : StatementForm) (o : Outer) (x x' y : Given) (us : List ℕ) (k : ℕ) (old new : Walk) (s : Statement)
     → Notes us k old new → o ≡ outer_at x new → x' ≡ y
     → resumed_at (outer_at x old) form (outcome (setting_of y) (block_of old) (old.used.items ++ us) (max old.held k) s)
     ≡ resumed_at o form (outcome_at x' new s)
@@ -81,18 +82,18 @@ enters_while x x' o old new at c s t none value o_is x_is =
     while_begins (setting_of x) (block_of old) old.used.items old.held at c (statement_of s) (typed_expression_of t) none (tree_is old.scope c (typed_expression_of t) value.tree)
     ∙ entered (forms.While t) o x x' (record x { in_loop = true; in_head = false }) _ _ old new (statement_of s) value.notes o_is x_is
 
-pub if_fails : (x : Given) (old new : Walk) (at : Span) (c : Expression) (a : Statement) (d : OptionalStatement) (stop : Stop) → JudgesValue roles.Value c old new (Err stop)
+pub if_fails : (x : Given) (old new : Walk) (at : Span) (c : Expression) (a : Statement) (d : OptionalStatement) (stop : Refusal) → JudgesValue roles.Value c old new (Err stop)
     → Fails (faults_by (setting_of x) (block_of old) (if_else at c a d)) stop
 unfolding faults_by
 if_fails x old new at c a d stop is = fails_in_front _ _ stop (value_fails roles.Value c old new stop is)
 
-pub while_fails : (x : Given) (old new : Walk) (at : Span) (c : Expression) (s : Statement) (stop : Stop) → JudgesValue roles.Value c old new (Err stop)
+pub while_fails : (x : Given) (old new : Walk) (at : Span) (c : Expression) (s : Statement) (stop : Refusal) → JudgesValue roles.Value c old new (Err stop)
     → Fails (faults_by (setting_of x) (block_of old) (while_loop at c s)) stop
 unfolding faults_by
 while_fails x old new at c s stop is = fails_in_front _ _ stop (value_fails roles.Value c old new stop is)
 
 -- a part that is entered at once
-entered_at_once : (form : Form) (o : Outer) (x x' y : Given) (old new : Walk) (s : Statement) → o ≡ outer_at x old → x' ≡ y
+entered_at_once : (form : StatementForm) (o : Outer) (x x' y : Given) (old new : Walk) (s : Statement) → o ≡ outer_at x old → x' ≡ y
     → resumed_at (outer_at x old) form (outcome_at y new s) ≡ resumed_at o form (outcome_at x' new s)
 entered_at_once form o x x' y old new s o_is x_is =
     ap (λ (p : Outer). resumed_at p form (outcome_at y new s)) (sym o_is)
@@ -187,6 +188,6 @@ goes_to_body o x' old new first c m s t m_is none value x_is =
     ∙ (ap (resumed_at o (forms.For first t None)) (noted_part (body (setting_of o.setting)) _ _ old new (statement_of s) value.notes)
     ∙ ap (λ (z : Given). resumed_at o (forms.For first t None) (outcome_at z new (statement_of s))) (sym x_is)))
 
-pub for_fails : (o : Outer) (old new : Walk) (first : command.OptionalTypedStatement) (c : Option Expression) (last : OptionalStatement) (s : Statement) (stop : Stop) → JudgesMaybeValue roles.Value c old new (Err stop)
+pub for_fails : (o : Outer) (old new : Walk) (first : command.OptionalTypedStatement) (c : Option Expression) (last : OptionalStatement) (s : Statement) (stop : Refusal) → JudgesMaybeValue roles.Value c old new (Err stop)
     → let w : WalkResult = behind_first_at o first c last s old in Fails w.faults stop
 for_fails o old new first c last s stop is = fails_in_front _ _ stop (maybe_value_fails roles.Value c old new stop is)

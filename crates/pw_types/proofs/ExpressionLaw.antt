@@ -17,8 +17,8 @@ use Rattle.pw_tree.specs.TypedExpressions.{type_of}
 use Rattle.pw_tree.specs.Held.{held}
 use Rattle.pw_types.specs.Uses.{uses, uses_of_all}
 use Rattle.pw_types.specs.Expressions.{is_base, own, faults, faults_of_arguments, callee_in, unless_direct}
-use Rattle.pw_types.specs.Judging.{Judge, ◌>>=◌, refuse, noting, on_option}
-use Rattle.pw_types.specs.CheckingExpressions.{Valued, Taken, none_taken, pointer_parameters, pointer_call, direct_call, fault_under, head, Aim, named, through, Calling, calling, unary_value, binary_value, choice_value, element_value, output_value, taking, first_wanted, others_wanted, checked, checked_arguments}
+use Rattle.pw_types.specs.Steps.Judging.{Judge, ◌>>=◌, refuse, noting, on_option}
+use Rattle.pw_types.specs.Steps.CheckingExpressions.{Valued, Taken, none_taken, pointer_parameters, pointer_call, direct_call, fault_under, head, Aim, named, through, Calling, calling, unary_value, binary_value, choice_value, element_value, output_value, taking, first_wanted, others_wanted, checked, checked_arguments}
 use Rattle.pw_types.proofs.Told.{full, Told, bind, refused_base, noted, no_more}
 use Rattle.pw_types.proofs.OwnRules.{rules_of, by_rules}
 use Rattle.pw_types.proofs.FormsTold.{leaf_told, unary_told, binary_told, choice_told, element_told, output_told}

@@ -1,25 +1,25 @@
--- Where a part stops at its first fault, so does the whole.
+-- Where a part refusals at its first fault, so does the whole.
 use Rattle.std.proofs.Common.{◌≡◌, List, [], ◌∷◌, ◌++◌, Some, Err, sym, ap, subst}
 use Rattle.pw_types.specs.declared.fault.Fault.{Fault}
-use Rattle.pw_types.specs.declared.fault.Stop.{Stop}
-use Rattle.pw_types.specs.declared.fault.Stop.TheVariants as stops
-use Rattle.pw_types.specs.Faults.{first_of, Judges}
-use Rattle.pw_types.specs.CheckingStatements.{Fails}
+use Rattle.pw_types.specs.declared.fault.Refusal.{Refusal}
+use Rattle.pw_types.specs.declared.fault.Refusal.TheVariants as refusals
+use Rattle.pw_types.specs.Faults.{first_of}
+use Rattle.pw_types.specs.Steps.Refusals.{Judges, Fails}
 
 first_in_front : (xs ys : List Fault) (f : Fault) → first_of xs ≡ Some f → first_of (xs ++ ys) ≡ Some f
 first_in_front [] ys f is = cc
 first_in_front (x ∷ xs) ys f is = is
 
-pub fails_in_front : (xs ys : List Fault) (stop : Stop) → Fails xs stop → Fails (xs ++ ys) stop
-fails_in_front xs ys (stops.Fault f) is = first_in_front xs ys f is
-fails_in_front xs ys stops.NoMemory is = is
+pub fails_in_front : (xs ys : List Fault) (stop : Refusal) → Fails xs stop → Fails (xs ++ ys) stop
+fails_in_front xs ys (refusals.Fault f) is = first_in_front xs ys f is
+fails_in_front xs ys refusals.NoMemory is = is
 
-pub fails_as : (xs ys : List Fault) (stop : Stop) → xs ≡ ys → Fails xs stop → Fails ys stop
+pub fails_as : (xs ys : List Fault) (stop : Refusal) → xs ≡ ys → Fails xs stop → Fails ys stop
 fails_as xs ys stop same is = subst (λ (zs : List Fault). Fails zs stop) same is
 
-pub fails_behind : (xs ys : List Fault) (stop : Stop) → xs ≡ [] → Fails ys stop → Fails (xs ++ ys) stop
+pub fails_behind : (xs ys : List Fault) (stop : Refusal) → xs ≡ [] → Fails ys stop → Fails (xs ++ ys) stop
 fails_behind xs ys stop none is = fails_as ys (xs ++ ys) stop (sym (ap (λ (zs : List Fault). zs ++ ys) none)) is
 
-pub fails_of : {A : Type 0} (xs : List Fault) (P : A → Type 0) (stop : Stop) → Judges xs P (Err stop) → Fails xs stop
-fails_of xs P (stops.Fault f) is = is
-fails_of xs P stops.NoMemory is = is
+pub fails_of : {A : Type 0} (xs : List Fault) (P : A → Type 0) (stop : Refusal) → Judges xs P (Err stop) → Fails xs stop
+fails_of xs P (refusals.Fault f) is = is
+fails_of xs P refusals.NoMemory is = is

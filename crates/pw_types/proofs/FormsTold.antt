@@ -13,7 +13,7 @@ use Rattle.pw_tree.specs.Held.{held, holds_left, held_both}
 use Rattle.pw_types.specs.Typed.{mark, Array, typed_unary, typed_binary, typed_choice, typed_element, with_both, with_three}
 use Rattle.pw_tree.specs.TypedExpressions.{type_of}
 use Rattle.pw_types.specs.Expressions.{has_type, no_unary, no_binary}
-use Rattle.pw_types.specs.CheckingExpressions.{capped, head, mark_under, of_type, leaf, unary_value, binary_value, choice_value, element_value, output_value}
+use Rattle.pw_types.specs.Steps.CheckingExpressions.{capped, head, mark_under, of_type, leaf, unary_value, binary_value, choice_value, element_value, output_value}
 use Rattle.pw_types.proofs.Told.{full, Told}
 use Rattle.pw_types.proofs.OwnRules.{rules_of, typed_told, of_type_told}
 

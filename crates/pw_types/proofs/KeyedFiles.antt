@@ -10,7 +10,7 @@ use Rattle.indexmap.proofs.CallerLemmas.{insert_entry-new}
 use Rattle.pw_types.specs.declared.names.File.{File}
 use Rattle.pw_types.specs.Scopes.{file_named, marked, with_file}
 use Rattle.pw_types.specs.Uses.{file_number}
-use Rattle.pw_types.specs.Lookups.{AreKeyed}
+use Rattle.pw_types.specs.Steps.Lookups.{AreKeyed}
 use Rattle.pw_types.proofs.Places.{by_answer, some_is, none_is_some, place}
 
 -- the file that is found has the name

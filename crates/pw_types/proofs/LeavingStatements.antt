@@ -7,7 +7,7 @@ use Rattle.pw_tree.specs.Statements.{Statement, Statements, OptionalStatement, e
 use Rattle.pw_types.specs.declared.names.Local.{Local}
 use Rattle.pw_types.specs.Scopes.{Scope}
 use Rattle.pw_types.specs.Blocks.{Block, inner, declaring, locals_in, locals_in_all, locals_in_maybe, past, behind, behind_maybe}
-use Rattle.pw_types.specs.CheckingStatements.{leave, behind_all}
+use Rattle.pw_types.specs.Steps.CheckingStatements.{leave, behind_all}
 
 -- the scope in which the first n locals are visible
 abbrev pub first_locals : ℕ → Scope → Scope

@@ -4,7 +4,7 @@ use Rattle.pw_types.specs.declared.names.File.{File}
 use Rattle.pw_types.specs.declared.names.Local.{Local}
 use Rattle.pw_types.specs.Scopes.{Scope, missing, a_local, meaning, local_named, file_named, local_or, declared_or_missing}
 use Rattle.pw_types.specs.Uses.{file_number}
-use Rattle.pw_types.specs.Lookups.{IsDeclared}
+use Rattle.pw_types.specs.Steps.Lookups.{IsDeclared}
 use Rattle.pw_types.proofs.KeyedFiles.{named}
 
 module _ (scope : Scope) (name : List ℕ) where

@@ -20,7 +20,7 @@ use Rattle.pw_types.specs.Faults.{first_of}
 use Rattle.pw_types.specs.Typed.{mark, Array, array_of, typed, array_of_kind, array_of_meaning, Designated, function_of_kind, function_of_meaning, typed_file, typed_name}
 use Rattle.pw_types.specs.Uses.{file_number, uses_of_meaning}
 use Rattle.pw_types.specs.Expressions.{is_base, is_missing, faults}
-use Rattle.pw_types.specs.CheckingExpressions.{head, fault_under, array_rule, function_rule, leaf, function_value, file_value, named_value}
+use Rattle.pw_types.specs.Steps.CheckingExpressions.{head, fault_under, array_rule, function_rule, leaf, function_value, file_value, named_value}
 use Rattle.pw_types.proofs.Told.{Told, faulty, noted, no_more}
 use Rattle.pw_types.proofs.OwnRules.{rules_by, rules_of, own_rules}
 use Rattle.pw_types.proofs.FormsTold.{leaf_told}

@@ -19,8 +19,8 @@ use Rattle.pw_types.specs.Faults.{broken, broken_by, first_of}
 use Rattle.pw_types.specs.Typed.{Array, array_of, Designated, function_of, typed}
 use Rattle.pw_tree.specs.TypedExpressions.{type_of}
 use Rattle.pw_types.specs.Expressions.{is_base, is_callee, needs_value, has_type, end_of, is_word, word_of, is_unknown, has_other_operands, has_other_count, own}
-use Rattle.pw_types.specs.Judging.{Judge, pure}
-use Rattle.pw_types.specs.CheckingExpressions.{Valued, capped, head, fault_under, is_other_argument, is_other_value, rule_where, finished_by, finished, of_type}
+use Rattle.pw_types.specs.Steps.Judging.{Judge, pure}
+use Rattle.pw_types.specs.Steps.CheckingExpressions.{Valued, capped, head, fault_under, is_other_argument, is_other_value, rule_where, finished_by, finished, of_type}
 use Rattle.pw_types.proofs.Told.{full, Told, faulty, fits, rule_then}
 
 -- ---- the list of own faults

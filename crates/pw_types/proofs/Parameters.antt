@@ -8,7 +8,7 @@ use Rattle.pw_types.specs.declared.rule.Rule.TheVariants as rules
 use Rattle.pw_types.specs.Faults.{broken}
 use Rattle.pw_types.proofs.Empty.{front_empty, back_empty}
 use Rattle.pw_types.specs.Declarations.{faults_of_parameter_name, faults_of_parameters, local_of}
-use Rattle.pw_types.specs.CheckingDeclarations.{faults_by_number}
+use Rattle.pw_types.specs.Steps.CheckingDeclarations.{faults_by_number}
 
 one_name : (number : ℕ) (before : List Local) (at : ℕ) (name : Option (List ℕ))
     → faults_of_parameter_name false number before at name ≡ faults_of_parameter_name false 0 [] at name

@@ -11,25 +11,26 @@ use Rattle.pw_tree.specs.declared.texpr.TExpr.{TExpr}
 use Rattle.pw_tree.specs.declared.tstmt.TStmt.{TStmt}
 use Rattle.pw_tree.specs.declared.tstmt.TStmt.TheVariants as kinds
 use Rattle.pw_tree.proofs.CommandFolds.{command_of-Block, command_of-If, command_of-While, command_of-Do, command_of-For}
-use Rattle.pw_types.specs.declared.fault.Stop.{Stop}
+use Rattle.pw_types.specs.declared.fault.Refusal.{Refusal}
 use Rattle.pw_types.specs.declared.role.Role.TheVariants as roles
 use Rattle.pw_types.specs.declared.statement_walk.Walk.{Walk}
 use Rattle.pw_types.specs.declared.statement_step.Setting.{Setting as Given}
 use Rattle.pw_types.specs.declared.statement_step.Outer.{Outer}
-use Rattle.pw_types.specs.declared.statement_step.Form.{Form}
-use Rattle.pw_types.specs.declared.statement_step.Form.TheVariants as forms
-use Rattle.pw_types.specs.declared.statement_step.Frame.{Frame}
-use Rattle.pw_types.specs.declared.statement_step.Step.{Step}
-use Rattle.pw_types.specs.StatementWeights.{weight_of_form, weight_of_step}
+use Rattle.pw_types.specs.declared.statement_step.StatementForm.{StatementForm}
+use Rattle.pw_types.specs.declared.statement_step.StatementForm.TheVariants as forms
+use Rattle.pw_types.specs.declared.statement_step.StatementFrame.{StatementFrame}
+use Rattle.pw_types.specs.declared.statement_step.StatementStep.{StatementStep}
+use Rattle.pw_types.specs.Steps.StatementWeights.{weight_of_form, weight_of_step}
 use Rattle.pw_types.specs.Blocks.{Block}
 use Rattle.pw_types.specs.Statements.{faults_of_whole}
-use Rattle.pw_types.specs.CheckingStatements.{WalkResult, judged, block_of, outcome_at, judged_at, setting_of, resumed_at, leave, block_at, rest_of_block, rest_of_if, rest_of_do, Leaves, Fails, Finishes, Steps, resumed, done}
-use Rattle.pw_types.specs.StatementValues.{IsValue, JudgesValue}
+use Rattle.pw_types.specs.Steps.CheckingStatements.{WalkResult, judged, block_of, outcome_at, judged_at, setting_of, resumed_at, leave, block_at, rest_of_block, rest_of_if, rest_of_do, Leaves, Finishes, Steps, resumed, IsWhole}
+use Rattle.pw_types.specs.Steps.StatementValues.{IsValue, JudgesValue}
 use Rattle.pw_types.proofs.EnclosingStatements.{same, tree_is, block_ends, block_goes_on, if_ends, if_goes_on, do_ends}
 use Rattle.pw_types.proofs.Failing.{fails_as}
 use Rattle.pw_types.proofs.SimpleStatements.{noted}
 use Rattle.pw_types.proofs.EnteringStatements.{value_fails}
 use Rattle.pw_types.proofs.StatementForms.{finished_steps, nothing_left}
+use Rattle.pw_types.specs.Steps.Refusals.{Fails}
 
 -- out of the statement, whose typed statement this is
 pub left_as : (o : Outer) (c d : TypedStatement) (old new : Walk) → c ≡ d → Leaves o old new
@@ -103,7 +104,7 @@ do_is_done o old mid new c s t left none value =
     of_block : Block → List ℕ → ℕ → WalkResult
     of_block b u h = rest_of_do (λ b'. b') c (judged (command.typed_statement_of s) b u h)
 
-pub do_fails : (o : Outer) (old mid new : Walk) (c : Expression) (s : TypedStatement) (stop : Stop) → Leaves o old mid → JudgesValue roles.Value c mid new (Err stop)
+pub do_fails : (o : Outer) (old mid new : Walk) (c : Expression) (s : TypedStatement) (stop : Refusal) → Leaves o old mid → JudgesValue roles.Value c mid new (Err stop)
     → let w : WalkResult = rest_of_do (leave o.start o.visible) c (judged_at s old) in Fails w.faults stop
 do_fails o old mid new c s stop left is =
     fails_as _ _ stop (ap (λ (b : Block). faults_of_whole b.scope roles.Value c) left.block) (value_fails roles.Value c mid new stop is)
@@ -114,20 +115,18 @@ for_is_done o old new first c last s left = left_as o _ _ old new (sym (command_
 
 -- ---- what is said of a form is said of the frame
 
-module _ (f : Frame) (form : Form) (is : f.form ≡ form) where
-  pub resumed_as : (w : WalkResult) (new : Walk) (r : Result Step Stop) → Steps (resumed_at f.outer form w) new r → Steps (resumed f w) new r
-  resumed_as w new r told = subst (λ (g : Form). Steps (resumed_at f.outer g w) new r) (sym is) told
+module _ (f : StatementFrame) (form : StatementForm) (is : f.form ≡ form) where
+  pub resumed_as : (w : WalkResult) (new : Walk) (r : Result StatementStep Refusal) → Steps (resumed_at f.outer form w) new r → Steps (resumed f w) new r
+  resumed_as w new r told = subst (λ (g : StatementForm). Steps (resumed_at f.outer g w) new r) (sym is) told
 
-  pub less_resumed : (r : Result Step Stop) → IfOk r (λ step. weight_of_step step < weight_of_form form) → IfOk r (λ step. weight_of_step step < weight_of_form f.form)
-  less_resumed r told = subst (λ (g : Form). IfOk r (λ step. weight_of_step step < weight_of_form g)) (sym is) told
+  pub less_resumed : (r : Result StatementStep Refusal) → IfOk r (λ step. weight_of_step step < weight_of_form form) → IfOk r (λ step. weight_of_step step < weight_of_form f.form)
+  less_resumed r told = subst (λ (g : StatementForm). IfOk r (λ step. weight_of_step step < weight_of_form g)) (sym is) told
 
   -- a statement that is judged behind this part
-  pub resumed_whole : (w : WalkResult) (new : Walk) (r : Result TStmt Stop) (r' : Result Step Stop) → r' ≡ done r → Finishes (resumed_at f.outer form w) new r
+  pub resumed_whole : (w : WalkResult) (new : Walk) (r : Result TStmt Refusal) (r' : Result StatementStep Refusal) → IsWhole r r' → Finishes (resumed_at f.outer form w) new r
       → Steps (resumed f w) new r'
-  resumed_whole w new r r' r_is told =
-      resumed_as w new r' (subst (λ (u : Result Step Stop). Steps (resumed_at f.outer form w) new u) (sym r_is) (finished_steps _ new r told))
+  resumed_whole w new r r' whole told = resumed_as w new r' (finished_steps _ new r r' whole told)
 
-  pub less_whole : (r : Result TStmt Stop) (r' : Result Step Stop) → r' ≡ done r → 0 < weight_of_form form
+  pub less_whole : (r : Result TStmt Refusal) (r' : Result StatementStep Refusal) → IsWhole r r' → 0 < weight_of_form form
       → IfOk r' (λ step. weight_of_step step < weight_of_form f.form)
-  less_whole r r' r_is some =
-      less_resumed r' (subst (λ (u : Result Step Stop). IfOk u (λ step. weight_of_step step < weight_of_form form)) (sym r_is) (nothing_left (weight_of_form form) r some))
+  less_whole r r' whole some = less_resumed r' (nothing_left (weight_of_form form) r r' whole some)

@@ -24,8 +24,8 @@ use Rattle.pw_types.specs.Uses.{uses}
 use Rattle.pw_types.specs.Blocks.{uses_by}
 use Rattle.pw_types.specs.Statements.{faults_of_whole, faults_by, returns_other}
 use Rattle.pw_types.specs.TypedStatements.{typed_statement}
-use Rattle.pw_types.specs.CheckingStatements.{WalkResult, judged, block_of, outcome_at, judged_at}
-use Rattle.pw_types.specs.StatementValues.{Notes, IsValue}
+use Rattle.pw_types.specs.Steps.CheckingStatements.{WalkResult, judged, block_of, outcome_at, judged_at}
+use Rattle.pw_types.specs.Steps.StatementValues.{Notes, IsValue}
 use Rattle.pw_types.proofs.EnclosingStatements.{same, in_front, tree_is}
 use Rattle.pw_types.proofs.TreeTypes.{type_is}
 

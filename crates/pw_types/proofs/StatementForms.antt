@@ -9,12 +9,13 @@ use Rattle.pw_tree.specs.declared.stmt.StmtKind.{StmtKind}
 use Rattle.pw_tree.specs.declared.stmt.StmtKind.TheVariants as kinds
 use Rattle.pw_tree.proofs.StatementFolds.{statement_of-out, statement_form_of-Empty, statement_form_of-Block, statement_form_of-Local, statement_form_of-Set, statement_form_of-Eval, statement_form_of-If, statement_form_of-While, statement_form_of-Do, statement_form_of-For, statement_form_of-Return, statement_form_of-Break, statement_form_of-Continue}
 use Rattle.pw_tree.specs.declared.tstmt.TStmt.{TStmt}
-use Rattle.pw_types.specs.declared.fault.Stop.{Stop}
+use Rattle.pw_types.specs.declared.fault.Refusal.{Refusal}
 use Rattle.pw_types.specs.declared.statement_walk.Walk.{Walk}
 use Rattle.pw_types.specs.declared.statement_step.Setting.{Setting as Given}
-use Rattle.pw_types.specs.declared.statement_step.Step.{Step}
-use Rattle.pw_types.specs.CheckingStatements.{WalkResult, outcome_at, Finishes, Leads, Steps, done}
-use Rattle.pw_types.specs.StatementWeights.{weight, weight_of_step}
+use Rattle.pw_types.specs.declared.statement_step.StatementStep.{StatementStep}
+use Rattle.pw_types.specs.Steps.CheckingStatements.{WalkResult, outcome_at, Finishes, Leads, Steps, IsWhole}
+use Rattle.pw_types.specs.Steps.StatementWeights.{weight, weight_of_step}
+use Rattle.pw_types.specs.Steps.Refusals.{Fails}
 
 abbrev pub place_at : Stmt → Span
 place_at s = record { first = (out-Stmt s).first; last = (out-Stmt s).last; line = (out-Stmt s).line }
@@ -76,29 +77,30 @@ is_continue s is = of_kind s _ _ is statement_form_of-Continue
 
 -- ---- what is said of a form is said of the statement
 
-pub finished_steps : (w : WalkResult) (new : Walk) (r : Result TStmt Stop) → Finishes w new r → Steps w new (done r)
-finished_steps w new (Ok t) told = told
-finished_steps w new (Err stop) told = told
+pub finished_steps : (w : WalkResult) (new : Walk) (r : Result TStmt Refusal) (r' : Result StatementStep Refusal) → IsWhole r r' → Finishes w new r → Steps w new r'
+finished_steps w new (Ok t) (Ok step) whole told = subst (λ (s : StatementStep). Leads w new s) (sym whole) told
+finished_steps w new (Ok t) (Err stop) whole told = subst (λ (s : Refusal). Fails w.faults s) (sym whole) tt
+finished_steps w new (Err stop) r' whole told = subst (λ (u : Result StatementStep Refusal). Steps w new u) (sym whole) told
 
-pub nothing_left : (n : ℕ) (r : Result TStmt Stop) → 0 < n → IfOk (done r) (λ step. weight_of_step step < n)
-nothing_left n (Ok t) some = some
-nothing_left n (Err stop) some = tt
+pub nothing_left : (n : ℕ) (r : Result TStmt Refusal) (r' : Result StatementStep Refusal) → IsWhole r r' → 0 < n → IfOk r' (λ step. weight_of_step step < n)
+nothing_left n (Ok t) (Ok step) whole some = subst (λ (s : StatementStep). weight_of_step s < n) (sym whole) some
+nothing_left n (Ok t) (Err stop) whole some = tt
+nothing_left n (Err stop) r' whole some = subst (λ (u : Result StatementStep Refusal). IfOk u (λ step. weight_of_step step < n)) (sym whole) tt
 
 module _ (x : Given) (old new : Walk) (s y : Statement) (is : s ≡ y) where
-  pub leads_as : (r : Step) → Leads (outcome_at x old y) new r → Leads (outcome_at x old s) new r
+  pub leads_as : (r : StatementStep) → Leads (outcome_at x old y) new r → Leads (outcome_at x old s) new r
   leads_as r told = subst (λ (z : Statement). Leads (outcome_at x old z) new r) (sym is) told
 
-  pub steps_as : (r : Result Step Stop) → Steps (outcome_at x old y) new r → Steps (outcome_at x old s) new r
+  pub steps_as : (r : Result StatementStep Refusal) → Steps (outcome_at x old y) new r → Steps (outcome_at x old s) new r
   steps_as r told = subst (λ (z : Statement). Steps (outcome_at x old z) new r) (sym is) told
 
   -- a statement without parts
-  pub whole_as : (r : Result TStmt Stop) (r' : Result Step Stop) → r' ≡ done r → Finishes (outcome_at x old y) new r → Steps (outcome_at x old s) new r'
-  whole_as r r' r_is told = steps_as r' (subst (λ (u : Result Step Stop). Steps (outcome_at x old y) new u) (sym r_is) (finished_steps _ new r told))
+  pub whole_as : (r : Result TStmt Refusal) (r' : Result StatementStep Refusal) → IsWhole r r' → Finishes (outcome_at x old y) new r → Steps (outcome_at x old s) new r'
+  whole_as r r' whole told = steps_as r' (finished_steps _ new r r' whole told)
 
-pub less_as : (s y : Statement) (r : Result Step Stop) → s ≡ y → IfOk r (λ step. weight_of_step step < weight y) → IfOk r (λ step. weight_of_step step < weight s)
+pub less_as : (s y : Statement) (r : Result StatementStep Refusal) → s ≡ y → IfOk r (λ step. weight_of_step step < weight y) → IfOk r (λ step. weight_of_step step < weight s)
 less_as s y r is told = subst (λ (z : Statement). IfOk r (λ step. weight_of_step step < weight z)) (sym is) told
 
-pub whole_less : (s y : Statement) (r : Result TStmt Stop) (r' : Result Step Stop) → s ≡ y → r' ≡ done r → 0 < weight y
+pub whole_less : (s y : Statement) (r : Result TStmt Refusal) (r' : Result StatementStep Refusal) → s ≡ y → IsWhole r r' → 0 < weight y
     → IfOk r' (λ step. weight_of_step step < weight s)
-whole_less s y r r' is r_is some =
-    less_as s y r' is (subst (λ (u : Result Step Stop). IfOk u (λ step. weight_of_step step < weight y)) (sym r_is) (nothing_left (weight y) r some))
+whole_less s y r r' is whole some = less_as s y r' is (nothing_left (weight y) r r' whole some)

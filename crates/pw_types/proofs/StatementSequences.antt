@@ -7,7 +7,7 @@ use Rattle.pw_tree.specs.TypedStatements.{TypedStatement, TypedStatements}
 use Rattle.pw_tree.specs.TypedStatements as command
 use Rattle.pw_tree.specs.declared.tstmt.TStmt.{TStmt}
 use Rattle.pw_types.specs.declared.fault.Fault.{Fault}
-use Rattle.pw_types.specs.declared.fault.Stop.{Stop}
+use Rattle.pw_types.specs.declared.fault.Refusal.{Refusal}
 use Rattle.pw_types.specs.declared.statement_walk.Walk.{Walk}
 use Rattle.pw_types.specs.declared.statement_step.Setting.{Setting as Given}
 use Rattle.pw_types.specs.Scopes.{Scope}
@@ -15,11 +15,12 @@ use Rattle.pw_tree.specs.Held.{held_by_all}
 use Rattle.pw_types.specs.Blocks.{Setting, Block, locals_in_all, uses_by_all}
 use Rattle.pw_types.specs.Statements.{faults_by, faults_by_all}
 use Rattle.pw_types.specs.TypedStatements.{typed_statements}
-use Rattle.pw_types.specs.Judged.{IsTypedBody}
-use Rattle.pw_types.specs.CheckingStatements.{WalkResult, outcome, block_of, outcome_at, judged_at, setting_of, before, Sequence, sequence, sequence_at, Fails}
+use Rattle.pw_types.specs.Steps.Judged.{IsTypedBody}
+use Rattle.pw_types.specs.Steps.CheckingStatements.{WalkResult, outcome, block_of, outcome_at, judged_at, setting_of, before, Sequence, sequence, sequence_at}
 use Rattle.pw_types.proofs.LeavingStatements.{keeps}
 use Rattle.pw_types.proofs.EnclosingStatements.{max_assoc, used_by_both, before_snoc, before_nothing, zero-max}
 use Rattle.pw_types.proofs.Failing.{fails_as, fails_in_front}
+use Rattle.pw_types.specs.Steps.Refusals.{Fails}
 
 same_sequence : {f f' : List Fault} {c c' : TypedStatements} {u u' : List ℕ} {h h' n n' : ℕ}
     → f ≡ f' → c ≡ c' → u ≡ u' → h ≡ h' → n ≡ n'
@@ -56,7 +57,7 @@ one_less x old new done all t s ss is more =
     (sym (map-append command.typed_statement_of done (t ∷ [])) ∙ ap (map command.typed_statement_of) (sym more)))
     refl refl refl)
 
-pub one_fails : (x : Given) (start old : Walk) (done : List TStmt) (all : Statements) (s : Statement) (ss : Statements) (stop : Stop)
+pub one_fails : (x : Given) (start old : Walk) (done : List TStmt) (all : Statements) (s : Statement) (ss : Statements) (stop : Refusal)
     → sequence_at x start [] all ≡ sequence_at x old done (cons s ss) → (let w : WalkResult = outcome_at x old s in Fails w.faults stop)
     → Fails (faults_by_all (setting_of x) (block_of start) all) stop
 unfolding faults_by_all

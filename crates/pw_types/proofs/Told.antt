@@ -12,8 +12,8 @@ use Rattle.pw_tree.specs.Held.{held}
 use Rattle.pw_types.specs.Faults.{broken, first_of}
 use Rattle.pw_tree.specs.TypedExpressions.{type_of}
 use Rattle.pw_types.specs.Expressions.{is_callee, is_base}
-use Rattle.pw_types.specs.Judging.{Judge, and_then, ◌>>=◌, pure, refuse, noting, on_option}
-use Rattle.pw_types.specs.CheckingExpressions.{Valued, capped, fault_under, rule_where}
+use Rattle.pw_types.specs.Steps.Judging.{Judge, and_then, ◌>>=◌, pure, refuse, noting, on_option}
+use Rattle.pw_types.specs.Steps.CheckingExpressions.{Valued, capped, fault_under, rule_where}
 
 -- a typed tree with what it holds
 abbrev pub full : TypedExpression → Valued

@@ -12,7 +12,7 @@ use Rattle.pw_tree.specs.Types.{IsType, IsValueType}
 use Rattle.pw_tree.specs.TypeTexts.{letter_of, text_of_function, text_of_variable}
 use Rattle.pw_types.specs.declared.names.Kind.{Kind}
 use Rattle.pw_types.specs.declared.names.Kind.TheVariants.{Function, Variable}
-use Rattle.pw_types.specs.Texts.{HasText}
+use Rattle.pw_types.specs.Steps.Texts.{HasText}
 use Rattle.pw_tree.specs.Types.{AreValueTypes}
 use Rattle.pw_types.specs.Units.{text_of_kind}
 

@@ -16,7 +16,7 @@ use Rattle.pw_types.specs.Reserved.{is_reserved}
 use Rattle.pw_types.specs.Scopes.{file_named, marked, with_file}
 use Rattle.pw_types.specs.Declarations.{kind_of, parameters_in, is_definition_of_function, faults_of_parameters, is_redefined, conflicts, has_bad_size, is_too_large, first_of, declared_by, file_scope, faults_of_form, elements_of, Whole, faults_of_declaration}
 use Rattle.pw_types.specs.Units.{files_behind, faults_of_declarations}
-use Rattle.pw_types.specs.Texts.{HasText, HaveTexts}
+use Rattle.pw_types.specs.Steps.Texts.{HasText, HaveTexts}
 use Rattle.pw_tree.specs.Types.{AreValueTypes, IsArraySize}
 use Rattle.pw_types.proofs.Empty.{front_empty, back_empty}
 use Rattle.pw_types.proofs.Parameters.{few_parameters}

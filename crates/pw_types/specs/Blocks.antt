@@ -18,9 +18,11 @@ pub record Setting : Type 0 where
 abbrev pub part : Setting → Setting
 part x = record x { in_head = false }
 
+-- a loop's body
 abbrev pub body : Setting → Setting
 body x = record x { in_loop = true; in_head = false }
 
+-- the first or last part of a `for`
 abbrev pub head : Setting → Setting
 head x = record x { in_head = true }
 
@@ -64,10 +66,12 @@ unfoldable mutual
   locals_in (breaks at) = 0
   locals_in (continues at) = 0
 
+  -- how many those of a list declare
   pub locals_in_all : Statements → ℕ
   locals_in_all nil = 0
   locals_in_all (cons s ss) = locals_in s + locals_in_all ss
 
+  -- how many one declares that may be missing
   pub locals_in_maybe : OptionalStatement → ℕ
   locals_in_maybe absent = 0
   locals_in_maybe (present s) = locals_in s
@@ -91,6 +95,7 @@ behind (returns at e) b = b
 behind (breaks at) b = b
 behind (continues at) b = b
 
+-- behind a statement that may be missing
 abbrev pub behind_maybe : OptionalStatement → Block → Block
 behind_maybe absent b = b
 behind_maybe (present s) b = behind s b

@@ -1,6 +1,7 @@
 -- The faults of a declaration at file level, and what it declares (C17, 6.2.2 and 6.9).
 use Rattle.std.specs.Prelude.{ℕ, suc, ◌+◌, Bool, true, false, ◌&&◌, ◌||◌, not, if◌then◌else◌, List, [], ◌∷◌, ◌++◌, length, map, Option, Some, None, is_some, nat_eq, nat_le, nat_lt}
 use Rattle.std.specs.Option.{option_map_or}
+use Rattle.pw_base.specs.Limits as limits
 use Rattle.pw_tree.specs.declared.ty.Ty.{Ty}
 use Rattle.pw_tree.specs.declared.ty.Sig.{Sig}
 use Rattle.pw_tree.specs.declared.decl.Param.{Param}
@@ -34,6 +35,7 @@ is_external Plain = true
 is_external Extern = true
 is_external Static = false
 
+-- it is declared `extern`
 abbrev pub is_extern : Linkage → Bool
 is_extern Extern = true
 is_extern Plain = false
@@ -45,9 +47,11 @@ defines linkage (prototype result params) = false
 defines linkage (definition result params body) = true
 defines linkage (variable ty size init) = not (is_extern linkage)
 
+-- a function's result and the types of its parameters
 abbrev pub signature : Ty → List Param → Sig
 signature result params = record { result = result; params = map (λ p. p.ty) params }
 
+-- what a declaration declares: a function, a variable, or an array
 abbrev pub kind_of : DeclarationForm → Kind
 kind_of (prototype result params) = kinds.Function (signature result params)
 kind_of (definition result params body) = kinds.Function (signature result params)
@@ -60,12 +64,14 @@ same_types [] (b ∷ bs) = false
 same_types (a ∷ as') [] = false
 same_types (a ∷ as') (b ∷ bs) = same_type a b && same_types as' bs
 
+-- two arrays of one size, or two that are none
 abbrev pub same_size : Option ℕ → Option ℕ → Bool
 same_size None None = true
 same_size (Some m) (Some n) = nat_eq m n
 same_size None (Some n) = false
 same_size (Some m) None = false
 
+-- two functions of one signature, or two variables of one type and size
 abbrev pub same_kind : Kind → Kind → Bool
 same_kind (kinds.Function f) (kinds.Function g) = same_type f.result g.result && same_types f.params g.params
 same_kind (kinds.Variable t m) (kinds.Variable u n) = same_type t u && same_size m n
@@ -82,6 +88,7 @@ faults_of_parameter_name true number before at (Some name) =
     ++ (broken rules.TooManyLocals at (is_local_too_many number) ++ broken_by rules.Reserved at name (is_reserved name))
 faults_of_parameter_name false number before at (Some name) = broken_by rules.Reserved at name (is_reserved name)
 
+-- a parameter's name, where it has one
 abbrev pub named_or_nothing : Option (List ℕ) → List ℕ
 named_or_nothing (Some name) = name
 named_or_nothing None = []
@@ -90,10 +97,11 @@ named_or_nothing None = []
 abbrev pub local_of : ℕ → Param → Local
 local_of number p = record { name = named_or_nothing p.name; ty = p.ty; number = number }
 
--- TooManyParameters: a parameter that has 6 before it
+-- TooManyParameters: a parameter that has as many before it as a function may have
 abbrev pub is_parameter_too_many : ℕ → Bool
-is_parameter_too_many before = nat_le 6 before
+is_parameter_too_many before = nat_le limits.parameters before
 
+-- those of parameters in order of text, behind those that stand before them
 unfoldable pub faults_of_parameters : Bool → List Local → List Param → List Fault
 faults_of_parameters is_definition before [] = []
 faults_of_parameters is_definition before (p ∷ ps) =
@@ -106,11 +114,13 @@ unfoldable pub locals_of : List Local → List Param → List Local
 locals_of before [] = before
 locals_of before (p ∷ ps) = locals_of (before ++ local_of (length before) p ∷ []) ps
 
+-- the parameters of a function's declaration
 abbrev pub parameters_in : DeclarationForm → List Param
 parameters_in (prototype result params) = params
 parameters_in (definition result params body) = params
 parameters_in (variable ty size init) = []
 
+-- it has a body
 abbrev pub is_definition_of_function : DeclarationForm → Bool
 is_definition_of_function (prototype result params) = false
 is_definition_of_function (definition result params body) = true
@@ -134,18 +144,20 @@ elements_of_form (variable ty (Some size) init) = size
 elements_of_form (prototype result params) = 0
 elements_of_form (definition result params body) = 0
 
+-- how many elements a declaration adds to the unit's; one that defines nothing adds none
 abbrev pub elements_of : Declaration → ℕ
 elements_of d = if defines d.linkage d.form then elements_of_form d.form else 0
 
+-- an array has no elements, or more than an array may have
 abbrev pub has_bad_size : DeclarationForm → Bool
-has_bad_size (variable ty (Some size) init) = nat_eq size 0 || nat_lt 65536 size
+has_bad_size (variable ty (Some size) init) = nat_eq size 0 || nat_lt limits.array_elements size
 has_bad_size (variable ty None init) = false
 has_bad_size (prototype result params) = false
 has_bad_size (definition result params body) = false
 
 -- ArraySize: of so many elements before it, the unit's variables have too many with it
 abbrev pub is_too_large : ℕ → Declaration → Bool
-is_too_large elements d = has_bad_size d.form || (nat_lt 0 (elements_of d) && nat_lt 262144 (elements + elements_of d))
+is_too_large elements d = has_bad_size d.form || (nat_lt 0 (elements_of d) && nat_lt limits.module_elements (elements + elements_of d))
 
 -- ---- initialisers
 
@@ -159,10 +171,12 @@ abbrev pub does_not_initialise : Scope → Ty → InitKind → Bool
 does_not_initialise scope ty (Num n) = is_pointer ty
 does_not_initialise scope ty (Word name) = not (points_to ty (function_named scope name))
 
+-- an element is a name that nothing visible declares
 abbrev pub is_unknown_name : Scope → InitKind → Bool
 is_unknown_name scope (Num n) = false
 is_unknown_name scope (Word name) = is_missing (meaning scope name)
 
+-- the name that an element is, where it is one
 abbrev pub name_in : InitKind → List ℕ
 name_in (Num n) = []
 name_in (Word name) = name
@@ -171,11 +185,13 @@ name_in (Word name) = name
 abbrev pub is_wrong_element : Scope → Ty → ℕ → ℕ → InitKind → Bool
 is_wrong_element scope ty size number kind = does_not_initialise scope ty kind || nat_le size number
 
+-- Unknown and Initialiser, of one element
 abbrev pub faults_of_element : Scope → Ty → ℕ → ℕ → InitItem → List Fault
 faults_of_element scope ty size number item =
     broken_by rules.Unknown item.last (name_in item.kind) (is_unknown_name scope item.kind)
     ++ broken rules.Initialiser item.last (is_wrong_element scope ty size number item.kind)
 
+-- those of elements in order of text, from this number on
 unfoldable pub faults_of_elements : Scope → Ty → ℕ → ℕ → List InitItem → List Fault
 faults_of_elements scope ty size number [] = []
 faults_of_elements scope ty size number (item ∷ items) =
@@ -186,6 +202,7 @@ abbrev pub room : Option ℕ → ℕ
 room None = 1
 room (Some size) = size
 
+-- those of an initialiser, where there is one
 abbrev pub faults_of_initialiser : Scope → Ty → Option ℕ → Option (List InitItem) → List Fault
 faults_of_initialiser scope ty size None = []
 faults_of_initialiser scope ty size (Some items) = faults_of_elements scope ty (room size) 0 items
@@ -209,9 +226,11 @@ abbrev pub outermost : Scope → List Param → Block
 outermost scope params =
     record { scope = record scope { locals = locals_of [] params }; start = 0; count = length params }
 
+-- what the statements of a function's body have in common
 abbrev pub setting : List ℕ → Ty → Setting
 setting lines result = record { result = result; lines = lines; in_loop = false; in_head = false }
 
+-- those of the body, or of the initialiser
 abbrev pub faults_of_form : List ℕ → Scope → DeclarationForm → List Fault
 faults_of_form lines scope (prototype result params) = []
 faults_of_form lines scope (definition result params body) = faults_by_all (setting lines result) (outermost scope params) body
@@ -228,6 +247,7 @@ uses_of_form scope (variable ty size init) = uses_of_initialiser scope init
 abbrev pub first_of : Declaration → File
 first_of d = record { name = d.name; external = is_external d.linkage; kind = kind_of d.form; defined = defines d.linkage d.form }
 
+-- the names with that of a declaration
 abbrev pub declared_by : Declaration → List File → List File
 declared_by d files = with_file (first_of d) files
 

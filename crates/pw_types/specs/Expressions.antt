@@ -18,6 +18,7 @@ use Rattle.pw_tree.specs.TypedExpressions.{type_of}
 
 -- ---- places
 
+-- the base of an index, which is an array's name and no value
 abbrev pub is_base : Role → Bool
 is_base Base = true
 is_base Statement = false
@@ -37,6 +38,7 @@ needs_value (Argument want) = true
 needs_value Written = true
 needs_value (Assigned want) = true
 
+-- the callee of a call
 abbrev pub is_callee : Role → Bool
 is_callee Callee = true
 is_callee Statement = false
@@ -64,6 +66,7 @@ is_word (index at b i) = false
 is_word (input at) = false
 is_word (output at e) = false
 
+-- the name that it is, where it is one
 abbrev pub word_of : Expression → List ℕ
 word_of (word at name) = name
 word_of (constant at value unsigned) = []
@@ -75,6 +78,7 @@ word_of (index at b i) = []
 word_of (input at) = []
 word_of (output at e) = []
 
+-- it has a type, or is a name, so that its place can ask something of it
 abbrev pub is_judged : Scope → Expression → Bool
 is_judged scope e = is_some (typed scope e) || is_word e
 
@@ -82,11 +86,13 @@ is_judged scope e = is_some (typed scope e) || is_word e
 abbrev pub has_type : (Ty → Bool) → Option TypedExpression → Bool
 has_type f t = option_map_or (λ e. f (type_of e)) t false
 
+-- no declaration is visible
 abbrev pub is_missing : Meaning → Bool
 is_missing missing = true
 is_missing (a_local l) = false
 is_missing (declared f) = false
 
+-- how many expressions a list has
 abbrev pub how_many : Expressions → ℕ
 how_many nil = 0
 how_many (cons e es) = suc (how_many es)
@@ -103,9 +109,11 @@ is_no_value scope role e =
     (needs_value role && has_type is_void (typed scope e))
     || (not (is_base role) && is_some (function_of scope e) && is_none (typed scope e))
 
+-- an operand has a type, and it is none that the operator takes
 abbrev pub no_unary : (Ty → Option Ty) → Option TypedExpression → Bool
 no_unary f e = has_type (λ t. is_none (f t)) e
 
+-- both operands have types, and they are none that the operator takes
 abbrev pub no_binary : {A : Type 0} → (Ty → Ty → Option A) → Option TypedExpression → Option TypedExpression → Bool
 no_binary f l r = has_type (λ t. has_type (λ u. is_none (f t u)) r) l
 
@@ -197,6 +205,7 @@ first_parameter None = None
 first_parameter (Some []) = None
 first_parameter (Some (ty ∷ tys)) = Some ty
 
+-- the parameters behind the first
 abbrev pub other_parameters : Option (List Ty) → Option (List Ty)
 other_parameters None = None
 other_parameters (Some []) = Some []

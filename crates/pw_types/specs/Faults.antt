@@ -1,9 +1,7 @@
--- Lists of faults, and what judging a phrase answers.
-use Rattle.std.specs.Prelude.{◌≡◌, ℕ, Bool, true, false, List, [], ◌∷◌, Option, Some, None, Result, Ok, Err, ⊤}
+-- Lists of faults.
+use Rattle.std.specs.Prelude.{ℕ, Bool, true, false, List, [], ◌∷◌, Option, Some, None}
 use Rattle.pw_types.specs.declared.rule.Rule.{Rule}
 use Rattle.pw_types.specs.declared.fault.Fault.{Fault}
-use Rattle.pw_types.specs.declared.fault.Stop.{Stop}
-use Rattle.pw_types.specs.declared.fault.Stop.TheVariants as stops
 
 -- the fault, where a rule is broken
 abbrev pub broken : Rule → ℕ → Bool → List Fault
@@ -19,9 +17,3 @@ broken_by rule at name false = []
 abbrev pub first_of : List Fault → Option Fault
 first_of [] = None
 first_of (f ∷ fs) = Some f
-
--- a value that means what it should, where there is no fault; or exactly the first fault; want of memory says nothing
-abbrev pub Judges : {A : Type 0} → List Fault → (A → Type 0) → Result A Stop → Type 0
-Judges faults Means (Ok a) = (faults ≡ []) × Means a
-Judges faults Means (Err (stops.Fault f)) = first_of faults ≡ Some f
-Judges faults Means (Err stops.NoMemory) = ⊤

@@ -26,9 +26,11 @@ use Rattle.pw_types.specs.Units.{whole_of, files_behind, lacks_definition, fault
 
 -- A phrase: its parts in order of text, and the faults of its own.
 mutual
+  -- a phrase
   pub data Nest : Type 0 where
     nest : Nests → List Fault → Nest
 
+  -- the parts of a phrase
   pub data Nests : Type 0 where
     none : Nests
     more : Nest → Nests → Nests
@@ -41,6 +43,7 @@ unless_named None f others = more f others
 unless_named (Some g) f others = others
 
 unfoldable mutual
+  -- the parts of an expression
   pub parts : Scope → Expression → Nests
   parts scope (constant at v unsigned) = none
   parts scope (word at name) = none
@@ -58,11 +61,13 @@ unfoldable mutual
   parts scope (input at) = none
   parts scope (output at e) = more (nest (parts scope e) (own scope roles.Written e)) none
 
+  -- the arguments of a call, where these parameters are left
   pub arguments : Scope → Option (List Ty) → Expressions → Nests
   arguments scope params phrases.nil = none
   arguments scope params (phrases.cons e es) =
       more (nest (parts scope e) (own scope (roles.Argument (first_parameter params)) e)) (arguments scope (other_parameters params) es)
 
+-- an expression in its place
 abbrev pub expression : Scope → Role → Expression → Nest
 expression scope role e = nest (parts scope e) (own scope role e)
 
@@ -94,6 +99,7 @@ assignment x scope at name (Some i) e =
     (broken rules.TooDeep (set_end x.in_head at) (set_element_holds_too_many scope name i e))
 
 unfoldable mutual
+  -- a statement
   pub statement : Setting → Block → Statement → Nest
   statement x b (empty at) = leaf []
   statement x b (block at ss) = nest (statements (part x) (inner b) ss) []
@@ -115,6 +121,7 @@ unfoldable mutual
   statement x b (breaks at) = leaf (broken rules.OutsideLoop at.last (is_outside_loop x))
   statement x b (continues at) = leaf (broken rules.OutsideLoop at.last (is_outside_loop x))
 
+  -- statements in a row
   pub statements : Setting → Block → Statements → Nests
   statements x b nil = none
   statements x b (cons s ss) = more (statement x b s) (statements x (behind s b) ss)
@@ -126,6 +133,7 @@ unfoldable mutual
 
 -- ---- declarations
 
+-- the parameters of a function, behind those that stand before them
 unfoldable pub parameters : Bool → List Local → List Param → Nests
 parameters is_definition before [] = none
 parameters is_definition before (p ∷ ps) =
@@ -133,11 +141,13 @@ parameters is_definition before (p ∷ ps) =
     ++ broken rules.TooManyParameters p.last (is_parameter_too_many (length before))))
     (parameters is_definition (before ++ local_of (length before) p ∷ []) ps)
 
+-- the elements of an initialiser, from this number on
 unfoldable pub elements : Scope → Ty → ℕ → ℕ → List InitItem → Nests
 elements scope ty size number [] = none
 elements scope ty size number (item ∷ items) =
     more (leaf (faults_of_element scope ty size number item)) (elements scope ty size (suc number) items)
 
+-- an initialiser, where there is one
 abbrev pub initialiser : Scope → Ty → Option ℕ → Option (List InitItem) → Nests
 initialiser scope ty size None = none
 initialiser scope ty size (Some items) = elements scope ty (room size) 0 items
@@ -157,10 +167,12 @@ declarator files before d =
     (broken_by rules.Conflict d.declarator d.name (conflicts d (file_named d.name files))
     ++ broken rules.ArraySize d.declarator (is_too_large before d))
 
+-- a declaration: its declarator, and then its body or initialiser
 abbrev pub declaration : Whole → List File → ℕ → Declaration → Nest
 declaration w files before d =
     nest (more (declarator files before d) (form w.lines (file_scope w (declared_by d files)) d.form)) []
 
+-- the declarations of a unit, in order of text
 unfoldable pub declarations : Whole → List File → ℕ → List Declaration → Nests
 declarations w files before [] = none
 declarations w files before (d ∷ ds) =
@@ -184,6 +196,7 @@ unfoldable mutual
   pub walk : ℕ → Nest → List Nested
   walk depth (nest ns own) = walk_all (suc depth) ns ++ map (λ f. record { depth = depth; fault = f }) own
 
+  -- those of phrases in order of text
   pub walk_all : ℕ → Nests → List Nested
   walk_all depth none = []
   walk_all depth (more n ns) = walk depth n ++ walk_all depth ns

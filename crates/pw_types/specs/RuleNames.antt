@@ -3,6 +3,7 @@ use Rattle.std.specs.Prelude.{ℕ, List, codes}
 use Rattle.pw_types.specs.declared.rule.Rule.{Rule}
 use Rattle.pw_types.specs.declared.rule.Rule.TheVariants as rules
 
+-- the name of a rule
 abbrev pub name_of : Rule → List ℕ
 name_of rules.Unknown = codes "Unknown"
 name_of rules.Redeclared = codes "Redeclared"

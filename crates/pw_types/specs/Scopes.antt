@@ -30,6 +30,7 @@ file_named name files = find (λ f. bytes_eq f.name name) files
 abbrev pub marked : List ℕ → Bool → File → File
 marked name is_definition f = if bytes_eq f.name name then record f { defined = f.defined || is_definition } else f
 
+-- the names with a declaration: a later one of its name only defines it, a first one joins them
 abbrev pub with_file : File → List File → List File
 with_file f files = if is_some (file_named f.name files) then map (marked f.name f.defined) files else files ++ f ∷ []
 
@@ -43,10 +44,12 @@ pub data Meaning : Type 0 where
   a_local : Local → Meaning
   declared : File → Meaning
 
+-- what a name means at file level
 abbrev pub declared_or_missing : Option File → Meaning
 declared_or_missing (Some f) = declared f
 declared_or_missing None = missing
 
+-- a local where there is one, else another meaning
 abbrev pub local_or : Option Local → Meaning → Meaning
 local_or (Some l) other = a_local l
 local_or None other = other
@@ -63,5 +66,6 @@ number_of name names = prefix_len (λ other. not (bytes_eq other name)) names
 abbrev pub function_reference : Scope → File → Ref
 function_reference scope f = if f.external then Global f.name else LocalFun (number_of f.name scope.functions)
 
+-- the same of a variable
 abbrev pub variable_reference : Scope → File → Ref
 variable_reference scope f = if f.external then Global f.name else LocalVar (number_of f.name scope.variables)

@@ -1,6 +1,7 @@
 -- The faults of statements, in order of text (C17, 6.8).
 use Rattle.std.specs.Prelude.{ℕ, Bool, false, ◌&&◌, ◌||◌, not, List, [], ◌++◌, Option, Some, None, is_some, is_none, option_map, nat_le, nat_lt}
 use Rattle.std.specs.Option.{option_map_or}
+use Rattle.pw_base.specs.Limits as limits
 use Rattle.pw_tree.specs.declared.ty.Ty.{Ty}
 use Rattle.pw_tree.specs.Expressions.{Span, Expression}
 use Rattle.pw_tree.specs.TypedExpressions.{TypedExpression}
@@ -23,27 +24,29 @@ use Rattle.pw_types.specs.Blocks.{Setting, part, body, head, Block, inner, has_o
 
 -- ---- expressions of statements
 
--- TooDeep: it holds more than 100 values
+-- TooDeep: it holds more values than may be held at once
 abbrev pub holds_too_many : Option TypedExpression → Bool
-holds_too_many t = option_map_or (λ e. nat_lt 100 (held e)) t false
+holds_too_many t = option_map_or (λ e. nat_lt limits.held_values (held e)) t false
 
+-- TooDeep of an element's assignment: its index and its value together hold too many
 abbrev pub element_holds_too_many : Option TypedExpression → Option TypedExpression → Bool
-element_holds_too_many (Some i) e = option_map_or (λ t. nat_lt 100 (held_element i t)) e false
+element_holds_too_many (Some i) e = option_map_or (λ t. nat_lt limits.held_values (held_element i t)) e false
 element_holds_too_many None e = false
 
 -- a statement's whole expression
 abbrev pub faults_of_whole : Scope → Role → Expression → List Fault
 faults_of_whole scope role e = faults scope role e ++ broken rules.TooDeep (end_of e) (holds_too_many (typed scope e))
 
+-- those of an expression that may be missing
 abbrev pub faults_of_option : Scope → Role → Option Expression → List Fault
 faults_of_option scope role None = []
 faults_of_option scope role (Some e) = faults_of_whole scope role e
 
 -- ---- declarations of locals
 
--- TooManyLocals: a parameter or local of a function that has 120 before it
+-- TooManyLocals: a parameter or local of a function that has as many before it as a function may have
 abbrev pub is_local_too_many : ℕ → Bool
-is_local_too_many before = nat_le 120 before
+is_local_too_many before = nat_le limits.locals before
 
 -- Redeclared, TooManyLocals and Reserved, of a local's name
 abbrev pub faults_of_name : Block → List ℕ → ℕ → List Fault
@@ -59,6 +62,7 @@ type_of_kind (Function sig) = None
 type_of_kind (Variable ty None) = Some ty
 type_of_kind (Variable ty (Some size)) = None
 
+-- the type that a name is assigned at, by its meaning
 abbrev pub type_of_target : Meaning → Option Ty
 type_of_target missing = None
 type_of_target (a_local l) = Some l.ty
@@ -92,15 +96,18 @@ set_holds_too_many scope name e = is_some (type_of_target (meaning scope name)) 
 abbrev pub set_element_holds_too_many : Scope → List ℕ → Expression → Expression → Bool
 set_element_holds_too_many scope name i e = is_some (array_named scope name) && element_holds_too_many (typed scope i) (typed scope e)
 
+-- Unknown, NeedsIndex and AssignType, of a name that is assigned to
 abbrev pub faults_of_target : Scope → List ℕ → ℕ → List Fault
 faults_of_target scope name at =
     broken_by rules.Unknown at name (is_unknown_target scope name)
     ++ (broken rules.NeedsIndex at (is_array_target scope name) ++ broken rules.AssignType at (is_function_target scope name))
 
+-- Unknown and NotArray, of a name whose element is assigned to
 abbrev pub faults_of_array : Scope → List ℕ → ℕ → List Fault
 faults_of_array scope name at =
     broken_by rules.Unknown at name (is_unknown_target scope name) ++ broken rules.NotArray at (is_no_array_target scope name)
 
+-- an assignment's: those of its target, of its index where it has one, of its value, and its own
 abbrev pub faults_of_set : Setting → Scope → Span → List ℕ → Option Expression → Expression → List Fault
 faults_of_set x scope at name None e =
     faults_of_target scope name at.first
@@ -154,6 +161,7 @@ unfoldable mutual
   faults_by_all x b nil = []
   faults_by_all x b (cons s ss) = faults_by x b s ++ faults_by_all x (behind s b) ss
 
+  -- those of a statement that may be missing
   pub faults_by_maybe : Setting → Block → OptionalStatement → List Fault
   faults_by_maybe x b absent = []
   faults_by_maybe x b (present s) = faults_by x b s

@@ -27,6 +27,7 @@ typed_file scope at f (Function sig) = option_map (λ ty. tree.designator (mark 
 typed_file scope at f (Variable ty None) = Some (tree.variable (mark ty at) (variable_reference scope f))
 typed_file scope at f (Variable ty (Some size)) = None
 
+-- the value that a name is by its meaning: what is missing has none
 abbrev pub typed_name : Scope → Span → Meaning → Option TypedExpression
 typed_name scope at missing = None
 typed_name scope at (a_local l) = Some (tree.local (mark l.ty at) l.number)
@@ -38,16 +39,19 @@ pub record Array : Type 0 where
   pub ty : Ty
   pub size : ℕ
 
+-- the array that a name at file level is
 abbrev pub array_of_kind : Scope → File → Kind → Option Array
 array_of_kind scope f (Function sig) = None
 array_of_kind scope f (Variable ty None) = None
 array_of_kind scope f (Variable ty (Some size)) = Some (record { reference = variable_reference scope f; ty = ty; size = size })
 
+-- the array that a name is by its meaning; no local is an array
 abbrev pub array_of_meaning : Scope → Meaning → Option Array
 array_of_meaning scope missing = None
 array_of_meaning scope (a_local l) = None
 array_of_meaning scope (declared f) = array_of_kind scope f f.kind
 
+-- the array that a name designates in a scope
 abbrev pub array_named : Scope → List ℕ → Option Array
 array_named scope name = array_of_meaning scope (meaning scope name)
 
@@ -56,20 +60,24 @@ pub record Designated : Type 0 where
   pub reference : Ref
   pub sig : Sig
 
+-- the function that a name at file level is
 abbrev pub function_of_kind : Scope → File → Kind → Option Designated
 function_of_kind scope f (Function sig) = Some (record { reference = function_reference scope f; sig = sig })
 function_of_kind scope f (Variable ty size) = None
 
+-- the function that a name is by its meaning; no local is a function
 abbrev pub function_of_meaning : Scope → Meaning → Option Designated
 function_of_meaning scope missing = None
 function_of_meaning scope (a_local l) = None
 function_of_meaning scope (declared f) = function_of_kind scope f f.kind
 
+-- the function that a name designates in a scope
 abbrev pub function_named : Scope → List ℕ → Option Designated
 function_named scope name = function_of_meaning scope (meaning scope name)
 
 -- ---- phrases that are names
 
+-- the array that an expression names; only a name does
 abbrev pub array_of : Scope → Expression → Option Array
 array_of scope (word at name) = array_named scope name
 array_of scope (constant at value unsigned) = None
@@ -81,6 +89,7 @@ array_of scope (index at b i) = None
 array_of scope (input at) = None
 array_of scope (output at e) = None
 
+-- the function that an expression names; only a name does
 abbrev pub function_of : Scope → Expression → Option Designated
 function_of scope (word at name) = function_named scope name
 function_of scope (constant at value unsigned) = None
@@ -100,16 +109,19 @@ pub data Callee : Type 0 where
   through : TypedExpression → ℕ → Callee
   neither : Callee
 
+-- a value of a pointer type is called through
 abbrev pub pointer_of_type : TypedExpression → Ty → Callee
 pointer_of_type t (Fn k) = through t k
 pointer_of_type t Void = neither
 pointer_of_type t Long = neither
 pointer_of_type t Ulong = neither
 
+-- a callee by its value, where it has one
 abbrev pub pointer_callee : Option TypedExpression → Callee
 pointer_callee (Some t) = pointer_of_type t (type_of t)
 pointer_callee None = neither
 
+-- a function's name comes before its value: it is called directly
 abbrev pub callee_of : Option Designated → Option TypedExpression → Callee
 callee_of (Some f) value = direct f
 callee_of None value = pointer_callee value
@@ -120,6 +132,7 @@ parameters_of (direct f) = Some f.sig.params
 parameters_of (through t k) = Some (replicate k Long)
 parameters_of neither = None
 
+-- the typed call: a pointer gives a long
 abbrev pub called : Span → Callee → TypedExpressions → Option TypedExpression
 called at (direct f) es = Some (tree.call (mark f.sig.result at) f.reference es)
 called at (through t k) es = Some (tree.call_pointer (mark Long at) t es)
@@ -127,15 +140,19 @@ called at neither es = None
 
 -- ---- all forms
 
+-- a unary operator, where its operand has a type that it takes
 abbrev pub typed_unary : Span → Un → TypedExpression → Option TypedExpression
 typed_unary at op e = option_map (λ ty. tree.unary (mark ty at) op e) (unary_type op (type_of e))
 
+-- a binary operator, where its operands have types that it takes; it keeps whether it is unsigned
 abbrev pub typed_binary : Span → Bin → TypedExpression → TypedExpression → Option TypedExpression
 typed_binary at op l r = option_map (λ o. tree.binary (mark o.ty at) op o.unsigned l r) (binary_type op (type_of l) (type_of r))
 
+-- a choice, where its two values have a common type
 abbrev pub typed_choice : Span → TypedExpression → TypedExpression → TypedExpression → Option TypedExpression
 typed_choice at c a b = option_map (λ ty. tree.conditional (mark ty at) c a b) (choice_type (type_of a) (type_of b))
 
+-- an element of an array, at an index that is a number
 abbrev pub typed_element : Span → Array → TypedExpression → Option TypedExpression
 typed_element at a i = if is_number (type_of i) then Some (tree.element (mark a.ty at) a.reference a.size i) else None
 
@@ -145,13 +162,16 @@ with_both f (Some a) (Some b) = f a b
 with_both f (Some a) None = None
 with_both f None b = None
 
+-- three results, where all are there
 abbrev pub with_three : {A B C D : Type 0} → (A → B → C → Option D) → Option A → Option B → Option C → Option D
 with_three f (Some a) b c = with_both (f a) b c
 with_three f None b c = None
 
+-- a typed expression before others
 abbrev pub both_trees : TypedExpression → TypedExpressions → Option TypedExpressions
 both_trees e es = Some (tree.cons e es)
 
+-- a constant with the suffix `u` is unsigned
 abbrev pub constant_type : Bool → Ty
 constant_type unsigned = if unsigned then Ulong else Long
 

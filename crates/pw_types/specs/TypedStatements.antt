@@ -14,14 +14,17 @@ use Rattle.pw_types.specs.Blocks.{Setting, part, body, head, Block, inner, behin
 abbrev pub no_expression : TypedExpression
 no_expression = constant (record { ty = Void; line = 0 }) 0
 
+-- the typed tree of an expression that has a type
 abbrev pub typed_expression : Scope → Expression → TypedExpression
 typed_expression scope e = unwrap_or (typed scope e) no_expression
 
+-- an assignment to a name: to a local by its number, to a variable by its reference
 abbrev pub assigned : Scope → Meaning → TypedExpression → TypedStatement
 assigned scope missing e = command.evaluate e
 assigned scope (a_local l) e = command.set_local l.number (Some e)
 assigned scope (declared f) e = command.set_variable (variable_reference scope f) e
 
+-- an assignment to an element of an array; it keeps the line that a failure at run time reports
 abbrev pub element_assigned : Option Array → ℕ → TypedExpression → TypedExpression → TypedStatement
 element_assigned (Some a) line i e = command.set_element a.reference a.size line i e
 element_assigned None line i e = command.evaluate e
@@ -30,6 +33,7 @@ element_assigned None line i e = command.evaluate e
 abbrev pub bracket_line : Setting → Span → ℕ
 bracket_line x at = slice_index_or x.lines (suc at.first) 0
 
+-- an assignment to a name or to an element
 abbrev pub typed_set : Setting → Scope → Span → List ℕ → Option Expression → Expression → TypedStatement
 typed_set x scope at name None e = assigned scope (meaning scope name) (typed_expression scope e)
 typed_set x scope at name (Some i) e =
@@ -56,10 +60,12 @@ unfoldable mutual
   typed_statement x b (breaks at) = command.breaks
   typed_statement x b (continues at) = command.continues
 
+  -- those of statements in a row: each stands behind those before it
   pub typed_statements : Setting → Block → Statements → TypedStatements
   typed_statements x b nil = command.nil
   typed_statements x b (cons s ss) = command.cons (typed_statement x b s) (typed_statements x (behind s b) ss)
 
+  -- that of a statement that may be missing
   pub optional_typed_statement : Setting → Block → OptionalStatement → command.OptionalTypedStatement
   optional_typed_statement x b absent = command.absent
   optional_typed_statement x b (present s) = command.present (typed_statement x b s)

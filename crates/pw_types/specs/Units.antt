@@ -62,9 +62,11 @@ each_once (name ∷ names) = name ∷ without name (each_once names)
 abbrev pub functions_of : List Declaration → List (List ℕ)
 functions_of ds = each_once (flat_map function_in ds)
 
+-- the same of the variables that it defines
 abbrev pub variables_of : List Declaration → List (List ℕ)
 variables_of ds = each_once (flat_map variable_in ds)
 
+-- what all declarations of a unit have in common
 abbrev pub whole_of : UntypedUnit → Whole
 whole_of unit = record {
   functions = functions_of unit.declarations;
@@ -79,6 +81,7 @@ unfoldable pub files_behind : List File → List Declaration → List File
 files_behind files [] = files
 files_behind files (d ∷ ds) = files_behind (declared_by d files) ds
 
+-- those of declarations in order of text, behind these names and this many elements
 unfoldable pub faults_of_declarations : Whole → List File → ℕ → List Declaration → List Fault
 faults_of_declarations w files elements [] = []
 faults_of_declarations w files elements (d ∷ ds) =
@@ -89,6 +92,7 @@ abbrev pub is_function : Kind → Bool
 is_function (kinds.Function sig) = true
 is_function (kinds.Variable ty size) = false
 
+-- a function that is declared `static` and not defined
 abbrev pub lacks_definition : File → Bool
 lacks_definition f = is_function f.kind && not f.external && not f.defined
 
@@ -117,17 +121,21 @@ typed_function w files d result params body = record {
   body = typed_statements (setting w.lines result) (outermost (file_scope w files) params) body;
 }
 
+-- a pointer to the function, where the name designates one
 abbrev pub designated_or : Option Designated → Init
 designated_or (Some f) = init.Fun f.reference
 designated_or None = init.Num 0
 
+-- what an element begins with: a number, or a pointer to a function
 abbrev pub element_of : Scope → InitKind → Init
 element_of scope (Num n) = init.Num n
 element_of scope (Word name) = designated_or (function_named scope name)
 
+-- what the elements of a list begin with
 abbrev pub elements_in : Scope → List InitItem → List Init
 elements_in scope items = map (λ item. element_of scope item.kind) items
 
+-- a variable's definition
 abbrev pub typed_variable : Whole → List File → Declaration → Ty → Option ℕ → Option (List InitItem) → TVar
 typed_variable w files d ty size items = record {
   name = d.name;
@@ -137,11 +145,13 @@ typed_variable w files d ty size items = record {
   init = option_map (elements_in (file_scope w files)) items;
 }
 
+-- the function that a declaration defines, where it defines one
 abbrev pub typed_functions_of : Whole → List File → Declaration → DeclarationForm → List Function
 typed_functions_of w files d (definition result params body) = typed_function w files d result params body ∷ []
 typed_functions_of w files d (prototype result params) = []
 typed_functions_of w files d (variable ty size items) = []
 
+-- the variable that a declaration defines, where it defines one
 abbrev pub typed_variables_of : Whole → List File → Declaration → DeclarationForm → List TVar
 typed_variables_of w files d (variable ty size items) =
     if is_extern d.linkage then [] else typed_variable w files d ty size items ∷ []
@@ -154,6 +164,7 @@ typed_functions w files [] = []
 typed_functions w files (d ∷ ds) =
     typed_functions_of w (declared_by d files) d d.form ++ typed_functions w (declared_by d files) ds
 
+-- the variables that declarations define, in order of text
 unfoldable pub typed_variables : Whole → List File → List Declaration → List TVar
 typed_variables w files [] = []
 typed_variables w files (d ∷ ds) =
@@ -167,6 +178,7 @@ uses_of_declarations w files [] = []
 uses_of_declarations w files (d ∷ ds) =
     uses_of_form (file_scope w (declared_by d files)) d.form ++ uses_of_declarations w (declared_by d files) ds
 
+-- the type string of a name at file level
 abbrev pub text_of_kind : Kind → List ℕ
 text_of_kind (kinds.Function sig) = text_of_function sig
 text_of_kind (kinds.Variable ty size) = text_of_variable ty size
@@ -175,6 +187,7 @@ text_of_kind (kinds.Variable ty size) = text_of_variable ty size
 abbrev pub is_kept : List ℕ → ℕ → File → Bool
 is_kept used number f = f.external && (f.defined || list_any (λ n. nat_eq n number) used)
 
+-- the external names that are kept, from this number on, each with its type string
 unfoldable pub external_names : List ℕ → ℕ → List File → List Ext
 external_names used number [] = []
 external_names used number (f ∷ fs) =

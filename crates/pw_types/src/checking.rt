@@ -7,7 +7,7 @@ ghost use Rattle.pw_types.specs.Units.{faults_of};
 ghost use Rattle.pw_types.specs.Checks.{Checks};
 
 use crate::error::TypeError;
-use crate::fault::{Fault, Stop};
+use crate::fault::{Fault, Refusal};
 use crate::unit::judge_unit;
 use pw_base::Pos;
 use pw_tree::{TUnit, Unit};
@@ -45,7 +45,7 @@ pub fn check(alloc: Global, unit: &Unit) -> Result<TUnit, TypeError>
 {
     match judge_unit(alloc, unit) {
         Ok(typed) => Ok(typed),
-        Err(Stop::Fault(fault)) => Err(error_of(unit, fault)),
-        Err(Stop::NoMemory) => Err(TypeError::NoMemory),
+        Err(Refusal::Fault(fault)) => Err(error_of(unit, fault)),
+        Err(Refusal::NoMemory) => Err(TypeError::NoMemory),
     }
 }

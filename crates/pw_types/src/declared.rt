@@ -1,5 +1,6 @@
 //! What a declaration declares.
 ghost use Rattle.std.specs.Prelude.{◌≡◌, ◌≤◌, false, IfOk, option_copied};
+ghost use Rattle.pw_base.specs.Limits as limits;
 ghost use Rattle.pw_tree.specs.Declarations.{declaration_form_of, declaration_of};
 ghost use Rattle.pw_types.specs.Declarations as spec;
 
@@ -136,7 +137,7 @@ pub(crate) fn elements_of(d: &Decl) -> u64
 
 /// Whether an array has no elements or too many, or the unit has too many with those of this declaration.
 pub(crate) fn is_too_large(elements: u64, d: &Decl) -> bool
-    requires { elements ≤ 262144 }
+    requires { elements ≤ limits.module_elements }
     ensures { result ≡ spec.is_too_large elements (declaration_of d.now) }
 {
     let more = elements_of(d);

@@ -2,14 +2,14 @@
 ghost use Rattle.std.specs.Prelude.{◌≡◌, None, false, IfOk};
 ghost use Rattle.pw_tree.specs.Declarations.{variable, declaration_form_of, declaration_of};
 ghost use Rattle.pw_tree.specs.Units.{function_of as plain_function};
-ghost use Rattle.pw_types.specs.Faults.{Judges};
 ghost use Rattle.pw_types.specs.Declarations as spec;
-ghost use Rattle.pw_types.specs.CheckingDeclarations.{AreLocals, AreInitials, Defines, function_with, variable_with};
+ghost use Rattle.pw_types.specs.Steps.CheckingDeclarations.{AreLocals, AreInitials, Defines, function_with, variable_with};
+ghost use Rattle.pw_types.specs.Steps.Refusals.{Judges};
 
 use crate::declared::{is_extern, is_external, signature};
 use crate::declared_names::Names;
-use crate::fault::Stop;
-use crate::files::Files;
+use crate::fault::Refusal;
+use crate::file_scope::FileScope;
 use crate::initialiser::judge_elements;
 use crate::names::Local;
 use crate::scope::Scope;
@@ -93,7 +93,7 @@ fn judge_initialiser(
     ty: Ty,
     size: Option<u64>,
     init: &Option<Items<InitItem>>,
-) -> Result<Option<Items<Init>>, Stop>
+) -> Result<Option<Items<Init>>, Refusal>
     ensures { Judges (spec.faults_of_initialiser scope.now ty size init.now) (AreInitials scope.now init.now used.old.items used.new.items) result }
 {
     match init {
@@ -110,11 +110,11 @@ fn judge_initialiser(
 pub(crate) fn judge_form(
     alloc: Global,
     whole: &Whole<'_>,
-    files: &Files,
+    files: &FileScope,
     used: &mut Vec<usize>,
     d: &Decl,
     locals: Vec<Local>,
-) -> Result<Defined, Stop>
+) -> Result<Defined, Refusal>
     requires size { spec.has_bad_size (declaration_form_of d.now.kind) ≡ false }
     requires locals { AreLocals (declaration_form_of d.now.kind) locals.items }
     ensures { Judges (spec.faults_of_form whole.now.lines (spec.file_scope whole.now files.now) (declaration_form_of d.now.kind)) (Defines whole.now files.now (declaration_of d.now) used.old.items used.new.items) result }

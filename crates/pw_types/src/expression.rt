@@ -3,14 +3,14 @@ ghost use Rattle.std.specs.Prelude.{◌≡◌, [], ◌∷◌, ◌++◌, None, On
 ghost use Rattle.pw_tree.specs.Expressions.{expression_of};
 ghost use Rattle.pw_types.specs.declared.role.Role.TheVariants.{Base};
 ghost use Rattle.pw_types.specs.Typed.{array_of};
-ghost use Rattle.pw_types.specs.Judged.{JudgesExpression};
-ghost use Rattle.pw_types.specs.CheckingExpressions.{checked};
-ghost use Rattle.pw_types.specs.ResumingExpressions.{GivesWith};
+ghost use Rattle.pw_types.specs.Steps.Judged.{JudgesExpression};
+ghost use Rattle.pw_types.specs.Steps.CheckingExpressions.{checked};
+ghost use Rattle.pw_types.specs.Steps.ResumingExpressions.{GivesWith};
 
 use crate::expression_down::down;
-use crate::expression_step::{Frame, Step};
+use crate::expression_step::{ExpressionFrame, ExpressionStep};
 use crate::expression_up::up;
-use crate::fault::Stop;
+use crate::fault::Refusal;
 use crate::role::Role;
 use crate::scope::Scope;
 use crate::typed::Typed;
@@ -20,7 +20,10 @@ use sqlite_items::Items;
 use std::alloc::Global;
 
 /// Puts a frame on top.
-fn push<'a>(frames: &mut Items<Frame<'a>>, frame: Frame<'a>) -> Result<(), NoMemory>
+fn push<'a>(
+    frames: &mut Items<ExpressionFrame<'a>>,
+    frame: ExpressionFrame<'a>,
+) -> Result<(), NoMemory>
     ensures { OnOk result (frames.new ≡ frames.old ++ frame.entry ∷ []) }
 {
     frames.push(frame)?;
@@ -34,19 +37,19 @@ fn walk<'a>(
     used: &mut Vec<usize>,
     role: Role,
     e: &'a Expr,
-) -> Result<Typed, Stop>
+) -> Result<Typed, Refusal>
     ensures { GivesWith (checked scope.now role (expression_of e.now)) used.old.items used.new.items result }
 {
     let mut frames = Items::new(alloc);
-    let mut step = Step::Instead(role, e);
+    let mut step = ExpressionStep::Instead(role, e);
     'steps: loop {
         step = match step {
-            Step::Part(frame, role, e) => {
+            ExpressionStep::Part(frame, role, e) => {
                 push(&mut frames, frame)?;
                 down(alloc, scope, used, role, e)?
             }
-            Step::Instead(role, e) => down(alloc, scope, used, role, e)?,
-            Step::Done(typed) => match frames.pop() {
+            ExpressionStep::Instead(role, e) => down(alloc, scope, used, role, e)?,
+            ExpressionStep::Done(typed) => match frames.pop() {
                 None => return Ok(typed),
                 Some(frame) => up(alloc, frame, typed)?,
             },
@@ -62,7 +65,7 @@ pub fn judge(
     used: &mut Vec<usize>,
     role: Role,
     e: &Expr,
-) -> Result<Typed, Stop>
+) -> Result<Typed, Refusal>
     requires { role ≡ Base → array_of scope.now (expression_of e.now) ≡ None }
     ensures { JudgesExpression scope.now role (expression_of e.now) used.old.items used.new.items result }
 {

@@ -3,14 +3,15 @@ ghost use Rattle.std.specs.Prelude.{◌≡◌, ◌+◌, ◌<◌, ◌≤◌, Some
 ghost use Rattle.pw_tree.specs.Expressions.{expressions_of};
 ghost use Rattle.pw_types.specs.Scopes.{function_reference};
 ghost use Rattle.pw_types.specs.Expressions.{first_parameter, how_many};
-ghost use Rattle.pw_types.specs.CheckingExpressions as spec;
-ghost use Rattle.pw_types.specs.ResumingExpressions.{valued, aim_of, begun, direct_call_from, pointer_call_from, calling_of, taken_of, listed, Gives, Continues, ContinuesInEach, step_size, sizes};
+ghost use Rattle.pw_types.specs.Steps.CheckingExpressions as spec;
+ghost use Rattle.pw_types.specs.Steps.ResumingExpressions.{valued, aim_of, begun, direct_call_from, pointer_call_from, calling_of, taken_of, listed, Gives, Continues, ContinuesInEach, step_size, sizes};
 
 use crate::expression_form::{CAP, more};
-use crate::expression_kind as kinds;
 use crate::expression_node::{fault, finish, node, type_of};
-use crate::expression_step::{Arguments, Call, Frame, Head, Parameters, Step, Target};
-use crate::fault::Stop;
+use crate::expression_step::{
+    Arguments, Call, CallTarget, ExpressionFrame, ExpressionStep, Head, Parameters,
+};
+use crate::fault::Refusal;
 use crate::names::File;
 use crate::role::Role;
 use crate::rule::Rule;
@@ -43,7 +44,7 @@ fn others<'a>(params: Parameters<'a>) -> Parameters<'a>
     }
 }
 
-/// So many trees and so many values more, or 101 where these are more.
+/// So many trees and so many values more, or one more than the limit where these are more.
 fn behind(trees: &Items<TExpr>, values: u32) -> u32
     ensures { result ≡ spec.capped (length trees.now + values) }
 {
@@ -56,19 +57,26 @@ fn take(mut taken: Arguments, typed: Typed) -> Result<Arguments, NoMemory>
 {
     let one = behind(&taken.trees, typed.held.max(1));
     taken.held = taken.held.max(one);
-    taken.trees.push(typed.tree)?;
+    taken.trees.push(typed.tree.into_inner())?;
     Ok(taken)
 }
 
 /// A call of a function by its name.
 #[tactic(auto, using(crate::proofs::Trees::calls))]
-fn direct_call(head: Head, name: Ref, ty: Ty, taken: Arguments) -> Typed
-    ensures { valued result ≡ spec.called (spec.named name ty) head (taken_of taken) }
+fn direct_call(
+    alloc: Global,
+    head: Head,
+    name: Ref,
+    ty: Ty,
+    taken: Arguments,
+) -> Result<Typed, NoMemory>
+    ensures { IfOk result (λ call. valued call ≡ spec.called (spec.named name ty) head (taken_of taken)) }
 {
-    node(head, ty, TKind::Call(name, taken.trees), taken.held)
+    node(alloc, head, ty, TKind::Call(name, taken.trees), taken.held)
 }
 
 /// A call through a pointer.
+#[tactic(auto, using(crate::proofs::Trees::calls))]
 fn pointer_call(
     alloc: Global,
     head: Head,
@@ -78,12 +86,12 @@ fn pointer_call(
     ensures { IfOk result (λ call. valued call ≡ spec.called (spec.through (valued callee)) head (taken_of taken)) }
 {
     let held = taken.held.max(behind(&taken.trees, callee.held));
-    let kind = kinds::call_pointer(alloc, callee.tree, taken.trees)?;
-    Ok(node(head, Ty::Long, kind, held))
+    let kind = TKind::CallPtr(callee.tree, taken.trees);
+    node(alloc, head, Ty::Long, kind, held)
 }
 
 /// A call whose arguments are judged. Refusals: as in `finish`.
-fn finish_call(alloc: Global, call: Call, taken: Arguments) -> Result<Typed, Stop>
+fn finish_call(alloc: Global, call: Call, taken: Arguments) -> Result<Typed, Refusal>
     ensures { Gives (spec.call_value (calling_of call) (taken_of taken)) result }
 {
     let Call {
@@ -92,31 +100,37 @@ fn finish_call(alloc: Global, call: Call, taken: Arguments) -> Result<Typed, Sto
         other_count,
     } = call;
     match target {
-        Target::Direct(name, ty) => finish(head, other_count, direct_call(head, name, ty, taken)),
-        Target::Through(callee) => {
+        CallTarget::Direct(name, ty) => {
+            finish(
+                head,
+                other_count,
+                direct_call(alloc, head, name, ty, taken)?,
+            )
+        }
+        CallTarget::Through(callee) => {
             finish(head, other_count, pointer_call(alloc, head, callee, taken)?)
         }
     }
 }
 
 /// The next argument of a call, or the call where none is left.
-#[tactic(auto, unfolding(crate::specs::CheckingExpressions::checked_arguments, crate::specs::ResumingExpressions::sizes))]
+#[tactic(auto, unfolding(crate::specs::Steps::CheckingExpressions::checked_arguments, crate::specs::Steps::ResumingExpressions::sizes))]
 pub(crate) fn go_on<'a>(
     alloc: Global,
     call: Call,
     taken: Arguments,
     params: Parameters<'a>,
     rest: &'a [Expr],
-) -> Result<Step<'a>, Stop>
+) -> Result<ExpressionStep<'a>, Refusal>
     ensures continues { ContinuesInEach (λ scope. spec.checked_arguments scope (calling_of call) (taken_of taken) (listed params.entry) (expressions_of rest.now)) result }
     ensures smaller { IfOk result (λ step. step_size step ≤ sizes (expressions_of rest.now)) }
 {
     match rest {
-        [] => Ok(Step::Done(finish_call(alloc, call, taken)?)),
+        [] => Ok(ExpressionStep::Done(finish_call(alloc, call, taken)?)),
         [e, more @ ..] => {
             let role = Role::Argument(first(params));
-            let frame = Frame::Argument(call, taken, others(params), more);
-            Ok(Step::Part(frame, role, e))
+            let frame = ExpressionFrame::Argument(call, taken, others(params), more);
+            Ok(ExpressionStep::Part(frame, role, e))
         }
     }
 }
@@ -143,10 +157,10 @@ fn is_other_count(params: Parameters<'_>, es: &[Expr]) -> bool
 fn begin<'a>(
     alloc: Global,
     head: Head,
-    target: Target,
+    target: CallTarget,
     params: Parameters<'a>,
     es: &'a [Expr],
-) -> Result<Step<'a>, Stop>
+) -> Result<ExpressionStep<'a>, Refusal>
     ensures continues { ContinuesInEach (λ scope. begun scope head (aim_of target) (listed params.entry) (expressions_of es.now)) result }
     ensures smaller { IfOk result (λ step. step_size step ≤ sizes (expressions_of es.now)) }
 {
@@ -170,13 +184,19 @@ pub(crate) fn call_function<'a>(
     file: &File,
     sig: &'a Sig,
     es: &'a [Expr],
-) -> Result<Step<'a>, Stop>
+) -> Result<ExpressionStep<'a>, Refusal>
     ensures continues { Continues scope.now (direct_call_from scope.now head (record { reference = function_reference scope.now file.now; sig = sig.now }) (expressions_of es.now)) result }
     ensures smaller { IfOk result (λ step. step_size step ≤ sizes (expressions_of es.now)) }
 {
     let name = scope.function_reference(alloc, file)?;
     let params = Parameters::Listed(sig.params.as_slice());
-    begin(alloc, head, Target::Direct(name, sig.result), params, es)
+    begin(
+        alloc,
+        head,
+        CallTarget::Direct(name, sig.result),
+        params,
+        es,
+    )
 }
 
 /// A call through what was judged as the callee. Refusals: `NotCallable` of what is no pointer.
@@ -185,7 +205,7 @@ pub(crate) fn call_through<'a>(
     head: Head,
     callee: Typed,
     es: &'a [Expr],
-) -> Result<Step<'a>, Stop>
+) -> Result<ExpressionStep<'a>, Refusal>
     ensures continues { ContinuesInEach (λ scope. pointer_call_from scope head (expressions_of es.now) (valued callee)) result }
     ensures smaller { IfOk result (λ step. step_size step ≤ sizes (expressions_of es.now)) }
 {
@@ -193,7 +213,7 @@ pub(crate) fn call_through<'a>(
         Ty::Fn(k) => begin(
             alloc,
             head,
-            Target::Through(callee),
+            CallTarget::Through(callee),
             Parameters::Longs(k),
             es,
         ),
@@ -209,7 +229,7 @@ pub(crate) fn behind_argument<'a>(
     params: Parameters<'a>,
     rest: &'a [Expr],
     typed: Typed,
-) -> Result<Step<'a>, Stop>
+) -> Result<ExpressionStep<'a>, Refusal>
     ensures continues { ContinuesInEach (λ scope. spec.checked_arguments scope (calling_of call) (spec.taking (taken_of taken) (valued typed)) (listed params.entry) (expressions_of rest.now)) result }
     ensures smaller { IfOk result (λ step. step_size step ≤ sizes (expressions_of rest.now)) }
 {

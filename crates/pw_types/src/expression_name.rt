@@ -3,14 +3,14 @@ ghost use Rattle.std.specs.Prelude.{◌≡◌, [], ◌∷◌, ◌++◌, OnOk};
 ghost use Rattle.pw_types.specs.declared.rule.Rule.TheVariants.{Unknown};
 ghost use Rattle.pw_types.specs.Scopes.{meaning};
 ghost use Rattle.pw_tree.specs.Types as types;
-ghost use Rattle.pw_types.specs.Judging.{refuse};
-ghost use Rattle.pw_types.specs.CheckingExpressions as spec;
-ghost use Rattle.pw_types.specs.ResumingExpressions.{Gives, GivesWith};
+ghost use Rattle.pw_types.specs.Steps.Judging.{refuse};
+ghost use Rattle.pw_types.specs.Steps.CheckingExpressions as spec;
+ghost use Rattle.pw_types.specs.Steps.ResumingExpressions.{Gives, GivesWith};
 
 use crate::expression_form::leaf;
 use crate::expression_node::{fault, is_base};
 use crate::expression_step::Head;
-use crate::fault::Stop;
+use crate::fault::Refusal;
 use crate::meaning::Meaning;
 use crate::names::{File, Kind};
 use crate::refuse::broken_by;
@@ -34,7 +34,7 @@ pub(crate) fn note(used: &mut Vec<usize>, number: usize) -> Result<(), NoMemory>
 }
 
 /// The refusal of a name that has no visible declaration.
-fn unknown(alloc: Global, head: Head, name: &Name) -> Result<Typed, Stop>
+fn unknown(alloc: Global, head: Head, name: &Name) -> Result<Typed, Refusal>
     ensures { Gives (refuse (record { rule = Unknown; at = head.last; name = Some name.now })) result }
 {
     Err(broken_by(alloc, Rule::Unknown, u64::from(head.last), name))
@@ -72,12 +72,17 @@ fn function_value(
     head: Head,
     file: &File,
     sig: &Sig,
-) -> Result<Typed, Stop>
+) -> Result<Typed, Refusal>
     ensures { Gives (spec.function_value scope.now head file.now (types.pointer_to sig.now)) result }
 {
     match pointer_to(sig) {
         None => Err(fault(head, function_rule(head.role))),
-        Some(ty) => leaf(head, ty, TKind::Fun(scope.function_reference(alloc, file)?)),
+        Some(ty) => leaf(
+            alloc,
+            head,
+            ty,
+            TKind::Fun(scope.function_reference(alloc, file)?),
+        ),
     }
 }
 
@@ -90,17 +95,22 @@ fn variable_value(
     file: &File,
     ty: Ty,
     size: Option<u32>,
-) -> Result<Typed, Stop>
+) -> Result<Typed, Refusal>
     ensures { Gives (spec.variable_value scope.now head file.now ty size) result }
 {
     match size {
-        None => leaf(head, ty, TKind::Var(scope.variable_reference(alloc, file)?)),
+        None => leaf(
+            alloc,
+            head,
+            ty,
+            TKind::Var(scope.variable_reference(alloc, file)?),
+        ),
         Some(_) => Err(fault(head, array_rule(head.role))),
     }
 }
 
 /// A name at file level as a value.
-fn file_value(alloc: Global, scope: &Scope<'_>, head: Head, file: &File) -> Result<Typed, Stop>
+fn file_value(alloc: Global, scope: &Scope<'_>, head: Head, file: &File) -> Result<Typed, Refusal>
     ensures { Gives (spec.file_value scope.now head file.now file.now.kind) result }
 {
     match &file.kind {
@@ -111,10 +121,10 @@ fn file_value(alloc: Global, scope: &Scope<'_>, head: Head, file: &File) -> Resu
 
 /// A local's name as a value.
 #[tactic(auto, using(crate::proofs::Trees::names))]
-fn local_value(head: Head, ty: Ty, number: u32) -> Result<Typed, Stop>
+fn local_value(alloc: Global, head: Head, ty: Ty, number: u32) -> Result<Typed, Refusal>
     ensures { Gives (spec.local_value head ty number) result }
 {
-    leaf(head, ty, TKind::Local(number))
+    leaf(alloc, head, ty, TKind::Local(number))
 }
 
 /// A name as a value; one at file level is noted. Refusals: `Unknown`, `NotValue` and `NotArray` of a function, those of an
@@ -125,12 +135,12 @@ pub(crate) fn named_value(
     used: &mut Vec<usize>,
     head: Head,
     name: &Name,
-) -> Result<Typed, Stop>
+) -> Result<Typed, Refusal>
     ensures { GivesWith (spec.named_value scope.now head name.now (meaning scope.now name.now)) used.old.items used.new.items result }
 {
     match scope.meaning(name.bytes()) {
         Meaning::Missing => unknown(alloc, head, name),
-        Meaning::Local(local) => local_value(head, local.ty, local.number),
+        Meaning::Local(local) => local_value(alloc, head, local.ty, local.number),
         Meaning::File(number, file) => {
             note(used, number)?;
             file_value(alloc, scope, head, file)

@@ -1,45 +1,49 @@
 //! Nodes of typed expressions, and the rules that their places ask of them.
-ghost use Rattle.std.specs.Prelude.{◌≡◌};
+ghost use Rattle.std.specs.Prelude.{◌≡◌, IfOk};
 ghost use Rattle.pw_tree.specs.TypedExpressions.{typed_expression_form_of};
-ghost use Rattle.pw_types.specs.declared.fault.Stop.TheVariants as stops;
+ghost use Rattle.pw_types.specs.declared.fault.Refusal.TheVariants as refusals;
 ghost use Rattle.pw_types.specs.Expressions as rules;
-ghost use Rattle.pw_types.specs.Typed as trees;
-ghost use Rattle.pw_types.specs.CheckingExpressions as spec;
-ghost use Rattle.pw_types.specs.ResumingExpressions.{valued, Gives};
+ghost use Rattle.pw_tree.specs.TypedExpressions as trees;
+ghost use Rattle.pw_types.specs.Steps.CheckingExpressions as spec;
+ghost use Rattle.pw_types.specs.Steps.ResumingExpressions.{valued, Gives};
 
 use crate::expression_step::Head;
-use crate::fault::Stop;
+use crate::fault::Refusal;
 use crate::refuse::broken;
 use crate::role::Role;
 use crate::rule::Rule;
 use crate::typed::Typed;
 use crate::types::{converts, is_pointer, is_void};
+use pw_base::NoMemory;
 use pw_tree::{TExpr, TKind, Ty};
+use sqlite_items::Boxed;
+use std::alloc::Global;
 
 /// The type of a typed expression.
 pub(crate) fn type_of(typed: &Typed) -> Ty
     ensures { result ≡ trees.type_of (valued typed.now).tree }
 {
-    typed.tree.ty
+    typed.tree.get().ty
 }
 
 /// A node of a type.
-pub(crate) fn node(head: Head, ty: Ty, kind: TKind, held: u32) -> Typed
-    ensures { valued result ≡ record { tree = typed_expression_form_of kind (spec.mark_under head ty); held = held } }
+pub(crate) fn node(
+    alloc: Global,
+    head: Head,
+    ty: Ty,
+    kind: TKind,
+    held: u32,
+) -> Result<Typed, NoMemory>
+    ensures { IfOk result (λ typed. valued typed ≡ record { tree = typed_expression_form_of kind (spec.mark_under head ty); held = held }) }
 {
-    Typed {
-        tree: TExpr {
-            ty,
-            line: head.line,
-            kind,
-        },
-        held,
-    }
+    let line = head.line;
+    let tree = Boxed::new(alloc, TExpr { ty, line, kind })?;
+    Ok(Typed { tree, held })
 }
 
 /// A rule that is broken at the last token.
-pub(crate) fn fault(head: Head, rule: Rule) -> Stop
-    ensures { result ≡ stops.Fault (spec.fault_under head rule) }
+pub(crate) fn fault(head: Head, rule: Rule) -> Refusal
+    ensures { result ≡ refusals.Fault (spec.fault_under head rule) }
 {
     broken(rule, u64::from(head.last))
 }
@@ -127,7 +131,7 @@ fn first_rule(role: Role, other_count: bool, ty: Ty) -> Option<Rule>
 }
 
 /// A typed expression in its role. Refusals: as in `first_rule`.
-pub(crate) fn finish(head: Head, other_count: bool, typed: Typed) -> Result<Typed, Stop>
+pub(crate) fn finish(head: Head, other_count: bool, typed: Typed) -> Result<Typed, Refusal>
     ensures { Gives (spec.finished_by head other_count (valued typed)) result }
 {
     match first_rule(head.role, other_count, type_of(&typed)) {

@@ -23,7 +23,7 @@ pub(crate) struct Array {
 
 /// What is called: a function by its name, with its result's type, or a pointer.
 #[derive(Drop)]
-pub(crate) enum Target {
+pub(crate) enum CallTarget {
     Direct(Ref, Ty),
     Through(Typed),
 }
@@ -32,11 +32,11 @@ pub(crate) enum Target {
 #[derive(Drop)]
 pub(crate) struct Call {
     pub head: Head,
-    pub target: Target,
+    pub target: CallTarget,
     pub other_count: bool,
 }
 
-/// The arguments that were judged so far, and how many values they hold at a time, or 101 where these are more.
+/// The arguments that were judged so far, and how many values they hold at a time, or one more than the limit where these are more.
 #[derive(Drop)]
 pub(crate) struct Arguments {
     pub trees: Items<TExpr>,
@@ -52,7 +52,7 @@ pub(crate) enum Parameters<'a> {
 
 /// An expression that waits for a part: where it stands, what was judged before the part, and what comes behind it.
 #[derive(Drop)]
-pub(crate) enum Frame<'a> {
+pub(crate) enum ExpressionFrame<'a> {
     /// The operand of a unary operator.
     Operand(Head, Un),
     /// The left operand of a binary operator; the right one comes behind it.
@@ -77,9 +77,9 @@ pub(crate) enum Frame<'a> {
 
 /// What is to be done next.
 #[derive(Drop)]
-pub(crate) enum Step<'a> {
+pub(crate) enum ExpressionStep<'a> {
     /// To judge a part in its role, for which the frame waits.
-    Part(Frame<'a>, Role, &'a Expr),
+    Part(ExpressionFrame<'a>, Role, &'a Expr),
     /// To judge another expression in its role, in the stead of the one at hand.
     Instead(Role, &'a Expr),
     /// Nothing: the expression at hand is judged.

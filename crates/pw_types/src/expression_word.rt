@@ -3,7 +3,7 @@ ghost use Rattle.std.specs.Prelude.{◌≡◌, option_copied};
 ghost use Rattle.pw_tree.specs.Expressions.{expression_of};
 ghost use Rattle.pw_types.specs.Typed as typed;
 ghost use Rattle.pw_types.specs.Uses.{uses, uses_of_name};
-ghost use Rattle.pw_types.specs.Words.{word_in, IsFunction, IsArray};
+ghost use Rattle.pw_types.specs.Steps.Words.{word_in, IsFunction, IsArray};
 
 use crate::meaning::Meaning;
 use crate::names::{File, Kind};

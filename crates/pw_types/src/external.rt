@@ -1,6 +1,6 @@
 //! The external names that a unit defines or uses, with the texts of their types.
 ghost use Rattle.std.specs.Prelude.{◌≡◌, length, IfOk};
-ghost use Rattle.pw_types.specs.Texts.{HasText, HaveTexts, AreFlags};
+ghost use Rattle.pw_types.specs.Steps.Texts.{HasText, HaveTexts, AreFlags};
 ghost use Rattle.pw_types.specs.Units as spec;
 
 use crate::names::File;
@@ -36,7 +36,7 @@ fn external(alloc: Global, f: &File) -> Result<Ext, NoMemory>
 }
 
 /// The names that are external, and defined or used.
-#[tactic(auto, unfolding(crate::specs::Units::external_names, crate::specs::Texts::HaveTexts))]
+#[tactic(auto, unfolding(crate::specs::Units::external_names, crate::specs::Steps::Texts::HaveTexts))]
 pub(crate) fn external_names(
     alloc: Global,
     used: &[usize],

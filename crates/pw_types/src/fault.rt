@@ -17,31 +17,31 @@ pub struct Fault {
 
 /// Why a phrase has no typed tree.
 #[derive(Debug, Drop)]
-pub enum Stop {
+pub enum Refusal {
     /// Its first fault.
     Fault(Fault),
     /// Memory was refused.
     NoMemory,
 }
 
-impl From<NoMemory> for Stop {
+impl From<NoMemory> for Refusal {
     ghost use Rattle.std.specs.Prelude.{◌≡◌};
-    ghost use Rattle.pw_types.specs.declared.fault.Stop.TheVariants as stops;
+    ghost use Rattle.pw_types.specs.declared.fault.Refusal.TheVariants as refusals;
 
-    ghost from_gives = { λ _ e. e ≡ stops.NoMemory };
+    ghost from_gives = { λ _ e. e ≡ refusals.NoMemory };
 
-    fn from(_: NoMemory) -> Stop {
-        Stop::NoMemory
+    fn from(_: NoMemory) -> Refusal {
+        Refusal::NoMemory
     }
 }
 
-impl From<AllocError> for Stop {
+impl From<AllocError> for Refusal {
     ghost use Rattle.std.specs.Prelude.{◌≡◌};
-    ghost use Rattle.pw_types.specs.declared.fault.Stop.TheVariants as stops;
+    ghost use Rattle.pw_types.specs.declared.fault.Refusal.TheVariants as refusals;
 
-    ghost from_gives = { λ _ e. e ≡ stops.NoMemory };
+    ghost from_gives = { λ _ e. e ≡ refusals.NoMemory };
 
-    fn from(_: AllocError) -> Stop {
-        Stop::NoMemory
+    fn from(_: AllocError) -> Refusal {
+        Refusal::NoMemory
     }
 }

@@ -4,15 +4,16 @@ ghost use Rattle.std.specs.Option.{option_map_or};
 ghost use Rattle.pw_tree.specs.declared.decl.InitKind.TheVariants.{Word};
 ghost use Rattle.pw_tree.specs.declared.tunit.Init.TheVariants.{Num, Fun};
 ghost use Rattle.pw_types.specs.declared.rule.Rule.TheVariants as rules;
-ghost use Rattle.pw_types.specs.Faults.{Judges, broken};
+ghost use Rattle.pw_types.specs.Faults.{broken};
 ghost use Rattle.pw_tree.specs.Types as types;
 ghost use Rattle.pw_types.specs.Scopes.{function_reference};
 ghost use Rattle.pw_types.specs.Typed.{function_of_kind};
 ghost use Rattle.pw_types.specs.Declarations as spec;
 ghost use Rattle.pw_types.specs.Units.{designated_or};
-ghost use Rattle.pw_types.specs.CheckingDeclarations.{faults_of_value, IsElement, AreElements};
+ghost use Rattle.pw_types.specs.Steps.CheckingDeclarations.{faults_of_value, IsElement, AreElements};
+ghost use Rattle.pw_types.specs.Steps.Refusals.{Judges};
 
-use crate::fault::Stop;
+use crate::fault::Refusal;
 use crate::meaning::Meaning;
 use crate::names::{File, Kind};
 use crate::refuse::{broken, broken_by, refuse_if};
@@ -36,7 +37,7 @@ fn points_to(ty: Ty, sig: &Sig) -> bool
 }
 
 /// The value of an element that is a number, or its fault.
-fn judge_number(ty: Ty, is_extra: bool, at: u32, value: u64) -> Result<Init, Stop>
+fn judge_number(ty: Ty, is_extra: bool, at: u32, value: u64) -> Result<Init, Refusal>
     ensures { Judges (broken rules.Initialiser at (types.is_pointer ty || is_extra)) (λ init. init ≡ Num value) result }
 {
     refuse_if(is_pointer(ty) || is_extra, Rule::Initialiser, at)?;
@@ -52,7 +53,7 @@ fn judge_function(
     at: u32,
     file: &File,
     sig: &Sig,
-) -> Result<Init, Stop>
+) -> Result<Init, Refusal>
     ensures { Judges (broken rules.Initialiser at (not (option_map_or (λ p. types.same_type p ty) (types.pointer_to sig.now) false) || is_extra)) (λ init. init ≡ Fun (function_reference scope.now file.now)) result }
 {
     refuse_if(!points_to(ty, sig) || is_extra, Rule::Initialiser, at)?;
@@ -67,7 +68,7 @@ fn judge_file(
     is_extra: bool,
     at: u32,
     file: &File,
-) -> Result<Init, Stop>
+) -> Result<Init, Refusal>
     ensures { Judges (broken rules.Initialiser at (not (spec.points_to ty (function_of_kind scope.now file.now file.now.kind)) || is_extra)) (λ init. init ≡ designated_or (function_of_kind scope.now file.now file.now.kind)) result }
 {
     match &file.kind {
@@ -85,7 +86,7 @@ fn judge_word(
     is_extra: bool,
     at: u32,
     name: &Name,
-) -> Result<Init, Stop>
+) -> Result<Init, Refusal>
     ensures { Judges (faults_of_value scope.now ty is_extra at (Word name.now)) (IsElement scope.now (Word name.now) used.old.items used.new.items) result }
 {
     match scope.meaning(name.bytes()) {
@@ -95,7 +96,7 @@ fn judge_word(
             let value = judge_file(alloc, scope, ty, is_extra, at, file)?;
             match used.push(number) {
                 Ok(()) => Ok(value),
-                Err(_) => Err(Stop::NoMemory),
+                Err(_) => Err(Refusal::NoMemory),
             }
         }
     }
@@ -109,7 +110,7 @@ fn judge_element(
     ty: Ty,
     is_extra: bool,
     item: &InitItem,
-) -> Result<Init, Stop>
+) -> Result<Init, Refusal>
     ensures { Judges (faults_of_value scope.now ty is_extra item.now.last item.now.kind) (IsElement scope.now item.now.kind used.old.items used.new.items) result }
 {
     match &item.kind {
@@ -127,7 +128,7 @@ pub(crate) fn judge_elements(
     ty: Ty,
     room: u64,
     items: &[InitItem],
-) -> Result<Items<Init>, Stop>
+) -> Result<Items<Init>, Refusal>
     ensures { Judges (spec.faults_of_elements scope.now ty room 0 items.now) (AreElements scope.now items.now used.old.items used.new.items) result }
 {
     let mut values = Items::new(alloc);

@@ -2,6 +2,7 @@
 #![tactic(auto)]
 
 mod checking;
+mod declarator;
 mod declared;
 mod declared_names;
 mod defined;
@@ -10,7 +11,6 @@ mod expression;
 mod expression_call;
 mod expression_down;
 mod expression_form;
-mod expression_kind;
 mod expression_name;
 mod expression_node;
 mod expression_step;
@@ -18,8 +18,7 @@ mod expression_up;
 mod expression_word;
 mod external;
 mod fault;
-mod files;
-mod head;
+mod file_scope;
 mod initialiser;
 mod laws;
 mod meaning;

@@ -1,11 +1,12 @@
 //! The parameters of a function: their faults, and the locals that they are.
 ghost use Rattle.std.specs.Prelude.{◌≡◌, ◌<◌, ⊤, true, false, [], length, is_some, IfOk};
+ghost use Rattle.pw_base.specs.Limits as limits;
 ghost use Rattle.pw_tree.specs.Placed.{HaveNames};
-ghost use Rattle.pw_types.specs.Faults.{Judges};
 ghost use Rattle.pw_types.specs.Declarations as spec;
-ghost use Rattle.pw_types.specs.CheckingDeclarations.{faults_of_parameter};
+ghost use Rattle.pw_types.specs.Steps.CheckingDeclarations.{faults_of_parameter};
+ghost use Rattle.pw_types.specs.Steps.Refusals.{Judges};
 
-use crate::fault::Stop;
+use crate::fault::Refusal;
 use crate::names::Local;
 use crate::refuse::{refuse_if, refuse_name_if};
 use crate::reserved::is_reserved;
@@ -16,7 +17,7 @@ use pw_tree::Param;
 use std::alloc::Global;
 
 /// The faults of a parameter's name in a definition, behind those before it.
-fn judge_defined_name(alloc: Global, before: &[Local], at: u32, name: &Name) -> Result<(), Stop>
+fn judge_defined_name(alloc: Global, before: &[Local], at: u32, name: &Name) -> Result<(), Refusal>
     ensures { Judges (spec.faults_of_parameter_name true (length before.now) before.now at (Some name.now)) (λ _. ⊤) result }
 {
     let is_taken = has_local(before, name.bytes());
@@ -26,7 +27,7 @@ fn judge_defined_name(alloc: Global, before: &[Local], at: u32, name: &Name) -> 
 }
 
 /// The fault of a parameter's name in a prototype.
-fn judge_declared_name(alloc: Global, at: u32, name: &Option<Name>) -> Result<(), Stop>
+fn judge_declared_name(alloc: Global, at: u32, name: &Option<Name>) -> Result<(), Refusal>
     ensures { Judges (spec.faults_of_parameter_name false 0 [] at name.now) (λ _. ⊤) result }
 {
     match name {
@@ -36,8 +37,8 @@ fn judge_declared_name(alloc: Global, at: u32, name: &Option<Name>) -> Result<()
 }
 
 /// The first fault of a prototype's parameters.
-#[tactic(auto, using(crate::proofs::Parameters::by_number), unfolding(crate::specs::CheckingDeclarations::faults_by_number))]
-pub(crate) fn judge_declared(alloc: Global, params: &[Param]) -> Result<(), Stop>
+#[tactic(auto, using(crate::proofs::Parameters::by_number), unfolding(crate::specs::Steps::CheckingDeclarations::faults_by_number))]
+pub(crate) fn judge_declared(alloc: Global, params: &[Param]) -> Result<(), Refusal>
     ensures { Judges (spec.faults_of_parameters false [] params.now) (λ _. ⊤) result }
 {
     let mut number = 0;
@@ -71,9 +72,9 @@ fn local(alloc: Global, number: u32, p: &Param) -> Result<Local, NoMemory>
 }
 
 /// The faults of a parameter of a definition, behind those before it, and the local that it is.
-fn judge_parameter(alloc: Global, before: &[Local], p: &Param) -> Result<Local, Stop>
+fn judge_parameter(alloc: Global, before: &[Local], p: &Param) -> Result<Local, Refusal>
     requires { is_some p.now.name ≡ true }
-    ensures { Judges (faults_of_parameter before.now p.now) (λ local. (local ≡ spec.local_of (length before.now) p.now) × (length before.now < 6)) result }
+    ensures { Judges (faults_of_parameter before.now p.now) (λ local. (local ≡ spec.local_of (length before.now) p.now) × (length before.now < limits.parameters)) result }
 {
     match &p.name {
         Some(name) => judge_defined_name(alloc, before, p.last, name)?,
@@ -89,7 +90,7 @@ fn judge_parameter(alloc: Global, before: &[Local], p: &Param) -> Result<Local, 
 
 /// The locals that the parameters of a definition are, or their first fault.
 #[tactic(auto, unfolding(crate::specs::Declarations::faults_of_parameters, crate::specs::Declarations::locals_of, pw_tree::specs::Placed::HaveNames))]
-pub(crate) fn judge_defined(alloc: Global, params: &[Param]) -> Result<Vec<Local>, Stop>
+pub(crate) fn judge_defined(alloc: Global, params: &[Param]) -> Result<Vec<Local>, Refusal>
     requires { HaveNames params.now }
     ensures { Judges (spec.faults_of_parameters true [] params.now) (λ locals. locals.items ≡ spec.locals_of [] params.now) result }
 {
@@ -98,7 +99,7 @@ pub(crate) fn judge_defined(alloc: Global, params: &[Param]) -> Result<Vec<Local
     while let [p, more @ ..] = rest {
         let local = judge_parameter(alloc, &locals, p)?;
         if locals.push(local).is_err() {
-            return Err(Stop::NoMemory);
+            return Err(Refusal::NoMemory);
         }
         rest = more;
     }

@@ -1,16 +1,17 @@
 //! The declarations of a unit, one after another.
 ghost use Rattle.std.specs.Prelude.{◌≡◌, ◌≤◌, OnOk};
+ghost use Rattle.pw_base.specs.Limits as limits;
 ghost use Rattle.pw_tree.specs.Declarations.{declaration_form_of, declaration_of};
 ghost use Rattle.pw_tree.specs.Placed.{HasTypes};
-ghost use Rattle.pw_types.specs.Faults.{Judges};
 ghost use Rattle.pw_types.specs.Declarations.{faults_of_declaration};
-ghost use Rattle.pw_types.specs.CheckingUnits.{faults_of_parts, IsFresh, IsJudged, IsBehind};
+ghost use Rattle.pw_types.specs.Steps.CheckingUnits.{faults_of_parts, IsFresh, IsJudged, IsBehind};
+ghost use Rattle.pw_types.specs.Steps.Refusals.{Judges};
 
+use crate::declarator::judge_head;
 use crate::declared::{elements_of, file_of};
 use crate::defined::{Defined, Whole, judge_form};
-use crate::fault::Stop;
-use crate::files::Files;
-use crate::head::judge_head;
+use crate::fault::Refusal;
+use crate::file_scope::FileScope;
 use pw_tree::{Decl, TFun, TVar};
 use sqlite_items::Items;
 use std::alloc::Global;
@@ -19,7 +20,7 @@ use std::alloc::Global;
 /// names that they use, and what they define.
 #[derive(Drop)]
 pub(crate) struct Progress {
-    pub files: Files,
+    pub files: FileScope,
     pub elements: u64,
     pub used: Vec<usize>,
     pub functions: Items<TFun>,
@@ -32,7 +33,7 @@ impl Progress {
         ensures { IsFresh result }
     {
         Progress {
-            files: Files::new(alloc),
+            files: FileScope::new(alloc),
             elements: 0,
             used: Vec::new(alloc),
             functions: Items::new(alloc),
@@ -41,9 +42,9 @@ impl Progress {
     }
 
     /// What the next declaration defines, or its first fault.
-    fn judge(&mut self, alloc: Global, whole: &Whole<'_>, d: &Decl) -> Result<Defined, Stop>
+    fn judge(&mut self, alloc: Global, whole: &Whole<'_>, d: &Decl) -> Result<Defined, Refusal>
         requires types { HasTypes (declaration_form_of d.now.kind) }
-        requires room { self.old.elements ≤ 262144 }
+        requires room { self.old.elements ≤ limits.module_elements }
         ensures { Judges (faults_of_parts whole.now self.old.files self.old.elements (declaration_of d.now)) (IsJudged whole.now self.old self.new (declaration_of d.now)) result }
     {
         let locals = judge_head(alloc, &self.files, self.elements, d)?;
@@ -54,9 +55,9 @@ impl Progress {
 
     /// The next declaration.
     #[tactic(auto, unfolding(crate::specs::Declarations::faults_of_declaration))]
-    pub fn declare(&mut self, alloc: Global, whole: &Whole<'_>, d: &Decl) -> Result<(), Stop>
+    pub fn declare(&mut self, alloc: Global, whole: &Whole<'_>, d: &Decl) -> Result<(), Refusal>
         requires types { HasTypes (declaration_form_of d.now.kind) }
-        requires room { self.old.elements ≤ 262144 }
+        requires room { self.old.elements ≤ limits.module_elements }
         ensures { Judges (faults_of_declaration whole.now self.old.files self.old.elements (declaration_of d.now)) (λ _. IsBehind whole.now self.old (declaration_of d.now) self.new) result }
     {
         match self.judge(alloc, whole, d)? {

@@ -1,19 +1,18 @@
 //! Faults, where rules are broken.
 ghost use Rattle.std.specs.Prelude.{◌≡◌, ⊤, true};
 ghost use Rattle.pw_types.specs.Faults as faults;
-ghost use Rattle.pw_types.specs.Faults.{Judges};
-ghost use Rattle.pw_types.specs.CheckingStatements.{Fails};
+ghost use Rattle.pw_types.specs.Steps.Refusals.{Judges, Fails};
 
-use crate::fault::{Fault, Stop};
+use crate::fault::{Fault, Refusal};
 use crate::rule::Rule;
 use pw_base::Name;
 use std::alloc::Global;
 
 /// The fault at a token, which is about no name.
-pub(crate) fn broken(rule: Rule, at: u64) -> Stop
-    ensures { result ≡ Stop.Fault (record { rule = rule; at = at; name = None }) }
+pub(crate) fn broken(rule: Rule, at: u64) -> Refusal
+    ensures { result ≡ Refusal.Fault (record { rule = rule; at = at; name = None }) }
 {
-    Stop::Fault(Fault {
+    Refusal::Fault(Fault {
         rule,
         at,
         name: None,
@@ -21,21 +20,21 @@ pub(crate) fn broken(rule: Rule, at: u64) -> Stop
 }
 
 /// The fault at a token, which is about a name.
-pub(crate) fn broken_by(alloc: Global, rule: Rule, at: u64, name: &Name) -> Stop
+pub(crate) fn broken_by(alloc: Global, rule: Rule, at: u64, name: &Name) -> Refusal
     ensures { Fails (faults.broken_by rule at name.now true) result }
 {
     match name.copy(alloc) {
-        Ok(name) => Stop::Fault(Fault {
+        Ok(name) => Refusal::Fault(Fault {
             rule,
             at,
             name: Some(name),
         }),
-        Err(_) => Stop::NoMemory,
+        Err(_) => Refusal::NoMemory,
     }
 }
 
 /// The fault at a token, where the rule is broken.
-pub(crate) fn refuse_if(is_broken: bool, rule: Rule, at: u32) -> Result<(), Stop>
+pub(crate) fn refuse_if(is_broken: bool, rule: Rule, at: u32) -> Result<(), Refusal>
     ensures { Judges (faults.broken rule at is_broken) (λ _. ⊤) result }
 {
     if is_broken {
@@ -52,7 +51,7 @@ pub(crate) fn refuse_name_if(
     rule: Rule,
     at: u32,
     name: &Name,
-) -> Result<(), Stop>
+) -> Result<(), Refusal>
     ensures { Judges (faults.broken_by rule at name.now is_broken) (λ _. ⊤) result }
 {
     if is_broken {

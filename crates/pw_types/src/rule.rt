@@ -39,7 +39,7 @@ pub enum Rule {
     ArraySize,
     /// The 121st parameter or local of a function.
     TooManyLocals,
-    /// An expression or an assignment holds more than 100 values.
+    /// An expression or an assignment holds too many values.
     TooDeep,
     /// A name that is declared is kept for the entry, the tools or C.
     Reserved,

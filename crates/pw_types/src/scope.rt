@@ -2,10 +2,10 @@
 ghost use Rattle.std.specs.Prelude.{◌≡◌, IfOk, is_some, option_copied, find, reverse};
 ghost use Rattle.std.specs.Str.{bytes_eq};
 ghost use Rattle.pw_types.specs.Scopes.{local_named, function_reference, variable_reference};
-ghost use Rattle.pw_types.specs.Lookups.{Means};
+ghost use Rattle.pw_types.specs.Steps.Lookups.{Means};
 
 use crate::declared_names::Names;
-use crate::files::Files;
+use crate::file_scope::FileScope;
 use crate::meaning::Meaning;
 use crate::names::{File, Local};
 use pw_base::NoMemory;
@@ -17,7 +17,7 @@ use std::marker::Model;
 /// defines, and the locals, the newest last.
 #[derive(Drop)]
 pub struct Scope<'a> {
-    pub files: &'a Files,
+    pub files: &'a FileScope,
     pub functions: &'a Names,
     pub variables: &'a Names,
     pub locals: Vec<Local>,

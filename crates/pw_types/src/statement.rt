@@ -1,33 +1,37 @@
 //! The statements of a function's body, by a loop over the statements that wait for a part: trees nest too deep to recurse.
 ghost use Rattle.pw_tree.specs.Statements.{statement_of, statements_of};
-ghost use Rattle.pw_types.specs.CheckingStatements.{Finishes, FinishesAll, outcome_at};
+ghost use Rattle.pw_types.specs.Steps.CheckingStatements.{Finishes, FinishesAll, outcome_at};
 ghost use Rattle.pw_types.specs.Declarations.{setting};
-ghost use Rattle.pw_types.specs.Judged.{JudgesBody};
+ghost use Rattle.pw_types.specs.Steps.Judged.{JudgesBody};
 
-use crate::fault::Stop;
+use crate::fault::Refusal;
 use crate::scope::Scope;
-use crate::statement_step::{Setting, Step, push};
+use crate::statement_step::{Setting, StatementStep, push};
 use crate::statement_walk::Walk;
 use crate::typed::Body;
 use pw_tree::{Stmt, TStmt, Ty};
-use sqlite_items::Items;
+use sqlite_items::{Boxed, Items};
 use std::alloc::Global;
 use std::mem;
 
 impl<'a> Walk<'a> {
     /// A statement and all that stands in it.
-    fn statement<'s>(&mut self, setting: &Setting<'s>, stmt: &'s Stmt) -> Result<TStmt, Stop>
+    fn statement<'s>(
+        &mut self,
+        setting: &Setting<'s>,
+        stmt: &'s Stmt,
+    ) -> Result<Boxed<TStmt>, Refusal>
         ensures { Finishes (outcome_at setting.now self.old (statement_of stmt.now)) self.new result }
     {
         let mut frames = Items::new(self.alloc);
         let mut step = self.enter(setting, stmt)?;
         'parts: loop {
             match step {
-                Step::Part(frame, setting, part) => {
+                StatementStep::Part(frame, setting, part) => {
                     push(&mut frames, frame)?;
                     step = self.enter(&setting, part)?;
                 }
-                Step::Done(command) => match frames.pop() {
+                StatementStep::Done(command) => match frames.pop() {
                     Some(frame) => step = self.resume(frame, command)?,
                     None => return Ok(command),
                 },
@@ -40,14 +44,14 @@ impl<'a> Walk<'a> {
         &mut self,
         setting: &Setting<'s>,
         body: &'s [Stmt],
-    ) -> Result<Items<TStmt>, Stop>
+    ) -> Result<Items<TStmt>, Refusal>
         ensures { FinishesAll setting.now (statements_of body.now) self.old self.new result }
     {
         let mut done = Items::new(self.alloc);
         let mut rest = body;
         'row: while let [stmt, more @ ..] = rest {
             let command = self.statement(setting, stmt)?;
-            push(&mut done, command)?;
+            push(&mut done, command.into_inner())?;
             rest = more;
         }
         Ok(done)
@@ -65,7 +69,7 @@ pub fn judge_body(
     ty: Ty,
     count: u32,
     body: &[Stmt],
-) -> Result<Body, Stop>
+) -> Result<Body, Refusal>
     ensures { JudgesBody (setting lines.now ty) (record { scope = scope.old; start = 0; count = count }) (statements_of body.now) used.old.items used.new.items result }
 {
     let mut walk = Walk {

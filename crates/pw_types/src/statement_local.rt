@@ -1,21 +1,23 @@
 //! Declarations of locals.
 ghost use Rattle.std.specs.Prelude.{◌≡◌, ◌<◌, ⊤, drop, true, option_map, IfOk};
+ghost use Rattle.pw_base.specs.Limits as limits;
 ghost use Rattle.pw_tree.specs.Expressions.{expression_of};
 ghost use Rattle.pw_tree.specs.Placed as placed;
 ghost use Rattle.pw_tree.specs.Statements as statement;
-ghost use Rattle.pw_types.specs.Faults.{Judges};
 ghost use Rattle.pw_types.specs.Statements.{faults_of_name};
-ghost use Rattle.pw_types.specs.CheckingStatements.{Finishes, block_of, outcome_at, place_of};
-ghost use Rattle.pw_types.specs.StatementValues.{Declares};
+ghost use Rattle.pw_types.specs.Steps.CheckingStatements.{Finishes, block_of, outcome_at, place_of};
+ghost use Rattle.pw_types.specs.Steps.StatementValues.{Declares};
+ghost use Rattle.pw_types.specs.Steps.Refusals.{Judges};
 
-use crate::fault::Stop;
+use crate::fault::Refusal;
 use crate::names::Local;
 use crate::refuse::{broken, broken_by};
 use crate::reserved::is_reserved;
 use crate::role::Role;
 use crate::rule::Rule;
 use crate::scope::has_local;
-use crate::statement_step::{Setting, Span};
+use crate::statement_step::{Setting, StatementSpan};
+use crate::statement_value::unboxed;
 use crate::statement_walk::Walk;
 use pw_base::{Limits, Name, NoMemory};
 use pw_tree::{Expr, TStmt, Ty};
@@ -32,7 +34,7 @@ fn own_locals(locals: &[Local], start: usize) -> &[Local]
 }
 
 /// The token of a local's name: its type has one token, or two.
-fn local_name_at(at: Span, ty: Ty) -> u64
+fn local_name_at(at: StatementSpan, ty: Ty) -> u64
     ensures { result ≡ placed.local_name_at (place_of at) ty }
 {
     match ty {
@@ -43,7 +45,7 @@ fn local_name_at(at: Span, ty: Ty) -> u64
 
 impl<'a> Walk<'a> {
     /// Whether a local of the name may be declared. Refusals: `Redeclared`, then `TooManyLocals`, then `Reserved`.
-    fn declarable(&self, name: &Name, at: u64) -> Result<(), Stop>
+    fn declarable(&self, name: &Name, at: u64) -> Result<(), Refusal>
         ensures { Judges (faults_of_name (block_of self.now) name.now at) (λ _. ⊤) result }
     {
         if has_local(own_locals(&self.scope.locals, self.start), name.bytes()) {
@@ -60,7 +62,7 @@ impl<'a> Walk<'a> {
 
     /// Declares a local, and gives its number.
     fn declare(&mut self, name: &Name, ty: Ty) -> Result<u32, NoMemory>
-        requires { self.old.count < 120 }
+        requires { self.old.count < limits.locals }
         ensures { IfOk result (Declares name.now ty self.old self.new) }
     {
         let number = self.count;
@@ -79,16 +81,16 @@ impl<'a> Walk<'a> {
     pub fn local(
         &mut self,
         setting: &Setting<'_>,
-        at: Span,
+        at: StatementSpan,
         ty: Ty,
         name: &Name,
         value: &Option<Expr>,
-    ) -> Result<TStmt, Stop>
+    ) -> Result<TStmt, Refusal>
         ensures { Finishes (outcome_at setting.now self.old (statement.local (place_of at) ty name.now (option_map expression_of value.now))) self.new result }
     {
         self.declarable(name, local_name_at(at, ty))?;
         let value = self.maybe_value(Role::Assigned(Some(ty)), value)?;
         let number = self.declare(name, ty)?;
-        Ok(TStmt::SetLocal(number, value))
+        Ok(TStmt::SetLocal(number, unboxed(value)))
     }
 }

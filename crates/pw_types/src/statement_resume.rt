@@ -4,48 +4,40 @@ ghost use Rattle.pw_tree.specs.Expressions.{expression_of};
 ghost use Rattle.pw_tree.specs.TypedExpressions.{typed_expression_of};
 ghost use Rattle.pw_tree.specs.TypedStatements.{typed_statement_of, present};
 ghost use Rattle.pw_tree.specs.Statements.{statement_of, statements_of, optional_statement};
-ghost use Rattle.pw_types.specs.CheckingStatements.{Finishes, Steps, behind_first_at, block_at, judged_at, leave, rest_of_do, rest_of_for, rest_of_if, resumed, resumed_at, setting_of, typed_maybe};
-ghost use Rattle.pw_types.specs.StatementWeights.{weight, weight_of_all, weight_of_maybe, weight_of_form, weight_of_step};
+ghost use Rattle.pw_types.specs.Steps.CheckingStatements.{Finishes, Leads, Steps, behind_first_at, block_at, judged_at, leave, rest_of_do, rest_of_for, rest_of_if, resumed, resumed_at, setting_of, typed_maybe};
+ghost use Rattle.pw_types.specs.Steps.StatementWeights.{weight, weight_of_all, weight_of_maybe, weight_of_form, weight_of_step};
 
-use crate::fault::Stop;
+use crate::fault::Refusal;
 use crate::role::Role;
 use crate::statement_enter::done;
-use crate::statement_step::{Form, Frame, Outer, Step, push};
+use crate::statement_step::{Outer, StatementForm, StatementFrame, StatementStep, push};
+use crate::statement_value::unboxed;
 use crate::statement_walk::Walk;
-use pw_base::NoMemory;
 use pw_tree::{Expr, Stmt, TExpr, TStmt};
 use sqlite_items::{Boxed, Items};
-use std::alloc::Global;
-
-/// A typed statement in a box.
-fn boxed(alloc: Global, command: TStmt) -> Result<Boxed<TStmt>, NoMemory>
-    ensures { IfOk result (λ b. b ≡ command) }
-{
-    Ok(Boxed::new(alloc, command)?)
-}
 
 impl<'a> Walk<'a> {
     /// A block, behind one of its statements.
     fn resume_block<'s>(
         &mut self,
         outer: &Outer<'s>,
-        mut done: Items<TStmt>,
+        mut before: Items<TStmt>,
         rest: &'s [Stmt],
-        command: TStmt,
-    ) -> Result<Step<'s>, Stop>
-        ensures judged { Steps (block_at done rest.now outer.now (judged_at (typed_statement_of command) self.old)) self.new result }
+        command: Boxed<TStmt>,
+    ) -> Result<StatementStep<'s>, Refusal>
+        ensures judged { Steps (block_at before rest.now outer.now (judged_at (typed_statement_of command) self.old)) self.new result }
         ensures less { IfOk result (λ step. weight_of_step step < 1 + weight_of_all (statements_of rest.now)) }
     {
-        push(&mut done, command)?;
+        push(&mut before, command.into_inner())?;
         match rest {
             [] => {
                 self.leave(outer);
-                Ok(Step::Done(TStmt::Block(done)))
+                done(self.alloc, Ok(TStmt::Block(before)))
             }
             [first, rest @ ..] => {
                 let outer = *outer;
-                let form = Form::Block(done, rest);
-                Ok(Step::Part(Frame { outer, form }, outer.setting.part(), first))
+                let form = StatementForm::Block(before, rest);
+                Ok(StatementStep::Part(StatementFrame { outer, form }, outer.setting.part(), first))
             }
         }
     }
@@ -54,23 +46,26 @@ impl<'a> Walk<'a> {
     fn resume_then<'s>(
         &mut self,
         outer: &Outer<'s>,
-        c: TExpr,
+        c: Boxed<TExpr>,
         b: &'s Option<Boxed<Stmt>>,
-        command: TStmt,
-    ) -> Result<Step<'s>, Stop>
+        command: Boxed<TStmt>,
+    ) -> Result<StatementStep<'s>, Refusal>
         ensures judged { Steps (rest_of_if (setting_of outer.now.setting) (leave outer.now.start outer.now.visible) (typed_expression_of c) (optional_statement (option_map statement_of b.now)) (judged_at (typed_statement_of command) self.old)) self.new result }
         ensures less { IfOk result (λ step. weight_of_step step < 2 + weight_of_maybe (optional_statement (option_map statement_of b.now))) }
     {
-        let a = boxed(self.alloc, command)?;
         match b {
             Some(b) => {
                 let outer = *outer;
-                let form = Form::Else(c, a);
-                Ok(Step::Part(Frame { outer, form }, outer.setting.part(), b.get()))
+                let form = StatementForm::Else(c, command);
+                Ok(StatementStep::Part(
+                    StatementFrame { outer, form },
+                    outer.setting.part(),
+                    b.get(),
+                ))
             }
             None => {
                 self.leave(outer);
-                Ok(Step::Done(TStmt::If(c, a, None)))
+                done(self.alloc, Ok(TStmt::If(c.into_inner(), command, None)))
             }
         }
     }
@@ -79,34 +74,41 @@ impl<'a> Walk<'a> {
     fn resume_else(
         &mut self,
         outer: &Outer<'_>,
-        c: TExpr,
+        c: Boxed<TExpr>,
         a: Boxed<TStmt>,
-        command: TStmt,
-    ) -> Result<TStmt, Stop>
-        ensures { Finishes (resumed_at outer.now (Form.Else c a) (judged_at (typed_statement_of command) self.old)) self.new result }
+        command: Boxed<TStmt>,
+    ) -> Result<TStmt, Refusal>
+        ensures { Finishes (resumed_at outer.now (StatementForm.Else c a) (judged_at (typed_statement_of command) self.old)) self.new result }
     {
-        let b = boxed(self.alloc, command)?;
         self.leave(outer);
-        Ok(TStmt::If(c, a, Some(b)))
+        Ok(TStmt::If(c.into_inner(), a, Some(command)))
     }
 
     /// A `while`, behind its body.
-    fn resume_while(&mut self, outer: &Outer<'_>, c: TExpr, command: TStmt) -> Result<TStmt, Stop>
-        ensures { Finishes (resumed_at outer.now (Form.While c) (judged_at (typed_statement_of command) self.old)) self.new result }
+    fn resume_while(
+        &mut self,
+        outer: &Outer<'_>,
+        c: Boxed<TExpr>,
+        command: Boxed<TStmt>,
+    ) -> Result<TStmt, Refusal>
+        ensures { Finishes (resumed_at outer.now (StatementForm.While c) (judged_at (typed_statement_of command) self.old)) self.new result }
     {
-        let body = boxed(self.alloc, command)?;
         self.leave(outer);
-        Ok(TStmt::While(c, body))
+        Ok(TStmt::While(c.into_inner(), command))
     }
 
     /// A `do`, behind its body.
-    fn resume_do(&mut self, outer: &Outer<'_>, c: &Expr, command: TStmt) -> Result<TStmt, Stop>
+    fn resume_do(
+        &mut self,
+        outer: &Outer<'_>,
+        c: &Expr,
+        command: Boxed<TStmt>,
+    ) -> Result<TStmt, Refusal>
         ensures { Finishes (rest_of_do (leave outer.now.start outer.now.visible) (expression_of c.now) (judged_at (typed_statement_of command) self.old)) self.new result }
     {
-        let body = boxed(self.alloc, command)?;
         self.leave(outer);
         let c = self.value(Role::Value, c)?;
-        Ok(TStmt::Do(body, c))
+        Ok(TStmt::Do(command, c.into_inner()))
     }
 
     /// A `for`, behind its last part.
@@ -114,17 +116,16 @@ impl<'a> Walk<'a> {
         &self,
         outer: &Outer<'s>,
         first: Option<Boxed<TStmt>>,
-        c: Option<TExpr>,
+        c: Option<Boxed<TExpr>>,
         body: &'s Stmt,
-        command: TStmt,
-    ) -> Result<Step<'s>, Stop>
-        ensures judged { Steps (rest_of_for (setting_of outer.now.setting) (leave outer.now.start outer.now.visible) (typed_maybe first) (option_map typed_expression_of c) (present (typed_statement_of command)) (statement_of body.now) (judged_at (typed_statement_of command) self.now)) self.now result }
-        ensures less { IfOk result (λ step. weight_of_step step < weight (statement_of body.now) + 2) }
+        command: Boxed<TStmt>,
+    ) -> StatementStep<'s>
+        ensures judged { Leads (rest_of_for (setting_of outer.now.setting) (leave outer.now.start outer.now.visible) (typed_maybe first) (option_map typed_expression_of c) (present (typed_statement_of command)) (statement_of body.now) (judged_at (typed_statement_of command) self.now)) self.now result }
+        ensures less { weight_of_step result < weight (statement_of body.now) + 2 }
     {
-        let last = boxed(self.alloc, command)?;
         let outer = *outer;
-        let form = Form::For(first, c, Some(last));
-        Ok(Step::Part(Frame { outer, form }, outer.setting.body(), body))
+        let form = StatementForm::For(first, c, Some(command));
+        StatementStep::Part(StatementFrame { outer, form }, outer.setting.body(), body)
     }
 
     /// A `for`, behind its body.
@@ -132,15 +133,14 @@ impl<'a> Walk<'a> {
         &mut self,
         outer: &Outer<'_>,
         first: Option<Boxed<TStmt>>,
-        c: Option<TExpr>,
+        c: Option<Boxed<TExpr>>,
         last: Option<Boxed<TStmt>>,
-        command: TStmt,
-    ) -> Result<TStmt, Stop>
-        ensures { Finishes (resumed_at outer.now (Form.For first c last) (judged_at (typed_statement_of command) self.old)) self.new result }
+        command: Boxed<TStmt>,
+    ) -> Result<TStmt, Refusal>
+        ensures { Finishes (resumed_at outer.now (StatementForm.For first c last) (judged_at (typed_statement_of command) self.old)) self.new result }
     {
-        let body = boxed(self.alloc, command)?;
         self.leave(outer);
-        Ok(TStmt::For(first, c, last, body))
+        Ok(TStmt::For(first, unboxed(c), last, command))
     }
 
     /// A `for`, behind its first part.
@@ -150,30 +150,39 @@ impl<'a> Walk<'a> {
         c: &Option<Expr>,
         last: &'s Option<Boxed<Stmt>>,
         body: &'s Stmt,
-        command: TStmt,
-    ) -> Result<Step<'s>, Stop>
+        command: Boxed<TStmt>,
+    ) -> Result<StatementStep<'s>, Refusal>
         ensures judged { Steps (behind_first_at outer.now (present (typed_statement_of command)) (option_map expression_of c.now) (optional_statement (option_map statement_of last.now)) (statement_of body.now) self.old) self.new result }
         ensures less { IfOk result (λ step. weight_of_step step < weight_of_maybe (optional_statement (option_map statement_of last.now)) + (weight (statement_of body.now) + 3)) }
     {
-        let first = boxed(self.alloc, command)?;
-        self.behind_first(outer, Some(first), c, last, body)
+        self.behind_first(outer, Some(command), c, last, body)
     }
 
     /// A statement, behind the part that it waits for, of which this is the typed statement.
-    pub fn resume<'s>(&mut self, frame: Frame<'s>, command: TStmt) -> Result<Step<'s>, Stop>
+    pub fn resume<'s>(
+        &mut self,
+        frame: StatementFrame<'s>,
+        command: Boxed<TStmt>,
+    ) -> Result<StatementStep<'s>, Refusal>
         ensures judged { Steps (resumed frame.entry (judged_at (typed_statement_of command) self.old)) self.new result }
         ensures less { IfOk result (λ step. weight_of_step step < weight_of_form frame.entry.form) }
     {
-        let Frame { outer, form } = frame;
+        let StatementFrame { outer, form } = frame;
         match form {
-            Form::Block(before, rest) => self.resume_block(&outer, before, rest, command),
-            Form::Then(c, b) => self.resume_then(&outer, c, b, command),
-            Form::Else(c, a) => done(self.resume_else(&outer, c, a, command)),
-            Form::While(c) => done(self.resume_while(&outer, c, command)),
-            Form::Do(c) => done(self.resume_do(&outer, c, command)),
-            Form::First(c, last, body) => self.resume_first(&outer, c, last, body, command),
-            Form::Last(first, c, body) => self.resume_last(&outer, first, c, body, command),
-            Form::For(first, c, last) => { done(self.resume_for(&outer, first, c, last, command)) }
+            StatementForm::Block(before, rest) => self.resume_block(&outer, before, rest, command),
+            StatementForm::Then(c, b) => self.resume_then(&outer, c, b, command),
+            StatementForm::Else(c, a) => done(self.alloc, self.resume_else(&outer, c, a, command)),
+            StatementForm::While(c) => done(self.alloc, self.resume_while(&outer, c, command)),
+            StatementForm::Do(c) => done(self.alloc, self.resume_do(&outer, c, command)),
+            StatementForm::First(c, last, body) => self.resume_first(
+                &outer, c, last, body, command,
+            ),
+            StatementForm::Last(first, c, body) => Ok(self.resume_last(
+                &outer, first, c, body, command,
+            )),
+            StatementForm::For(first, c, last) => {
+                done(self.alloc, self.resume_for(&outer, first, c, last, command))
+            }
         }
     }
 }

@@ -3,28 +3,29 @@ ghost use Rattle.std.specs.Prelude.{◌≡◌, suc, option_map, slice_index_or};
 ghost use Rattle.pw_tree.specs.Expressions.{expression_of};
 ghost use Rattle.pw_tree.specs.Placed as placed;
 ghost use Rattle.pw_tree.specs.Statements as statement;
-ghost use Rattle.pw_types.specs.Faults.{Judges};
 ghost use Rattle.pw_types.specs.Statements.{faults_of_target, faults_of_array};
-ghost use Rattle.pw_types.specs.CheckingStatements.{Finishes, outcome_at, place_of};
-ghost use Rattle.pw_types.specs.StatementTargets.{IsTarget, IsArray, JudgesIndex, JudgesElementValue};
+ghost use Rattle.pw_types.specs.Steps.CheckingStatements.{Finishes, outcome_at, place_of};
+ghost use Rattle.pw_types.specs.Steps.StatementTargets.{IsTarget, IsArray, JudgesIndex, JudgesElementValue};
+ghost use Rattle.pw_types.specs.Steps.Refusals.{Judges};
 
 use crate::expression::judge;
-use crate::fault::Stop;
+use crate::fault::Refusal;
 use crate::meaning::Meaning;
 use crate::names::{File, Kind};
 use crate::refuse::{broken, broken_by};
 use crate::role::Role;
 use crate::rule::Rule;
-use crate::statement_step::{Setting, Span};
+use crate::statement_step::{Setting, StatementSpan};
 use crate::statement_walk::Walk;
 use crate::typed::Typed;
 use crate::types::is_number;
 use pw_base::Name;
 use pw_tree::{Expr, Ref, TExpr, TStmt, Ty};
+use sqlite_items::Boxed;
 
 /// What a name is assigned at, and its type.
 #[derive(Drop)]
-pub(crate) enum Target {
+pub(crate) enum AssignTarget {
     /// The local of this number.
     Local(u32, Ty),
     /// A variable: its number among the names at file level, and how the unit names it.
@@ -41,7 +42,7 @@ pub(crate) struct Array {
 }
 
 /// The last token of an assignment: a part of a `for` has no `;` of its own.
-fn set_end(in_head: bool, at: Span) -> u64
+fn set_end(in_head: bool, at: StatementSpan) -> u64
     ensures { result ≡ placed.set_end in_head (place_of at) }
 {
     if in_head {
@@ -53,7 +54,7 @@ fn set_end(in_head: bool, at: Span) -> u64
 
 /// The `]` behind the index of an assignment: as many brackets stand round the index behind it as before it.
 #[tactic(auto, using(crate::proofs::PhrasePlaces::place_is))]
-fn index_end(at: Span, i: &Expr) -> u64
+fn index_end(at: StatementSpan, i: &Expr) -> u64
     ensures { result ≡ placed.index_end (place_of at) (expression_of i.now) }
 {
     let before = u64::from(i.first).saturating_sub(u64::from(at.first) + 2);
@@ -72,16 +73,16 @@ fn bracket_line(lines: &[u32], first: u32) -> u32
 
 impl<'a> Walk<'a> {
     /// What a name is assigned at. Refusals: `Unknown`, `NeedsIndex`, `AssignType`.
-    fn target(&self, name: &Name, at: u32) -> Result<Target, Stop>
+    fn target(&self, name: &Name, at: u32) -> Result<AssignTarget, Refusal>
         ensures { Judges (faults_of_target self.now.scope name.now at) (IsTarget self.now.scope name.now) result }
     {
         match self.scope.meaning(name.bytes()) {
             Meaning::Missing => Err(broken_by(self.alloc, Rule::Unknown, u64::from(at), name)),
-            Meaning::Local(local) => Ok(Target::Local(local.number, local.ty)),
+            Meaning::Local(local) => Ok(AssignTarget::Local(local.number, local.ty)),
             Meaning::File(number, file) => match file.kind {
                 Kind::Function(_) => Err(broken(Rule::AssignType, u64::from(at))),
                 Kind::Variable(_, Some(_)) => Err(broken(Rule::NeedsIndex, u64::from(at))),
-                Kind::Variable(ty, None) => Ok(Target::Variable(
+                Kind::Variable(ty, None) => Ok(AssignTarget::Variable(
                     number,
                     self.scope.variable_reference(self.alloc, file)?,
                     ty,
@@ -91,7 +92,7 @@ impl<'a> Walk<'a> {
     }
 
     /// The array that a name is. Refusals: `Unknown`, `NotArray`.
-    fn array(&self, name: &Name, at: u32) -> Result<Array, Stop>
+    fn array(&self, name: &Name, at: u32) -> Result<Array, Refusal>
         ensures { Judges (faults_of_array self.now.scope name.now at) (IsArray self.now.scope name.now) result }
     {
         match self.scope.meaning(name.bytes()) {
@@ -112,18 +113,24 @@ impl<'a> Walk<'a> {
     }
 
     /// An index: a number. Refusal: `Operands`, at the `]`.
-    fn index(&mut self, at: Span, i: &Expr) -> Result<Typed, Stop>
+    fn index(&mut self, at: StatementSpan, i: &Expr) -> Result<Typed, Refusal>
         ensures { JudgesIndex (place_of at) (expression_of i.now) self.old self.new result }
     {
         let typed = judge(self.alloc, &self.scope, &mut self.used, Role::Value, i)?;
-        if !is_number(typed.tree.ty) {
+        if !is_number(typed.tree.get().ty) {
             return Err(broken(Rule::Operands, index_end(at, i)));
         }
         Ok(typed)
     }
 
     /// What an element is assigned; the index, which holds so many values beside it, is kept meanwhile.
-    fn element_value(&mut self, beside: u32, ty: Ty, e: &Expr, end: u64) -> Result<TExpr, Stop>
+    fn element_value(
+        &mut self,
+        beside: u32,
+        ty: Ty,
+        e: &Expr,
+        end: u64,
+    ) -> Result<Boxed<TExpr>, Refusal>
         ensures { JudgesElementValue beside ty (expression_of e.now) end self.old self.new result }
     {
         let role = Role::Assigned(Some(ty));
@@ -137,22 +144,22 @@ impl<'a> Walk<'a> {
     fn set(
         &mut self,
         setting: &Setting<'_>,
-        at: Span,
+        at: StatementSpan,
         name: &Name,
         value: &Expr,
-    ) -> Result<TStmt, Stop>
+    ) -> Result<TStmt, Refusal>
         ensures { Finishes (outcome_at setting.now self.old (statement.set (place_of at) name.now None (expression_of value.now))) self.new result }
     {
         let end = set_end(setting.in_head, at);
         match self.target(name, at.first)? {
-            Target::Local(number, ty) => {
+            AssignTarget::Local(number, ty) => {
                 let value = self.whole(Role::Assigned(Some(ty)), value, end)?;
-                Ok(TStmt::SetLocal(number, Some(value)))
+                Ok(TStmt::SetLocal(number, Some(value.into_inner())))
             }
-            Target::Variable(number, reference, ty) => {
+            AssignTarget::Variable(number, reference, ty) => {
                 self.note(number)?;
                 let value = self.whole(Role::Assigned(Some(ty)), value, end)?;
-                Ok(TStmt::SetVar(reference, value))
+                Ok(TStmt::SetVar(reference, value.into_inner()))
             }
         }
     }
@@ -163,11 +170,11 @@ impl<'a> Walk<'a> {
     fn set_element(
         &mut self,
         setting: &Setting<'_>,
-        at: Span,
+        at: StatementSpan,
         name: &Name,
         index: &Expr,
         value: &Expr,
-    ) -> Result<TStmt, Stop>
+    ) -> Result<TStmt, Refusal>
         ensures { Finishes (outcome_at setting.now self.old (statement.set (place_of at) name.now (Some (expression_of index.now)) (expression_of value.now))) self.new result }
     {
         let end = set_end(setting.in_head, at);
@@ -176,18 +183,20 @@ impl<'a> Walk<'a> {
         let index = self.index(at, index)?;
         let value = self.element_value(index.held, array.ty, value, end)?;
         let line = bracket_line(setting.lines, at.first);
-        Ok(TStmt::SetElem(array.reference, array.size, line, index.tree, value))
+        let index = index.tree.into_inner();
+        let value = value.into_inner();
+        Ok(TStmt::SetElem(array.reference, array.size, line, index, value))
     }
 
     /// `name = value`, or `name[index] = value`.
     pub fn assign(
         &mut self,
         setting: &Setting<'_>,
-        at: Span,
+        at: StatementSpan,
         name: &Name,
         index: &Option<Expr>,
         value: &Expr,
-    ) -> Result<TStmt, Stop>
+    ) -> Result<TStmt, Refusal>
         ensures { Finishes (outcome_at setting.now self.old (statement.set (place_of at) name.now (option_map expression_of index.now) (expression_of value.now))) self.new result }
     {
         match index {

@@ -15,7 +15,7 @@ pub(crate) fn push<T: Drop>(items: &mut Items<T>, item: T) -> Result<(), NoMemor
 
 /// Where a statement stands: its first and last token, and its first token's line.
 #[derive(Clone, Copy)]
-pub(crate) struct Span {
+pub(crate) struct StatementSpan {
     pub first: u32,
     pub last: u32,
     pub line: u32,
@@ -42,39 +42,39 @@ pub(crate) struct Outer<'a> {
 
 /// A statement that waits for a part: where it stands, and what it waits for.
 #[derive(Drop)]
-pub(crate) struct Frame<'a> {
+pub(crate) struct StatementFrame<'a> {
     pub outer: Outer<'a>,
-    pub form: Form<'a>,
+    pub form: StatementForm<'a>,
 }
 
 /// What was judged of a statement before the part that it waits for, and what comes behind the part.
 #[derive(Drop)]
-pub(crate) enum Form<'a> {
+pub(crate) enum StatementForm<'a> {
     /// A statement of a block: those before it, and those behind it.
     Block(Items<TStmt>, &'a [Stmt]),
     /// The first part of an `if`, behind the condition; the second may come behind it.
-    Then(TExpr, &'a Option<Boxed<Stmt>>),
+    Then(Boxed<TExpr>, &'a Option<Boxed<Stmt>>),
     /// The second part of an `if`, behind the condition and the first.
-    Else(TExpr, Boxed<TStmt>),
+    Else(Boxed<TExpr>, Boxed<TStmt>),
     /// The body of a `while`, behind the condition.
-    While(TExpr),
+    While(Boxed<TExpr>),
     /// The body of a `do`; the condition comes behind it.
     Do(&'a Expr),
     /// The first part of a `for`; the condition, the last part and the body come behind it.
     First(&'a Option<Expr>, &'a Option<Boxed<Stmt>>, &'a Stmt),
     /// The last part of a `for`, behind the first part and the condition; the body comes behind it.
-    Last(Option<Boxed<TStmt>>, Option<TExpr>, &'a Stmt),
+    Last(Option<Boxed<TStmt>>, Option<Boxed<TExpr>>, &'a Stmt),
     /// The body of a `for`, behind the first part, the condition and the last part.
-    For(Option<Boxed<TStmt>>, Option<TExpr>, Option<Boxed<TStmt>>),
+    For(Option<Boxed<TStmt>>, Option<Boxed<TExpr>>, Option<Boxed<TStmt>>),
 }
 
 /// What is to be done next.
 #[derive(Drop)]
-pub(crate) enum Step<'a> {
+pub(crate) enum StatementStep<'a> {
     /// To judge a part in its setting, for which the frame waits.
-    Part(Frame<'a>, Setting<'a>, &'a Stmt),
+    Part(StatementFrame<'a>, Setting<'a>, &'a Stmt),
     /// Nothing: the statement at hand is judged.
-    Done(TStmt),
+    Done(Boxed<TStmt>),
 }
 
 impl<'a> Setting<'a> {

@@ -1,7 +1,7 @@
 //! How far the statements of a function are judged.
 
 ghost use Rattle.std.specs.Prelude.{◌≡◌};
-ghost use Rattle.pw_types.specs.CheckingStatements.{outer_at, Leaves};
+ghost use Rattle.pw_types.specs.Steps.CheckingStatements.{outer_at, Leaves};
 
 use crate::scope::Scope;
 use crate::statement_step::{Outer, Setting};

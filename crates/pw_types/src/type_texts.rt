@@ -3,7 +3,7 @@ ghost use Rattle.std.specs.Prelude.{◌≡◌, decimal, IfOk};
 ghost use Rattle.pw_tree.specs.Types.{IsType};
 ghost use Rattle.pw_tree.specs.TypeTexts as texts;
 ghost use Rattle.pw_types.specs.declared.names.Kind.TheVariants as kinds;
-ghost use Rattle.pw_types.specs.Texts.{HasText};
+ghost use Rattle.pw_types.specs.Steps.Texts.{HasText};
 ghost use Rattle.pw_types.specs.Units.{text_of_kind};
 
 use crate::names::Kind;
@@ -26,7 +26,7 @@ fn letter_of(ty: Ty) -> u8
 }
 
 /// The text of a function's type.
-#[tactic(auto, unfolding(crate::specs::Texts::AreValueTypes))]
+#[tactic(auto, unfolding(pw_tree::specs::Types::AreValueTypes))]
 fn text_of_function(alloc: Global, sig: &Sig) -> Result<Items<u8>, NoMemory>
     requires { HasText (kinds.Function sig.now) }
     ensures { IfOk result (λ text. text ≡ texts.text_of_function sig.now) }

@@ -1,13 +1,13 @@
 //! What judging a phrase without faults gives.
 
 use pw_tree::{TExpr, TStmt};
-use sqlite_items::Items;
+use sqlite_items::{Boxed, Items};
 
-/// A typed expression.
+/// A typed expression. Its tree is in a box, so that it can wait for others and be a part of one as it is.
 #[derive(Drop)]
 pub struct Typed {
-    pub tree: TExpr,
-    /// How many values it holds at a time, or 101 where these are more.
+    pub tree: Boxed<TExpr>,
+    /// How many values it holds at a time, or one more than the limit where these are more.
     pub held: u32,
 }
 
@@ -15,7 +15,7 @@ pub struct Typed {
 #[derive(Drop)]
 pub struct Body {
     pub statements: Items<TStmt>,
-    /// The greatest number of values that one of its expressions holds at a time, at most 100.
+    /// The greatest number of values that one of its expressions holds at a time, no more than the limit.
     pub held: u32,
     /// How many parameters and locals the function has behind them.
     pub count: u32,

@@ -3,7 +3,7 @@ ghost use Rattle.std.specs.Prelude.{◌≡◌};
 ghost use Rattle.std.specs.List.{list_all};
 ghost use Rattle.pw_tree.specs.declared.ty.Ty.TheVariants.{Long};
 ghost use Rattle.pw_tree.specs.Types as spec;
-ghost use Rattle.pw_types.specs.Operations.{Operates};
+ghost use Rattle.pw_types.specs.Steps.Operations.{Operates};
 
 use pw_base::Limits;
 use pw_tree::{Bin, Sig, Ty, Un};

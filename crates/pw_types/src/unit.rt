@@ -3,21 +3,22 @@ ghost use Rattle.std.specs.Prelude.{◌≡◌, ⊤, [], map, find, option_copied
 ghost use Rattle.pw_tree.specs.Declarations.{declaration_of, untyped_unit_of};
 ghost use Rattle.pw_tree.specs.Placed.{HaveTypes, IsParsed};
 ghost use Rattle.pw_tree.specs.Units.{unit_of};
-ghost use Rattle.pw_types.specs.Faults.{Judges};
 ghost use Rattle.pw_types.specs.Units as spec;
-ghost use Rattle.pw_types.specs.CheckingUnits.{IsAll};
+ghost use Rattle.pw_types.specs.Steps.CheckingUnits.{IsAll, IsDeclared, faults_at_end, names_in};
+ghost use Rattle.pw_types.specs.Steps.Refusals.{Judges};
 
 use crate::declared::is_extern;
 use crate::declared_names::Names;
 use crate::defined::Whole;
 use crate::external::external_names;
-use crate::fault::Stop;
+use crate::fault::Refusal;
 use crate::names::{File, Kind};
 use crate::progress::Progress;
 use crate::refuse::refuse_name_if;
 use crate::rule::Rule;
 use pw_base::NoMemory;
-use pw_tree::{Decl, DeclKind, TUnit, Unit};
+use pw_tree::{Decl, DeclKind, Ext, TUnit, Unit};
+use sqlite_items::Items;
 use std::alloc::Global;
 
 /// The names of the functions that these declarations define.
@@ -60,7 +61,7 @@ fn variables_of(alloc: Global, decls: &[Decl]) -> Result<Names, NoMemory>
 
 /// What the declarations of a unit give, or their first fault.
 #[tactic(auto, unfolding(crate::specs::Units::faults_of_declarations, crate::specs::Units::files_behind, crate::specs::Units::typed_functions, crate::specs::Units::typed_variables, crate::specs::Units::uses_of_declarations, pw_tree::specs::Placed::HaveTypes))]
-fn judge_declarations(alloc: Global, whole: &Whole<'_>, decls: &[Decl]) -> Result<Progress, Stop>
+fn judge_declarations(alloc: Global, whole: &Whole<'_>, decls: &[Decl]) -> Result<Progress, Refusal>
     requires { HaveTypes (map declaration_of decls.now) }
     ensures { Judges (spec.faults_of_declarations whole.now [] 0 (map declaration_of decls.now)) (IsAll whole.now (map declaration_of decls.now)) result }
 {
@@ -91,7 +92,7 @@ fn lacking(files: &[File]) -> Option<&File>
 }
 
 /// The fault of a unit whose last token this is: a static function that is declared and not defined.
-fn judge_end(alloc: Global, files: &[File], last: u32) -> Result<(), Stop>
+fn judge_end(alloc: Global, files: &[File], last: u32) -> Result<(), Refusal>
     ensures { Judges (spec.faults_of_lacking last (find spec.lacks_definition files.now)) (λ _. ⊤) result }
 {
     match lacking(files) {
@@ -100,28 +101,45 @@ fn judge_end(alloc: Global, files: &[File], last: u32) -> Result<(), Stop>
     }
 }
 
-/// The typed unit, or the first fault.
-#[tactic(auto, using(crate::proofs::UnitTexts::texts_behind), unfolding(crate::specs::Texts::HaveTexts))]
-pub(crate) fn judge_unit(alloc: Global, unit: &Unit) -> Result<TUnit, Stop>
-    requires { IsParsed (untyped_unit_of unit.now) }
+/// The external names of a unit whose declarations gave this, or the fault at its last token.
+#[tactic(auto, using(crate::proofs::UnitTexts::texts_behind), unfolding(crate::specs::Steps::Texts::HaveTexts))]
+fn judge_names(alloc: Global, unit: &Unit, progress: &Progress) -> Result<Items<Ext>, Refusal>
+    requires parsed { IsParsed (untyped_unit_of unit.now) }
+    requires declared { IsDeclared (untyped_unit_of unit.now) progress.now }
+    ensures { Judges (faults_at_end (untyped_unit_of unit.now)) (λ names. names ≡ names_in (untyped_unit_of unit.now)) result }
+{
+    let files = progress.files.as_slice();
+    judge_end(alloc, files, unit.lines.len().saturating_sub(1) as u32)?;
+    Ok(external_names(alloc, &progress.used, files)?)
+}
+
+/// The typed unit whose declarations gave this, or the fault at its last token.
+fn judge_rest(alloc: Global, unit: &Unit, progress: Progress) -> Result<TUnit, Refusal>
+    requires parsed { IsParsed (untyped_unit_of unit.now) }
+    requires declared { IsDeclared (untyped_unit_of unit.now) progress }
     ensures { Judges (spec.faults_of (untyped_unit_of unit.now)) (λ typed. unit_of typed ≡ spec.typed_unit (untyped_unit_of unit.now)) result }
 {
-    let decls = unit.decls.as_slice();
-    let lines = unit.lines.as_slice();
-    let functions = functions_of(alloc, decls)?;
-    let variables = variables_of(alloc, decls)?;
-    let whole = Whole {
-        functions: &functions,
-        variables: &variables,
-        lines,
-    };
-    let progress = judge_declarations(alloc, &whole, decls)?;
-    let files = progress.files.as_slice();
-    judge_end(alloc, files, lines.len().saturating_sub(1) as u32)?;
-    let names = external_names(alloc, &progress.used, files)?;
+    let names = judge_names(alloc, unit, &progress)?;
     Ok(TUnit {
         funs: progress.functions,
         vars: progress.variables,
         names,
     })
+}
+
+/// The typed unit, or the first fault.
+pub(crate) fn judge_unit(alloc: Global, unit: &Unit) -> Result<TUnit, Refusal>
+    requires { IsParsed (untyped_unit_of unit.now) }
+    ensures { Judges (spec.faults_of (untyped_unit_of unit.now)) (λ typed. unit_of typed ≡ spec.typed_unit (untyped_unit_of unit.now)) result }
+{
+    let decls = unit.decls.as_slice();
+    let functions = functions_of(alloc, decls)?;
+    let variables = variables_of(alloc, decls)?;
+    let whole = Whole {
+        functions: &functions,
+        variables: &variables,
+        lines: unit.lines.as_slice(),
+    };
+    let progress = judge_declarations(alloc, &whole, decls)?;
+    judge_rest(alloc, unit, progress)
 }

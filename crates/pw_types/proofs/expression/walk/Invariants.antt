@@ -1,8 +1,8 @@
 -- Resuming the frames behind what is to be done next gives what the whole gives.
 use Rattle.std.proofs.Common.{◌≡◌, ◌+◌}
 use Rattle.pw_tree.specs.Expressions.{expression_of}
-use Rattle.pw_types.specs.CheckingExpressions.{checked}
-use Rattle.pw_types.specs.ResumingExpressions.{resume, continued, step_size, frames_size}
+use Rattle.pw_types.specs.Steps.CheckingExpressions.{checked}
+use Rattle.pw_types.specs.Steps.ResumingExpressions.{resume, continued, step_size, frames_size}
 use Rattle.pw_types.proofs.expression.walk.Given as goal
 
 abbrev pub invariant-steps : goal.invariant-steps

@@ -2,8 +2,8 @@ use Rattle.std.proofs.Common.{Bool, List, [], map, subst}
 use Rattle.pw_tree.specs.Expressions.{expressions_of}
 use Rattle.pw_tree.specs.TypedExpressions.{typed_expression_of}
 use Rattle.pw_tree.specs.declared.texpr.TExpr.{TExpr}
-use Rattle.pw_types.specs.CheckingExpressions.{checked_arguments}
-use Rattle.pw_types.specs.ResumingExpressions.{aim_of, listed, Continues}
+use Rattle.pw_types.specs.Steps.CheckingExpressions.{checked_arguments}
+use Rattle.pw_types.specs.Steps.ResumingExpressions.{aim_of, listed, Continues}
 use Rattle.pw_types.proofs.expression_call.begin.Goals as goal
 
 pub returns-clause-continues : goal.returns-clause-continues

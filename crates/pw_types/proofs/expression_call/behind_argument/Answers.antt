@@ -1,7 +1,7 @@
 use Rattle.std.proofs.Common.{subst}
 use Rattle.pw_tree.specs.Expressions.{expressions_of}
-use Rattle.pw_types.specs.CheckingExpressions.{Taken, checked_arguments}
-use Rattle.pw_types.specs.ResumingExpressions.{calling_of, listed, Continues}
+use Rattle.pw_types.specs.Steps.CheckingExpressions.{Taken, checked_arguments}
+use Rattle.pw_types.specs.Steps.ResumingExpressions.{calling_of, listed, Continues}
 use Rattle.pw_types.proofs.expression_call.behind_argument.Goals as goal
 
 pub returns-clause-continues : goal.returns-clause-continues

@@ -3,8 +3,8 @@ use Rattle.pw_tree.specs.Expressions.{expressions_of}
 use Rattle.pw_tree.specs.declared.ty.Ty.{Ty}
 use Rattle.pw_tree.specs.declared.ty.Ref.{Ref}
 use Rattle.pw_types.specs.Scopes.{function_reference}
-use Rattle.pw_types.specs.CheckingExpressions.{named, calling, none_taken, checked_arguments}
-use Rattle.pw_types.specs.ResumingExpressions.{Continues}
+use Rattle.pw_types.specs.Steps.CheckingExpressions.{named, calling, none_taken, checked_arguments}
+use Rattle.pw_types.specs.Steps.ResumingExpressions.{Continues}
 use Rattle.pw_types.proofs.expression_call.call_function.Goals as goal
 
 pub returns-clause-continues : goal.returns-clause-continues

@@ -4,9 +4,9 @@ use Rattle.pw_tree.specs.declared.ty.Ty.{Ty}
 use Rattle.pw_tree.specs.declared.ty.Ty.TheVariants.{Long, Fn}
 use Rattle.pw_types.specs.declared.rule.Rule.TheVariants.{NotCallable}
 use Rattle.pw_tree.specs.TypedExpressions.{type_of}
-use Rattle.pw_types.specs.Judging.{refuse, on_option}
-use Rattle.pw_types.specs.CheckingExpressions.{through, calling, none_taken, fault_under, pointer_parameters, checked_arguments}
-use Rattle.pw_types.specs.ResumingExpressions.{valued, Continues}
+use Rattle.pw_types.specs.Steps.Judging.{refuse, on_option}
+use Rattle.pw_types.specs.Steps.CheckingExpressions.{through, calling, none_taken, fault_under, pointer_parameters, checked_arguments}
+use Rattle.pw_types.specs.Steps.ResumingExpressions.{valued, Continues}
 use Rattle.pw_types.proofs.expression_call.call_through.Goals as goal
 
 pub returns-in-Fn-clause-continues : goal.returns-in-Fn-clause-continues

@@ -1,7 +1,7 @@
 use Rattle.std.proofs.Common.{◌<◌, IfOk, ap, sym, subst}
 use Rattle.pw_tree.specs.Expressions.{Expression}
-use Rattle.pw_types.specs.CheckingExpressions.{checked}
-use Rattle.pw_types.specs.ResumingExpressions.{ContinuesWith, step_size, size}
+use Rattle.pw_types.specs.Steps.CheckingExpressions.{checked}
+use Rattle.pw_types.specs.Steps.ResumingExpressions.{ContinuesWith, step_size, size}
 use Rattle.pw_types.proofs.Phrases.{as_unary, as_binary, as_choice, as_call}
 use Rattle.pw_types.proofs.expression_down.down.Goals as goal
 

@@ -1,7 +1,7 @@
 use Rattle.std.proofs.Common.{◌≡◌, ap, sym, ◌∙◌}
 use Rattle.pw_types.specs.Scopes.{Meaning, missing, meaning}
-use Rattle.pw_types.specs.Judging.{Judge}
-use Rattle.pw_types.specs.CheckingExpressions.{Valued, named_value}
+use Rattle.pw_types.specs.Steps.Judging.{Judge}
+use Rattle.pw_types.specs.Steps.CheckingExpressions.{Valued, named_value}
 use Rattle.pw_types.proofs.Answered.{given}
 use Rattle.pw_types.proofs.expression_name.named_value.Goals as goal
 

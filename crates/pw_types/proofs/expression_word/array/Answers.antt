@@ -1,6 +1,6 @@
 use Rattle.std.proofs.Common.{◌≡◌, Some, sym}
 use Rattle.pw_tree.specs.Expressions.{expression_of}
-use Rattle.pw_types.specs.Words.{word_in}
+use Rattle.pw_types.specs.Steps.Words.{word_in}
 use Rattle.pw_types.proofs.Words.{array_by_word}
 use Rattle.pw_types.proofs.expression_word.array.Goals as goal
 

@@ -1,6 +1,6 @@
 -- What is left has the names that are missing.
 use Rattle.std.proofs.Common.{◌≡◌, ◌+◌, ◌++◌, length}
-use Rattle.pw_types.specs.Texts.{HaveTexts}
+use Rattle.pw_types.specs.Steps.Texts.{HaveTexts}
 use Rattle.pw_types.specs.Units.{external_names}
 use Rattle.pw_types.proofs.external.external_names.Given as goal
 

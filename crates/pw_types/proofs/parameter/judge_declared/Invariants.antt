@@ -1,7 +1,7 @@
 -- What is left has the faults of the whole.
 use Rattle.std.proofs.Common.{◌≡◌, false, [], length}
 use Rattle.pw_types.specs.Declarations.{faults_of_parameters}
-use Rattle.pw_types.specs.CheckingDeclarations.{faults_by_number}
+use Rattle.pw_types.specs.Steps.CheckingDeclarations.{faults_by_number}
 use Rattle.pw_types.proofs.parameter.judge_declared.Given as goal
 
 abbrev pub invariant-loop-rest : goal.invariant-loop-rest

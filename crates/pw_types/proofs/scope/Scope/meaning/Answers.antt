@@ -1,6 +1,6 @@
 use Rattle.std.proofs.Common.{◌≡◌, ◌∙◌, ap, subst}
 use Rattle.pw_types.specs.Scopes.{local_named, meaning, a_local, missing}
-use Rattle.pw_types.specs.Lookups.{IsDeclared}
+use Rattle.pw_types.specs.Steps.Lookups.{IsDeclared}
 use Rattle.pw_types.proofs.Meanings.{is_local, is_missing, is_declared}
 use Rattle.pw_types.proofs.scope.Scope.meaning.Goals as goal
 

@@ -1,5 +1,5 @@
 use Rattle.std.proofs.Common.{arith}
-use Rattle.pw_types.specs.StatementWeights.{weight_of_maybe}
+use Rattle.pw_types.specs.Steps.StatementWeights.{weight_of_maybe}
 use Rattle.pw_types.proofs.EnteringStatements.{goes_to_last, goes_to_body, is_present, is_absent}
 use Rattle.pw_types.proofs.statement_walk.Walk.behind_first.Goals as goal
 

@@ -1,17 +1,17 @@
-use Rattle.std.proofs.Common.{lit<, sym, ◌∙◌, subst, ◌<◌, ap}
+use Rattle.std.proofs.Common.{Ok, lit<, sym, ◌∙◌, subst, ◌<◌, ap}
 use Rattle.pw_tree.specs.Statements.{Statement}
-use Rattle.pw_types.specs.CheckingStatements.{outcome_at}
-use Rattle.pw_types.specs.StatementWeights.{weight, weight_of_step}
+use Rattle.pw_types.specs.Steps.CheckingStatements.{outcome_at}
+use Rattle.pw_types.specs.Steps.StatementWeights.{weight, weight_of_step}
 use Rattle.pw_types.proofs.StatementForms.{place_at, is_empty, is_block, is_local, is_set, is_evaluate, is_if, is_while, is_do, is_for, is_return, is_break, is_continue, leads_as, steps_as, whole_as, less_as, whole_less}
 use Rattle.pw_types.proofs.statement_walk.Walk.enter.Goals as goal
 
 pub returns-in-Local-clause-judged : goal.returns-in-Local-clause-judged
 returns-in-Local-clause-judged c =
-    whole_as c.args.setting.now c.args.self.now c.local.new.self _ _ (is_local c.args.stmt.now c.in-Local.ty c.in-Local.name c.in-Local.value c.in-Local.is) c.local.result c.done.result c.done.ensures c.local.ensures
+    whole_as c.args.setting.now c.args.self.now c.local.new.self _ _ (is_local c.args.stmt.now c.in-Local.ty c.in-Local.name c.in-Local.value c.in-Local.is) c.local.result c.done-in-Local.result c.done-in-Local.ensures c.local.ensures
 
 pub returns-in-Local-clause-less : goal.returns-in-Local-clause-less
 unfolding weight
-returns-in-Local-clause-less c = whole_less _ _ c.local.result c.done.result (is_local c.args.stmt.now c.in-Local.ty c.in-Local.name c.in-Local.value c.in-Local.is) c.done.ensures (lit< tt)
+returns-in-Local-clause-less c = whole_less _ _ c.local.result c.done-in-Local.result (is_local c.args.stmt.now c.in-Local.ty c.in-Local.name c.in-Local.value c.in-Local.is) c.done-in-Local.ensures (lit< tt)
 
 pub returns-in-Set-clause-judged : goal.returns-in-Set-clause-judged
 returns-in-Set-clause-judged c =
@@ -55,12 +55,12 @@ returns-in-Continue-clause-less c = whole_less _ _ c.go_on.result c.done-in-Cont
 
 pub returns-in-Block-clause-judged : goal.returns-in-Block-clause-judged
 returns-in-Block-clause-judged c =
-    leads_as c.args.setting.now c.args.self.now c.enter_block.new.self _ _ (is_block c.args.stmt.now c.in-Block.body c.as_slice.result.now c.in-Block.is c.as_slice.ensures) c.enter_block.result (c.enter_block.ensures.judged (place_at c.args.stmt.now))
+    steps_as c.args.setting.now c.args.self.now c.enter_block.new.self _ _ (is_block c.args.stmt.now c.in-Block.body c.as_slice.result.now c.in-Block.is c.as_slice.ensures) c.enter_block.result (c.enter_block.ensures.judged (place_at c.args.stmt.now))
 
 pub returns-in-Block-clause-less : goal.returns-in-Block-clause-less
 unfolding weight
 returns-in-Block-clause-less c =
-    subst (λ (s : Statement). weight_of_step c.enter_block.result < weight s) (sym (is_block c.args.stmt.now c.in-Block.body c.as_slice.result.now c.in-Block.is c.as_slice.ensures)) c.enter_block.ensures.less
+    less_as _ _ c.enter_block.result (is_block c.args.stmt.now c.in-Block.body c.as_slice.result.now c.in-Block.is c.as_slice.ensures) c.enter_block.ensures.less
 
 pub returns-in-If-clause-judged : goal.returns-in-If-clause-judged
 returns-in-If-clause-judged c =
@@ -99,8 +99,9 @@ returns-in-For-clause-less c =
     less_as _ _ c.enter_for.result (is_for c.args.stmt.now c.in-For.first c.in-For.c c.in-For.last c.in-For.body c.get-in-For.result.now c.in-For.is c.get-in-For.ensures) c.enter_for.ensures.less
 
 pub returns-in-Empty-clause-judged : goal.returns-in-Empty-clause-judged
-returns-in-Empty-clause-judged c = ap (λ (s : Statement). outcome_at c.args.setting.now c.args.self.now s) (is_empty c.args.stmt.now c.in-Empty.is) ∙ c.empty.ensures
+returns-in-Empty-clause-judged c =
+    whole_as c.args.setting.now c.args.self.now c.args.self.now _ _ (is_empty c.args.stmt.now c.in-Empty.is) (Ok c.empty.result) c.done.result c.done.ensures c.empty.ensures
 
 pub returns-in-Empty-clause-less : goal.returns-in-Empty-clause-less
 unfolding weight
-returns-in-Empty-clause-less c = subst (λ (s : Statement). 0 < weight s) (sym (is_empty c.args.stmt.now c.in-Empty.is)) (lit< tt)
+returns-in-Empty-clause-less c = whole_less _ _ (Ok c.empty.result) c.done.result (is_empty c.args.stmt.now c.in-Empty.is) c.done.ensures (lit< tt)

@@ -1,6 +1,6 @@
 use Rattle.std.proofs.Common.{arith, sym, subst}
-use Rattle.pw_types.specs.StatementWeights.{weight_of_maybe}
-use Rattle.pw_types.specs.CheckingStatements.{WalkResult, Steps}
+use Rattle.pw_types.specs.Steps.StatementWeights.{weight_of_maybe}
+use Rattle.pw_types.specs.Steps.CheckingStatements.{WalkResult, Steps}
 use Rattle.pw_types.proofs.EnteringStatements.{enters_for, enters_bare_for, is_present, is_absent}
 use Rattle.pw_types.proofs.statement_walk.Walk.enter_for.Goals as goal
 

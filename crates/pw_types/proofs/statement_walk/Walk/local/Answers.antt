@@ -1,5 +1,5 @@
 use Rattle.std.proofs.Common.{◌≡◌, [], ap, sym, ◌∙◌}
-use Rattle.pw_types.specs.CheckingStatements.{block_of, place_of}
+use Rattle.pw_types.specs.Steps.CheckingStatements.{block_of, place_of}
 use Rattle.pw_tree.specs.Placed.{local_name_at}
 use Rattle.pw_types.specs.Statements.{faults_of_name}
 use Rattle.pw_types.proofs.DeclaringLocals.{declares_local}
@@ -9,5 +9,5 @@ pub returns : goal.returns
 returns c =
     let free : faults_of_name (block_of c.args.self.now) c.args.name.now (local_name_at (place_of c.args.at) c.args.ty) ≡ [] =
     ap (faults_of_name (block_of c.args.self.now) c.args.name.now) (sym c.local_name_at.ensures) ∙ c.in_ok-declarable.ensures.0 in
-    declares_local c.args.setting.now c.args.self.now c.maybe_value.new.self c.declare.new.self (place_of c.args.at) c.args.ty c.args.name.now _
-    c.in_ok-value.value c.in_ok-number.number free c.in_ok-value.ensures.0 c.in_ok-value.ensures.1 c.in_ok-number.ensures
+    rw c.unboxed.ensures (declares_local c.args.setting.now c.args.self.now c.maybe_value.new.self c.declare.new.self (place_of c.args.at) c.args.ty c.args.name.now _
+    c.in_ok-value.value c.in_ok-number.number free c.in_ok-value.ensures.0 c.in_ok-value.ensures.1 c.in_ok-number.ensures)

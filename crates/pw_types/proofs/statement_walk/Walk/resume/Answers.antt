@@ -1,4 +1,4 @@
-use Rattle.std.proofs.Common.{lit<}
+use Rattle.std.proofs.Common.{Ok, lit<}
 use Rattle.pw_types.proofs.ResumingStatements.{resumed_as, less_resumed, resumed_whole, less_whole}
 use Rattle.pw_types.proofs.statement_walk.Walk.resume.Goals as goal
 
@@ -21,10 +21,10 @@ pub returns-in-First-clause-less : goal.returns-in-First-clause-less
 returns-in-First-clause-less c = less_resumed c.args.frame _ c.in-First.is c.resume_first.result c.resume_first.ensures.less
 
 pub returns-in-Last-clause-judged : goal.returns-in-Last-clause-judged
-returns-in-Last-clause-judged c = resumed_as c.args.frame _ c.in-Last.is _ c.args.self.now c.resume_last.result c.resume_last.ensures.judged
+returns-in-Last-clause-judged c = resumed_as c.args.frame _ c.in-Last.is _ c.args.self.now (Ok c.resume_last.result) c.resume_last.ensures.judged
 
 pub returns-in-Last-clause-less : goal.returns-in-Last-clause-less
-returns-in-Last-clause-less c = less_resumed c.args.frame _ c.in-Last.is c.resume_last.result c.resume_last.ensures.less
+returns-in-Last-clause-less c = less_resumed c.args.frame _ c.in-Last.is (Ok c.resume_last.result) c.resume_last.ensures.less
 
 pub returns-in-Else-clause-judged : goal.returns-in-Else-clause-judged
 returns-in-Else-clause-judged c =

@@ -2,7 +2,7 @@ use Rattle.std.proofs.lemmas.Result.{err_from_is_err_and}
 use Rattle.pw_tree.specs.Expressions.{expression_of}
 use Rattle.pw_tree.specs.declared.texpr.TExpr.{TExpr}
 use Rattle.pw_types.specs.declared.typed.Typed.{Typed}
-use Rattle.pw_types.specs.StatementTargets.{IsIndex, IsElementValue}
+use Rattle.pw_types.specs.Steps.StatementTargets.{IsIndex, IsElementValue}
 use Rattle.pw_types.proofs.Assigning.{sets_element, value_fails, index_fails}
 use Rattle.pw_types.proofs.Failing.{fails_of}
 use Rattle.pw_types.proofs.statement_walk.Walk.set_element.Goals as goal
@@ -30,7 +30,7 @@ returns-in_err-value c =
 
 pub returns : goal.returns
 returns c =
-    sets_element c.args.setting.now c.args.self.now c.note.new.self c.index.new.self _ _ _ _ c.in_ok-array.array c.in_ok-index.index
+    rw (c.into_inner-index.ensures, c.into_inner-value.ensures) (sets_element c.args.setting.now c.args.self.now c.note.new.self c.index.new.self _ _ _ _ c.in_ok-array.array c.in_ok-index.index
     (record {
       free = c.in_ok-array.ensures.0;
       target = c.in_ok-array.ensures.1;
@@ -39,4 +39,4 @@ returns c =
       index_is = c.in_ok-index.ensures.1;
     })
     c.element_value.new.self c.in_ok-value.value c.bracket_line-line.result
-    (rw c.set_end-end.ensures at c.in_ok-value.ensures.0) c.in_ok-value.ensures.1 c.bracket_line-line.ensures
+    (rw c.set_end-end.ensures at c.in_ok-value.ensures.0) c.in_ok-value.ensures.1 c.bracket_line-line.ensures)

@@ -1,5 +1,5 @@
 use Rattle.std.proofs.lemmas.Result.{err_from_is_err_and}
-use Rattle.pw_types.specs.declared.statement_step.Step.TheVariants.{Done}
+use Rattle.pw_types.specs.declared.statement_step.StatementStep.TheVariants.{Done}
 use Rattle.pw_types.proofs.WaitingStatements.{none_wait, at_step, all_done, part_leads, part_stops, part_less, done_leads, done_stops, done_less}
 use Rattle.pw_types.proofs.statement_walk.Walk.statement.Goals as goal
 

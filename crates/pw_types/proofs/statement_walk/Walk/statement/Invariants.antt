@@ -1,8 +1,8 @@
 -- What is still to be done comes to what the whole statement comes to.
 use Rattle.std.proofs.Common.{◌≡◌, ◌+◌, reverse}
 use Rattle.pw_tree.specs.Statements.{statement_of}
-use Rattle.pw_types.specs.CheckingStatements.{outcome_at, of_step, resume}
-use Rattle.pw_types.specs.StatementWeights.{weight_of_frames, weight_of_step}
+use Rattle.pw_types.specs.Steps.CheckingStatements.{outcome_at, of_step, resume}
+use Rattle.pw_types.specs.Steps.StatementWeights.{weight_of_frames, weight_of_step}
 use Rattle.pw_types.proofs.statement_walk.Walk.statement.Given as goal
 
 abbrev pub invariant-parts : goal.invariant-parts

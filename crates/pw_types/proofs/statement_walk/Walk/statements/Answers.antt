@@ -1,7 +1,7 @@
 use Rattle.std.proofs.Common.{ap, ◌∙◌}
 use Rattle.std.proofs.lemmas.Result.{err_from_is_err_and}
 use Rattle.pw_tree.specs.Statements.{Statements, statement_of, statements_of}
-use Rattle.pw_types.specs.CheckingStatements.{sequence_at}
+use Rattle.pw_types.specs.Steps.CheckingStatements.{sequence_at}
 use Rattle.pw_types.proofs.EnteringStatements.{parted}
 use Rattle.pw_types.proofs.StatementSequences.{one_less, one_fails}
 use Rattle.pw_types.proofs.statement_walk.Walk.statements.Goals as goal
@@ -19,4 +19,4 @@ row-preserved c =
     c.row.invariant
     ∙ (ap (λ (ss : Statements). sequence_at c.args.setting.now c.row.self c.row.done ss) parts
     ∙ one_less c.args.setting.now c.row.self c.statement.new.self c.row.done c.push.new.items c.in_ok-command.command (statement_of c.stmt-item.result) _
-    c.in_ok-command.ensures c.in_ok-push.ensures)
+    c.in_ok-command.ensures (rw c.into_inner.ensures at c.in_ok-push.ensures))

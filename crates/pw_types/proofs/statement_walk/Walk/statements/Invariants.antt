@@ -1,7 +1,7 @@
 -- What is left comes to what the whole comes to.
 use Rattle.std.proofs.Common.{◌≡◌, [], length}
 use Rattle.pw_tree.specs.Statements.{statements_of}
-use Rattle.pw_types.specs.CheckingStatements.{sequence_at}
+use Rattle.pw_types.specs.Steps.CheckingStatements.{sequence_at}
 use Rattle.pw_types.proofs.statement_walk.Walk.statements.Given as goal
 
 abbrev pub invariant-row : goal.invariant-row

@@ -1,10 +1,10 @@
 use Rattle.std.proofs.Common.{◌∙◌, sym, ap, subst, None, ◌≡◌}
 use Rattle.std.specs.Map.{lookup}
 use Rattle.pw_types.specs.Scopes.{with_file}
-use Rattle.pw_types.specs.Lookups.{AreKeyed}
+use Rattle.pw_types.specs.Steps.Lookups.{AreKeyed}
 use Rattle.pw_types.proofs.Keys.{bytes}
 use Rattle.pw_types.proofs.KeyedFiles.{HasJoined, also, at_name, joins_known, joins_new}
-use Rattle.pw_types.proofs.files.Files.declare.Goals as goal
+use Rattle.pw_types.proofs.file_scope.FileScope.declare.Goals as goal
 
 known : (c : goal.Joined-file) → HasJoined bytes c.args.file c.self.inside.by_name.entries (c.get_mut.follows.lender (also c.args.file.defined c.in-Some.known.now)).entries
 known c =

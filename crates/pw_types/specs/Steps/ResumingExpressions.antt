@@ -5,27 +5,27 @@ use Rattle.pw_tree.specs.declared.ty.Ty.TheVariants.{Long}
 use Rattle.pw_tree.specs.Expressions.{Expression, Expressions, constant, word, unary, binary, conditional, call, index, input, output, nil, cons, expression_of, expressions_of}
 use Rattle.pw_tree.specs.TypedExpressions.{typed_expression_of}
 use Rattle.pw_types.specs.declared.role.Role.TheVariants.{Value, Callee, Base}
-use Rattle.pw_types.specs.declared.fault.Stop.{Stop}
-use Rattle.pw_types.specs.declared.fault.Stop.TheVariants as stops
+use Rattle.pw_types.specs.declared.fault.Refusal.{Refusal}
+use Rattle.pw_types.specs.declared.fault.Refusal.TheVariants as refusals
 use Rattle.pw_types.specs.declared.typed.Typed.{Typed}
 use Rattle.pw_types.specs.declared.expression_step.Head.{Head}
 use Rattle.pw_types.specs.declared.expression_step.Array as rust_array
-use Rattle.pw_types.specs.declared.expression_step.Target.{Target}
-use Rattle.pw_types.specs.declared.expression_step.Target.TheVariants.{Direct, Through}
+use Rattle.pw_types.specs.declared.expression_step.CallTarget.{CallTarget}
+use Rattle.pw_types.specs.declared.expression_step.CallTarget.TheVariants.{Direct, Through}
 use Rattle.pw_types.specs.declared.expression_step.Call.{Call}
 use Rattle.pw_types.specs.declared.expression_step.Arguments.{Arguments}
 use Rattle.pw_types.specs.declared.expression_step.Parameters.{Parameters}
 use Rattle.pw_types.specs.declared.expression_step.Parameters.TheVariants.{Listed, Longs}
-use Rattle.pw_types.specs.declared.expression_step.Frame.{Frame}
-use Rattle.pw_types.specs.declared.expression_step.Frame.TheVariants.{Operand, Left, Right, Condition, First, Second, Argument, Index, Written}
-use Rattle.pw_types.specs.declared.expression_step.Frame.TheVariants as frames
-use Rattle.pw_types.specs.declared.expression_step.Step.{Step}
-use Rattle.pw_types.specs.declared.expression_step.Step.TheVariants.{Part, Instead, Done}
+use Rattle.pw_types.specs.declared.expression_step.ExpressionFrame.{ExpressionFrame}
+use Rattle.pw_types.specs.declared.expression_step.ExpressionFrame.TheVariants.{Operand, Left, Right, Condition, First, Second, Argument, Index, Written}
+use Rattle.pw_types.specs.declared.expression_step.ExpressionFrame.TheVariants as frames
+use Rattle.pw_types.specs.declared.expression_step.ExpressionStep.{ExpressionStep}
+use Rattle.pw_types.specs.declared.expression_step.ExpressionStep.TheVariants.{Part, Instead, Done}
 use Rattle.pw_types.specs.Scopes.{Scope}
 use Rattle.pw_types.specs.Typed.{Array, array_of, Designated, function_of}
 use Rattle.pw_types.specs.Uses.{uses}
-use Rattle.pw_types.specs.Judging.{JudgeResult, Judge, and_then, ◌>>=◌, pure, refuse, noting, on_option}
-use Rattle.pw_types.specs.CheckingExpressions.{Valued, Aim, named, through, Calling, Taken, unary_value, binary_value, choice_value, element_value, output_value, taking, none_taken, calling, direct_call, pointer_call, checked, checked_arguments}
+use Rattle.pw_types.specs.Steps.Judging.{JudgeResult, Judge, and_then, ◌>>=◌, pure, refuse, noting, on_option}
+use Rattle.pw_types.specs.Steps.CheckingExpressions.{Valued, Aim, named, through, Calling, Taken, unary_value, binary_value, choice_value, element_value, output_value, taking, none_taken, calling, direct_call, pointer_call, checked, checked_arguments}
 
 -- ---- plain values
 
@@ -35,7 +35,7 @@ valued t = record { tree = typed_expression_of t.tree; held = t.held }
 abbrev pub plain_array : rust_array.Array → Array
 plain_array a = record { reference = a.reference; ty = a.ty; size = a.size }
 
-abbrev pub aim_of : Target → Aim
+abbrev pub aim_of : CallTarget → Aim
 aim_of (Direct f ty) = named f ty
 aim_of (Through t) = through (valued t)
 
@@ -75,7 +75,7 @@ index_from scope h b i = on_option (array_of scope b) (checked scope Base b)
 -- ---- frames
 
 -- what comes behind the part that a frame waits for
-abbrev pub resumed : Scope → Frame → Valued → Judge Valued
+abbrev pub resumed : Scope → ExpressionFrame → Valued → Judge Valued
 resumed scope (Operand h op) v = unary_value h op v
 resumed scope (Left h op r) v = checked scope Value (expression_of r.now) >>= binary_value h op v
 resumed scope (Right h op l) v = binary_value h op (valued l) v
@@ -90,43 +90,43 @@ resumed scope (Index h a) v = element_value h (plain_array a) v
 resumed scope (Written h) v = output_value h v
 
 -- the outcome of the whole, where the innermost frame, which is the last, waits for a part of this outcome
-unfoldable pub resume : Scope → List Frame → JudgeResult Valued → JudgeResult Valued
+unfoldable pub resume : Scope → List ExpressionFrame → JudgeResult Valued → JudgeResult Valued
 resume scope [] outcome = outcome
 resume scope (f ∷ fs) outcome = and_then (resume scope fs outcome) (resumed scope f)
 
 -- what a step leads to
-abbrev pub continued : Scope → Step → Judge Valued
+abbrev pub continued : Scope → ExpressionStep → Judge Valued
 continued scope (Part frame role e) = checked scope role (expression_of e.now) >>= resumed scope frame
 continued scope (Instead role e) = checked scope role (expression_of e.now)
 continued scope (Done t) = pure (valued t)
 
 -- what judging gives, or the fault
-abbrev pub Gives : Judge Valued → Result Typed Stop → Type 0
+abbrev pub Gives : Judge Valued → Result Typed Refusal → Type 0
 Gives p (Ok t) = p ≡ pure (valued t)
-Gives p (Err (stops.Fault f)) = p ≡ refuse f
-Gives p (Err stops.NoMemory) = ⊤
+Gives p (Err (refusals.Fault f)) = p ≡ refuse f
+Gives p (Err refusals.NoMemory) = ⊤
 
 -- the same behind the names that were used on the way
-abbrev pub GivesWith : Judge Valued → List ℕ → List ℕ → Result Typed Stop → Type 0
+abbrev pub GivesWith : Judge Valued → List ℕ → List ℕ → Result Typed Refusal → Type 0
 GivesWith p old new (Ok t) = p old ≡ Ok (valued t, new)
-GivesWith p old new (Err (stops.Fault f)) = p old ≡ Err f
-GivesWith p old new (Err stops.NoMemory) = ⊤
+GivesWith p old new (Err (refusals.Fault f)) = p old ≡ Err f
+GivesWith p old new (Err refusals.NoMemory) = ⊤
 
 -- what a step leads to, or the fault
-abbrev pub Continues : Scope → Judge Valued → Result Step Stop → Type 0
+abbrev pub Continues : Scope → Judge Valued → Result ExpressionStep Refusal → Type 0
 Continues scope p (Ok step) = p ≡ continued scope step
-Continues scope p (Err (stops.Fault f)) = p ≡ refuse f
-Continues scope p (Err stops.NoMemory) = ⊤
+Continues scope p (Err (refusals.Fault f)) = p ≡ refuse f
+Continues scope p (Err refusals.NoMemory) = ⊤
 
 -- the same in every scope
-abbrev pub ContinuesInEach : (Scope → Judge Valued) → Result Step Stop → Type 0
+abbrev pub ContinuesInEach : (Scope → Judge Valued) → Result ExpressionStep Refusal → Type 0
 ContinuesInEach p result = (scope : Scope) → Continues scope (p scope) result
 
 -- the same behind the names that were used on the way
-abbrev pub ContinuesWith : Scope → Judge Valued → List ℕ → List ℕ → Result Step Stop → Type 0
+abbrev pub ContinuesWith : Scope → Judge Valued → List ℕ → List ℕ → Result ExpressionStep Refusal → Type 0
 ContinuesWith scope p old new (Ok step) = p old ≡ continued scope step new
-ContinuesWith scope p old new (Err (stops.Fault f)) = p old ≡ Err f
-ContinuesWith scope p old new (Err stops.NoMemory) = ⊤
+ContinuesWith scope p old new (Err (refusals.Fault f)) = p old ≡ Err f
+ContinuesWith scope p old new (Err refusals.NoMemory) = ⊤
 
 -- ---- how much is still to be done
 
@@ -146,7 +146,7 @@ unfoldable mutual
   sizes nil = 0
   sizes (cons e es) = 2 + (size e + sizes es)
 
-abbrev pub frame_size : Frame → ℕ
+abbrev pub frame_size : ExpressionFrame → ℕ
 frame_size (Operand h op) = 1
 frame_size (Left h op r) = 2 + size (expression_of r.now)
 frame_size (Right h op l) = 1
@@ -158,11 +158,11 @@ frame_size (Argument c taken params rest) = 1 + sizes (expressions_of rest.now)
 frame_size (Index h a) = 1
 frame_size (Written h) = 1
 
-abbrev pub step_size : Step → ℕ
+abbrev pub step_size : ExpressionStep → ℕ
 step_size (Part frame role e) = frame_size frame + size (expression_of e.now)
 step_size (Instead role e) = size (expression_of e.now)
 step_size (Done t) = 0
 
-unfoldable pub frames_size : List Frame → ℕ
+unfoldable pub frames_size : List ExpressionFrame → ℕ
 frames_size [] = 0
 frames_size (f ∷ fs) = frame_size f + frames_size fs

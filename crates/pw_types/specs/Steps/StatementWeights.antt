@@ -1,11 +1,11 @@
 -- How much is still to be done of a statement: each step leaves less.
 use Rattle.std.specs.Prelude.{ℕ, suc, ◌+◌, List, [], ◌∷◌, option_map}
 use Rattle.pw_tree.specs.Statements.{Statement, Statements, OptionalStatement, empty, block, local, set, evaluate, if_else, while_loop, do_loop, for_loop, returns, breaks, continues, nil, cons, absent, present, optional_statement, statement_of, statements_of}
-use Rattle.pw_types.specs.declared.statement_step.Frame.{Frame}
-use Rattle.pw_types.specs.declared.statement_step.Form.{Form}
-use Rattle.pw_types.specs.declared.statement_step.Form.TheVariants as forms
-use Rattle.pw_types.specs.declared.statement_step.Step.{Step}
-use Rattle.pw_types.specs.declared.statement_step.Step.TheVariants as steps
+use Rattle.pw_types.specs.declared.statement_step.StatementFrame.{StatementFrame}
+use Rattle.pw_types.specs.declared.statement_step.StatementForm.{StatementForm}
+use Rattle.pw_types.specs.declared.statement_step.StatementForm.TheVariants as forms
+use Rattle.pw_types.specs.declared.statement_step.StatementStep.{StatementStep}
+use Rattle.pw_types.specs.declared.statement_step.StatementStep.TheVariants as steps
 
 unfoldable mutual
   -- a statement is entered, and left behind each of its parts
@@ -32,7 +32,7 @@ unfoldable mutual
   weight_of_maybe (present s) = weight s
 
 -- what is left behind the part that the statement waits for
-abbrev pub weight_of_form : Form → ℕ
+abbrev pub weight_of_form : StatementForm → ℕ
 weight_of_form (forms.Block done rest) = 1 + weight_of_all (statements_of rest.now)
 weight_of_form (forms.Then c d) = 2 + weight_of_maybe (optional_statement (option_map statement_of d.now))
 weight_of_form (forms.Else c a) = 1
@@ -42,10 +42,10 @@ weight_of_form (forms.First c last s) = weight_of_maybe (optional_statement (opt
 weight_of_form (forms.Last first c s) = weight (statement_of s.now) + 2
 weight_of_form (forms.For first c last) = 1
 
-abbrev pub weight_of_step : Step → ℕ
+abbrev pub weight_of_step : StatementStep → ℕ
 weight_of_step (steps.Part f x s) = weight_of_form f.form + weight (statement_of s.now)
 weight_of_step (steps.Done t) = 0
 
-unfoldable pub weight_of_frames : List Frame → ℕ
+unfoldable pub weight_of_frames : List StatementFrame → ℕ
 weight_of_frames [] = 0
 weight_of_frames (f ∷ fs) = weight_of_form f.form + weight_of_frames fs

@@ -9,23 +9,24 @@ use Rattle.pw_tree.specs.declared.stmt.Stmt.{Stmt}
 use Rattle.pw_tree.specs.declared.tstmt.TStmt.{TStmt}
 use Rattle.pw_types.specs.declared.role.Role.TheVariants as roles
 use Rattle.pw_types.specs.declared.fault.Fault.{Fault}
-use Rattle.pw_types.specs.declared.fault.Stop.{Stop}
-use Rattle.pw_types.specs.declared.fault.Stop.TheVariants as stops
+use Rattle.pw_types.specs.declared.fault.Refusal.{Refusal}
+use Rattle.pw_types.specs.declared.fault.Refusal.TheVariants as refusals
 use Rattle.pw_types.specs.declared.statement_walk.Walk.{Walk}
-use Rattle.pw_types.specs.declared.statement_step.Span.{Span}
+use Rattle.pw_types.specs.declared.statement_step.StatementSpan.{StatementSpan}
 use Rattle.pw_types.specs.declared.statement_step.Setting.{Setting as Given}
 use Rattle.pw_types.specs.declared.statement_step.Outer.{Outer}
-use Rattle.pw_types.specs.declared.statement_step.Frame.{Frame}
-use Rattle.pw_types.specs.declared.statement_step.Form.{Form}
-use Rattle.pw_types.specs.declared.statement_step.Form.TheVariants as forms
-use Rattle.pw_types.specs.declared.statement_step.Step.{Step}
-use Rattle.pw_types.specs.declared.statement_step.Step.TheVariants as steps
+use Rattle.pw_types.specs.declared.statement_step.StatementFrame.{StatementFrame}
+use Rattle.pw_types.specs.declared.statement_step.StatementForm.{StatementForm}
+use Rattle.pw_types.specs.declared.statement_step.StatementForm.TheVariants as forms
+use Rattle.pw_types.specs.declared.statement_step.StatementStep.{StatementStep}
+use Rattle.pw_types.specs.declared.statement_step.StatementStep.TheVariants as steps
 use Rattle.pw_types.specs.Faults.{first_of}
 use Rattle.pw_tree.specs.Held.{held, held_option, held_by, held_by_all, held_by_maybe}
 use Rattle.pw_types.specs.Uses.{uses}
 use Rattle.pw_types.specs.Blocks.{Setting, part, body, head, Block, behind, behind_maybe, locals_in_all, uses_of_option, uses_by, uses_by_all, uses_by_maybe}
 use Rattle.pw_types.specs.Statements.{faults_of_whole, faults_of_option, faults_by, faults_by_all, faults_by_maybe}
 use Rattle.pw_types.specs.TypedStatements.{typed_expression, typed_statement, typed_statements, optional_typed_statement}
+use Rattle.pw_types.specs.Steps.Refusals.{Fails}
 
 -- ---- what a statement comes to
 
@@ -133,7 +134,7 @@ abbrev pub typed_maybe : Option TStmt → command.OptionalTypedStatement
 typed_maybe t = command.optional_typed_statement (option_map command.typed_statement_of t)
 
 -- what a statement comes to whose part, for which it waits, comes to `w`
-abbrev pub resumed_form : Setting → (Block → Block) → Form → WalkResult → WalkResult
+abbrev pub resumed_form : Setting → (Block → Block) → StatementForm → WalkResult → WalkResult
 resumed_form x out (forms.Block done rest) w = rest_of_block x out (map command.typed_statement_of done) (statements_of rest.now) w
 resumed_form x out (forms.Then c d) w = rest_of_if x out (typed_expression_of c) (optional_statement (option_map statement_of d.now)) w
 resumed_form x out (forms.Else c a) w =
@@ -151,20 +152,20 @@ resumed_form x out (forms.For first c last) w =
 abbrev pub setting_of : Given → Setting
 setting_of x = record { result = x.result; lines = x.lines.now; in_loop = x.in_loop; in_head = x.in_head }
 
-abbrev pub resumed_at : Outer → Form → WalkResult → WalkResult
+abbrev pub resumed_at : Outer → StatementForm → WalkResult → WalkResult
 resumed_at o form w = resumed_form (setting_of o.setting) (leave o.start o.visible) form w
 
-abbrev pub resumed : Frame → WalkResult → WalkResult
+abbrev pub resumed : StatementFrame → WalkResult → WalkResult
 resumed f w = resumed_at f.outer f.form w
 
 -- the same for statements in one another, the innermost first
-unfoldable pub resume : List Frame → WalkResult → WalkResult
+unfoldable pub resume : List StatementFrame → WalkResult → WalkResult
 resume [] w = w
 resume (f ∷ fs) w = resume fs (resumed f w)
 
 -- ---- what judging answers
 
-abbrev pub place_of : Span → Span
+abbrev pub place_of : StatementSpan → Span
 place_of at = record { first = at.first; last = at.last; line = at.line }
 
 abbrev pub block_of : Walk → Block
@@ -197,33 +198,29 @@ pub record Leaves (o : Outer) (old new : Walk) : Type 0 where
   pub used : new.used.items ≡ old.used.items
   pub held : new.held ≡ old.held
 
--- exactly the first fault; want of memory says nothing
-abbrev pub Fails : List Fault → Stop → Type 0
-Fails faults (stops.Fault f) = first_of faults ≡ Some f
-Fails faults stops.NoMemory = ⊤
-
 -- judged without fault, which leads to this state, or the first fault
-abbrev pub Finishes : WalkResult → Walk → Result TStmt Stop → Type 0
+abbrev pub Finishes : WalkResult → Walk → Result TStmt Refusal → Type 0
 Finishes w new (Ok t) = w ≡ judged_at (command.typed_statement_of t) new
 Finishes w new (Err stop) = Fails w.faults stop
 
 -- what is still to be done comes to this
-abbrev pub of_step : Step → Walk → WalkResult
+abbrev pub of_step : StatementStep → Walk → WalkResult
 of_step (steps.Part f x s) w = resumed f (outcome_at x w (statement_of s.now))
 of_step (steps.Done t) w = judged_at (command.typed_statement_of t) w
 
-abbrev pub Leads : WalkResult → Walk → Step → Type 0
+abbrev pub Leads : WalkResult → Walk → StatementStep → Type 0
 Leads w new step = w ≡ of_step step new
 
 -- one step further, which leads to this state, or the first fault
-abbrev pub Steps : WalkResult → Walk → Result Step Stop → Type 0
+abbrev pub Steps : WalkResult → Walk → Result StatementStep Refusal → Type 0
 Steps w new (Ok step) = Leads w new step
 Steps w new (Err stop) = Fails w.faults stop
 
--- a statement that is judged as a whole
-abbrev pub done : Result TStmt Stop → Result Step Stop
-done (Ok t) = Ok (steps.Done t)
-done (Err stop) = Err stop
+-- a statement that is judged as a whole leaves nothing to be done; out of memory may come in its place
+abbrev pub IsWhole : Result TStmt Refusal → Result StatementStep Refusal → Type 0
+IsWhole (Ok t) (Ok step) = step ≡ steps.Done t
+IsWhole (Ok t) (Err stop) = stop ≡ refusals.NoMemory
+IsWhole (Err stop) result = result ≡ Err stop
 
 -- ---- statements in a row
 
@@ -249,6 +246,6 @@ abbrev pub sequence_at : Given → Walk → List TStmt → Statements → Sequen
 sequence_at x w done ss = sequence (setting_of x) (block_of w) w.used.items w.held (map command.typed_statement_of done) ss
 
 -- statements that are judged without fault, which leads to this state, or the first fault
-abbrev pub FinishesAll : Given → Statements → (old new : Walk) → Result (List TStmt) Stop → Type 0
+abbrev pub FinishesAll : Given → Statements → (old new : Walk) → Result (List TStmt) Refusal → Type 0
 FinishesAll x ss old new (Ok ts) = sequence_at x old [] ss ≡ sequence_at x new ts nil
 FinishesAll x ss old new (Err stop) = Fails (faults_by_all (setting_of x) (block_of old) ss) stop

@@ -1,14 +1,14 @@
 -- What judging an expression and the statements of a body answers.
-use Rattle.std.specs.Prelude.{◌≡◌, ℕ, ◌+◌, min, List, ◌++◌, Some, Result}
+use Rattle.std.specs.Prelude.{suc, ◌≡◌, ℕ, ◌+◌, min, List, ◌++◌, Some, Result}
+use Rattle.pw_base.specs.Limits as limits
 use Rattle.pw_tree.specs.Expressions.{Expression}
 use Rattle.pw_tree.specs.Statements.{Statements}
 use Rattle.pw_tree.specs.TypedExpressions.{typed_expression_of}
 use Rattle.pw_tree.specs.TypedStatements as trees
 use Rattle.pw_types.specs.declared.role.Role.{Role}
-use Rattle.pw_types.specs.declared.fault.Stop.{Stop}
+use Rattle.pw_types.specs.declared.fault.Refusal.{Refusal}
 use Rattle.pw_types.specs.declared.typed.Typed.{Typed}
 use Rattle.pw_types.specs.declared.typed.Body.{Body}
-use Rattle.pw_types.specs.Faults.{Judges}
 use Rattle.pw_types.specs.Scopes.{Scope}
 use Rattle.pw_tree.specs.Held.{held, held_by_all}
 use Rattle.pw_types.specs.Typed.{typed}
@@ -17,14 +17,15 @@ use Rattle.pw_types.specs.Expressions.{faults}
 use Rattle.pw_types.specs.Blocks.{Setting, Block, locals_in_all, uses_by_all}
 use Rattle.pw_types.specs.Statements.{faults_by_all}
 use Rattle.pw_types.specs.TypedStatements.{typed_statements}
+use Rattle.pw_types.specs.Steps.Refusals.{Judges}
 
 -- the expression's typed tree, and what it holds; the names that it uses were noted behind the others
 pub record IsTypedTree (scope : Scope) (e : Expression) (old new : List ℕ) (t : Typed) : Type 0 where
   pub tree : typed scope e ≡ Some (typed_expression_of t.tree)
-  pub held : t.held ≡ min (held (typed_expression_of t.tree)) 101
+  pub held : t.held ≡ min (held (typed_expression_of t.tree)) (suc limits.held_values)
   pub used : new ≡ old ++ uses scope e
 
-abbrev pub JudgesExpression : Scope → Role → Expression → (old new : List ℕ) → Result Typed Stop → Type 0
+abbrev pub JudgesExpression : Scope → Role → Expression → (old new : List ℕ) → Result Typed Refusal → Type 0
 JudgesExpression scope role e old new = Judges (faults scope role e) (IsTypedTree scope e old new)
 
 -- the typed statements of a body, and how many locals the function has behind them
@@ -34,5 +35,5 @@ pub record IsTypedBody (x : Setting) (b : Block) (ss : Statements) (old new : Li
   pub count : body.count ≡ b.count + locals_in_all ss
   pub used : new ≡ old ++ uses_by_all b ss
 
-abbrev pub JudgesBody : Setting → Block → Statements → (old new : List ℕ) → Result Body Stop → Type 0
+abbrev pub JudgesBody : Setting → Block → Statements → (old new : List ℕ) → Result Body Refusal → Type 0
 JudgesBody x b ss old new = Judges (faults_by_all x b ss) (IsTypedBody x b ss old new)

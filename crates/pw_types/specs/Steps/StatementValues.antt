@@ -5,9 +5,9 @@ use Rattle.pw_tree.specs.Expressions.{Expression}
 use Rattle.pw_tree.specs.TypedExpressions.{typed_expression_of}
 use Rattle.pw_tree.specs.declared.texpr.TExpr.{TExpr}
 use Rattle.pw_types.specs.declared.role.Role.{Role}
-use Rattle.pw_types.specs.declared.fault.Stop.{Stop}
+use Rattle.pw_types.specs.declared.fault.Refusal.{Refusal}
 use Rattle.pw_types.specs.declared.statement_walk.Walk.{Walk}
-use Rattle.pw_types.specs.Faults.{Judges, broken}
+use Rattle.pw_types.specs.Faults.{broken}
 use Rattle.pw_types.specs.Expressions.{faults}
 use Rattle.pw_types.specs.declared.rule.Rule.TheVariants as rules
 use Rattle.pw_tree.specs.Held.{held, held_option}
@@ -16,6 +16,7 @@ use Rattle.pw_types.specs.Typed.{typed}
 use Rattle.pw_types.specs.Blocks.{uses_of_option, with_local}
 use Rattle.pw_types.specs.Statements.{faults_of_whole, faults_of_option, holds_too_many}
 use Rattle.pw_types.specs.TypedStatements.{typed_expression}
+use Rattle.pw_types.specs.Steps.Refusals.{Judges}
 
 -- What an expression leaves of the state: nothing declared, its names noted, and what it holds.
 pub record Notes (uses : List ℕ) (most : ℕ) (old new : Walk) : Type 0 where
@@ -29,13 +30,13 @@ pub record IsValue (e : Expression) (old new : Walk) (t : TExpr) : Type 0 where
   pub tree : typed old.scope e ≡ Some (typed_expression_of t)
   pub notes : Notes (uses old.scope e) (held (typed_expression_of t)) old new
 
--- an expression with nothing round it, and the token to blame where it holds more than 100 values
-abbrev pub JudgesWhole : Role → Expression → ℕ → (old new : Walk) → Result TExpr Stop → Type 0
+-- an expression with nothing round it, and the token to blame where it holds too many values
+abbrev pub JudgesWhole : Role → Expression → ℕ → (old new : Walk) → Result TExpr Refusal → Type 0
 JudgesWhole role e end old new =
     Judges (faults old.scope role e ++ broken rules.TooDeep end (holds_too_many (typed old.scope e))) (IsValue e old new)
 
--- a whole expression of a statement, which holds at most 100 values
-abbrev pub JudgesValue : Role → Expression → (old new : Walk) → Result TExpr Stop → Type 0
+-- a whole expression of a statement, which holds no more values than may be held at once
+abbrev pub JudgesValue : Role → Expression → (old new : Walk) → Result TExpr Refusal → Type 0
 JudgesValue role e old new = Judges (faults_of_whole old.scope role e) (IsValue e old new)
 
 pub record IsMaybeValue (e : Option Expression) (old new : Walk) (t : Option TExpr) : Type 0 where
@@ -43,7 +44,7 @@ pub record IsMaybeValue (e : Option Expression) (old new : Walk) (t : Option TEx
   pub notes : Notes (uses_of_option old.scope e) (held_option (option_map typed_expression_of t)) old new
 
 -- the same where there is one
-abbrev pub JudgesMaybeValue : Role → Option Expression → (old new : Walk) → Result (Option TExpr) Stop → Type 0
+abbrev pub JudgesMaybeValue : Role → Option Expression → (old new : Walk) → Result (Option TExpr) Refusal → Type 0
 JudgesMaybeValue role e old new = Judges (faults_of_option old.scope role e) (IsMaybeValue e old new)
 
 -- a local joins those that are visible, and has the number of those before it

@@ -1,5 +1,6 @@
 -- Judging an expression from left to right: its parts first, and then what its form and its place ask of it.
-use Rattle.std.specs.Prelude.{ℕ, ◌+◌, max, min, Bool, false, ◌&&◌, not, if◌then◌else◌, List, [], ◌∷◌, ◌++◌, length, replicate, Option, Some, None, nat_eq}
+use Rattle.std.specs.Prelude.{suc, ℕ, ◌+◌, max, min, Bool, false, ◌&&◌, not, if◌then◌else◌, List, [], ◌∷◌, ◌++◌, length, replicate, Option, Some, None, nat_eq}
+use Rattle.pw_base.specs.Limits as limits
 use Rattle.pw_tree.specs.declared.ty.Ty.{Ty}
 use Rattle.pw_tree.specs.declared.ty.Ty.TheVariants.{Void, Long, Ulong, Fn}
 use Rattle.pw_tree.specs.declared.ty.Ref.{Ref}
@@ -24,17 +25,17 @@ use Rattle.pw_types.specs.Typed.{Array, array_of, Designated, function_of, const
 use Rattle.pw_tree.specs.TypedExpressions.{type_of}
 use Rattle.pw_types.specs.Expressions.{is_base, is_callee, needs_value, first_parameter, how_many}
 use Rattle.pw_types.specs.Uses.{file_number, uses}
-use Rattle.pw_types.specs.Judging.{Judge, ◌>>=◌, pure, refuse, noting, on_option}
+use Rattle.pw_types.specs.Steps.Judging.{Judge, ◌>>=◌, pure, refuse, noting, on_option}
 
 -- ---- what is judged
 
--- A typed tree, and how many values it holds at a time, or 101 where these are more.
+-- A typed tree, and how many values it holds at a time, or one more than the limit where these are more.
 pub record Valued : Type 0 where
   pub tree : TypedExpression
   pub held : ℕ
 
 abbrev pub capped : ℕ → ℕ
-capped n = min n 101
+capped n = min n (suc limits.held_values)
 
 -- what is known of an expression in its role
 abbrev pub head : Role → Span → Head
@@ -189,16 +190,16 @@ pub record Calling : Type 0 where
 
 -- Arguments that were judged, and how many values they hold at a time.
 pub record Taken : Type 0 where
-  pub typed_expressions : List TypedExpression
+  pub trees : List TypedExpression
   pub held : ℕ
 
 abbrev pub none_taken : Taken
-none_taken = record { typed_expressions = []; held = 0 }
+none_taken = record { trees = []; held = 0 }
 
 -- arguments are held as they come, and a call holds them all
 abbrev pub taking : Taken → Valued → Taken
 taking taken v = record {
-  typed_expressions = taken.trees ++ v.tree ∷ [];
+  trees = taken.trees ++ v.tree ∷ [];
   held = max taken.held (capped (length taken.trees + max v.held 1));
 }
 

@@ -1,14 +1,15 @@
 //! A declaration up to its declarator's end: its name, its parameters and its size.
 ghost use Rattle.std.specs.Prelude.{◌≡◌, ◌≤◌, ⊤, [], length, option_copied};
+ghost use Rattle.pw_base.specs.Limits as limits;
 ghost use Rattle.pw_tree.specs.Declarations.{declaration_form_of, declaration_of};
 ghost use Rattle.pw_tree.specs.Placed.{HasTypes};
-ghost use Rattle.pw_types.specs.Faults.{Judges};
 ghost use Rattle.pw_types.specs.Scopes.{file_named};
-ghost use Rattle.pw_types.specs.CheckingDeclarations.{faults_of_name, faults_of_declarator, faults_in_parameters, faults_of_head, Fits, AreLocals};
+ghost use Rattle.pw_types.specs.Steps.CheckingDeclarations.{faults_of_name, faults_of_declarator, faults_in_parameters, faults_of_head, Fits, AreLocals};
+ghost use Rattle.pw_types.specs.Steps.Refusals.{Judges};
 
 use crate::declared::{conflicts, is_redefined, is_too_large};
-use crate::fault::Stop;
-use crate::files::Files;
+use crate::fault::Refusal;
+use crate::file_scope::FileScope;
 use crate::names::{File, Local};
 use crate::parameter::{judge_declared, judge_defined};
 use crate::refuse::{refuse_if, refuse_name_if};
@@ -18,7 +19,7 @@ use pw_tree::{Decl, DeclKind};
 use std::alloc::Global;
 
 /// The earlier declaration of a name.
-fn earlier<'a>(files: &'a Files, name: &[u8]) -> Option<&'a File>
+fn earlier<'a>(files: &'a FileScope, name: &[u8]) -> Option<&'a File>
     ensures { option_copied result ≡ file_named name.now files.now }
 {
     match files.find(name) {
@@ -28,7 +29,7 @@ fn earlier<'a>(files: &'a Files, name: &[u8]) -> Option<&'a File>
 }
 
 /// The first fault of a declaration's name.
-fn judge_name(alloc: Global, before: Option<&File>, d: &Decl) -> Result<(), Stop>
+fn judge_name(alloc: Global, before: Option<&File>, d: &Decl) -> Result<(), Refusal>
     ensures { Judges (faults_of_name (option_copied before.entry) (declaration_of d.now)) (λ _. ⊤) result }
 {
     let is_redefined = is_redefined(d, before);
@@ -39,7 +40,7 @@ fn judge_name(alloc: Global, before: Option<&File>, d: &Decl) -> Result<(), Stop
 
 /// The locals that a declaration's parameters are, or their first fault.
 #[tactic(auto, using(crate::proofs::Parameters::few_parameters), unfolding(crate::specs::Declarations::faults_of_parameters))]
-fn judge_parameters(alloc: Global, kind: &DeclKind) -> Result<Vec<Local>, Stop>
+fn judge_parameters(alloc: Global, kind: &DeclKind) -> Result<Vec<Local>, Refusal>
     requires { HasTypes (declaration_form_of kind.now) }
     ensures { Judges (faults_in_parameters (declaration_form_of kind.now)) (λ locals. AreLocals (declaration_form_of kind.now) locals.items) result }
 {
@@ -59,8 +60,8 @@ fn judge_declarator(
     before: Option<&File>,
     elements: u64,
     d: &Decl,
-) -> Result<(), Stop>
-    requires { elements ≤ 262144 }
+) -> Result<(), Refusal>
+    requires { elements ≤ limits.module_elements }
     ensures { Judges (faults_of_declarator (option_copied before.entry) elements (declaration_of d.now)) (λ _. Fits elements (declaration_of d.now)) result }
 {
     refuse_name_if(
@@ -76,12 +77,12 @@ fn judge_declarator(
 /// The first fault of a declaration up to its declarator's end, or the locals that its parameters are.
 pub(crate) fn judge_head(
     alloc: Global,
-    files: &Files,
+    files: &FileScope,
     elements: u64,
     d: &Decl,
-) -> Result<Vec<Local>, Stop>
+) -> Result<Vec<Local>, Refusal>
     requires types { HasTypes (declaration_form_of d.now.kind) }
-    requires room { elements ≤ 262144 }
+    requires room { elements ≤ limits.module_elements }
     ensures { Judges (faults_of_head files.now elements (declaration_of d.now)) (λ locals. AreLocals (declaration_form_of d.now.kind) locals.items × Fits elements (declaration_of d.now)) result }
 {
     let before = earlier(files, d.name.bytes());

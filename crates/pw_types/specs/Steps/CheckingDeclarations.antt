@@ -1,5 +1,6 @@
 -- The parts of a declaration, in the order in which they are judged.
 use Rattle.std.specs.Prelude.{◌≡◌, ℕ, suc, ◌+◌, ◌≤◌, Bool, true, false, ◌||◌, List, [], ◌∷◌, ◌++◌, length, Option, option_map}
+use Rattle.pw_base.specs.Limits as limits
 use Rattle.pw_tree.specs.declared.ty.Ty.{Ty}
 use Rattle.pw_tree.specs.declared.ty.Sig.{Sig}
 use Rattle.pw_tree.specs.declared.tunit.TVar.{TVar}
@@ -68,12 +69,12 @@ faults_of_head files elements d =
 -- the size that is declared is none that is refused, nor are the unit's elements with it
 pub record Fits (elements : ℕ) (d : Declaration) : Type 0 where
   pub size : has_bad_size d.form ≡ false
-  pub room : elements + elements_of d ≤ 262144
+  pub room : elements + elements_of d ≤ limits.module_elements
 
--- these are the locals that its parameters are, and it has at most 6 parameters
+-- these are the locals that its parameters are, and it has no more parameters than a function may have
 pub record AreLocals (form : DeclarationForm) (locals : List Local) : Type 0 where
   pub are : locals ≡ locals_in form
-  pub few : length (parameters_in form) ≤ 6
+  pub few : length (parameters_in form) ≤ limits.parameters
 
 -- ---- initialisers
 

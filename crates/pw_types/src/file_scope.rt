@@ -1,7 +1,7 @@
 //! The names at file level.
 ghost use Rattle.std.specs.Prelude.{◌≡◌, [], OnOk};
 ghost use Rattle.pw_types.specs.Scopes.{with_file};
-ghost use Rattle.pw_types.specs.Lookups.{Finds};
+ghost use Rattle.pw_types.specs.Steps.Lookups.{Finds};
 
 use crate::names::File;
 use indexmap::IndexMap;
@@ -13,15 +13,15 @@ use std::marker::Model;
 ///
 /// A name is looked up by the hash of its bytes, which are the keys.
 #[derive(Drop)]
-pub struct Files {
+pub struct FileScope {
     by_name: IndexMap<Vec<u8>, File>,
 }
 
-impl Model for Files {
+impl Model for FileScope {
     ghost use Rattle.std.specs.Prelude.{List};
     ghost use Rattle.pw_types.specs.declared.names.File.{File as Declared};
     ghost use Rattle.indexmap.specs.IndexMap.{values};
-    ghost use Rattle.pw_types.specs.Lookups.{AreKeyed};
+    ghost use Rattle.pw_types.specs.Steps.Lookups.{AreKeyed};
 
     ghost Value = { List Declared };
 
@@ -30,12 +30,12 @@ impl Model for Files {
     ghost invariant = { λ files. AreKeyed (λ key. key.items) files.by_name.entries };
 }
 
-impl Files {
+impl FileScope {
     /// No names.
-    pub fn new(alloc: Global) -> Files
+    pub fn new(alloc: Global) -> FileScope
         ensures { result ≡ [] }
     {
-        Files {
+        FileScope {
             by_name: IndexMap::new(alloc),
         }
     }

@@ -3,7 +3,7 @@ use Rattle.pw_types.specs.Scopes.{file_named}
 use Rattle.pw_types.specs.Uses.{file_number}
 use Rattle.pw_types.proofs.Keys.{bytes}
 use Rattle.pw_types.proofs.KeyedFiles.{found, placed}
-use Rattle.pw_types.proofs.files.Files.find.Goals as goal
+use Rattle.pw_types.proofs.file_scope.FileScope.find.Goals as goal
 
 pub returns-in-Some : goal.returns-in-Some
 returns-in-Some c =

@@ -1,0 +1,15 @@
+pub mod Refusals
+pub mod Operations
+pub mod Judging
+pub mod Words
+pub mod CheckingExpressions
+pub mod ResumingExpressions
+pub mod Lookups
+pub mod Judged
+pub mod CheckingDeclarations
+pub mod CheckingUnits
+pub mod Texts
+pub mod CheckingStatements
+pub mod StatementWeights
+pub mod StatementValues
+pub mod StatementTargets
