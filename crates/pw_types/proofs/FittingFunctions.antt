@@ -25,7 +25,7 @@ use Rattle.pw_types.specs.Blocks.{Setting, part, body, head, Block, inner, behin
 use Rattle.pw_types.specs.Statements.{faults_by_all}
 use Rattle.pw_types.specs.Declarations.{signature, local_of, locals_of, faults_of_parameters, outermost, setting, Whole, file_scope}
 use Rattle.pw_types.specs.Units.{typed_function}
-use Rattle.pw_types.specs.Texts.{HasText}
+use Rattle.pw_types.specs.Steps.Texts.{HasText}
 use Rattle.pw_types.proofs.Parameters.{few_parameters}
 use Rattle.pw_types.proofs.Fitting.{AreAmong, LocalsFit, FilesFit}
 use Rattle.pw_types.proofs.SoundStatements.{IsSound, AreSound, IsMaybeSound, statements_sound}

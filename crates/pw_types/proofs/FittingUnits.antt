@@ -25,7 +25,7 @@ use Rattle.pw_types.specs.Scopes.{Scope, file_named, number_of, function_referen
 use Rattle.pw_types.specs.Uses.{file_number}
 use Rattle.pw_types.specs.Declarations.{Whole, file_scope, is_external, is_extern, defines, kind_of, first_of, declared_by}
 use Rattle.pw_types.specs.Units.{function_in, variable_in, without, each_once, functions_of, variables_of, whole_of, files_behind, is_function, lacks_definition, faults_of_lacking, typed_functions_of, typed_variable, typed_variables_of, typed_functions, typed_variables, text_of_kind, is_kept, external_names, uses_of_declarations, faults_of, faults_of_declarations, typed_unit}
-use Rattle.pw_types.specs.Texts.{HasText, HaveTexts}
+use Rattle.pw_types.specs.Steps.Texts.{HasText, HaveTexts}
 use Rattle.pw_types.proofs.Fitting.{IsAmong, FilesFit}
 use Rattle.pw_types.proofs.JoinedFiles.{bytes_same, names_of, Stays, stays}
 use Rattle.pw_types.proofs.NamedTexts.{text_of_name, text_of_file}

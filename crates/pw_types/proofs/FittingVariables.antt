@@ -31,7 +31,7 @@ use Rattle.pw_types.specs.Uses.{uses_of_meaning, uses_of_name, file_number}
 use Rattle.pw_types.specs.Declarations as declarations
 use Rattle.pw_types.specs.Declarations.{is_extern, defines, elements_of_form, elements_of, is_too_large, points_to, does_not_initialise, name_in, is_unknown_name, is_wrong_element, faults_of_element, faults_of_elements, faults_of_initialiser, uses_of_element, uses_of_elements, uses_of_initialiser, Whole, file_scope, declared_by, faults_of_declaration}
 use Rattle.pw_types.specs.Units.{designated_or, element_of, elements_in, typed_variable, typed_variables_of, typed_variables, faults_of_declarations}
-use Rattle.pw_types.specs.Texts.{HasText}
+use Rattle.pw_types.specs.Steps.Texts.{HasText}
 use Rattle.pw_types.proofs.Empty.{front_empty, back_empty}
 use Rattle.pw_types.proofs.NoFaults.{or_left, or_right, not_broken}
 use Rattle.pw_types.proofs.Fitting.{IsAmong, AreAmong, among_left, among_right, own_file, FilesFit}

@@ -11,7 +11,7 @@ use Rattle.pw_types.specs.declared.names.File.{File}
 use Rattle.pw_types.specs.Scopes.{file_named}
 use Rattle.pw_types.specs.Uses.{file_number}
 use Rattle.pw_types.specs.Units.{text_of_kind, is_kept, external_names}
-use Rattle.pw_types.specs.Texts.{HasText, HaveTexts}
+use Rattle.pw_types.specs.Steps.Texts.{HasText, HaveTexts}
 use Rattle.pw_types.proofs.TypeTexts.{kind_text}
 use Rattle.pw_types.proofs.JoinedFiles.{names_of}
 

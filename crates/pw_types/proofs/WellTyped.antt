@@ -16,7 +16,7 @@ use Rattle.pw_types.specs.declared.names.Kind.{Kind}
 use Rattle.pw_types.specs.declared.names.File.{File}
 use Rattle.pw_types.specs.Declarations.{is_extern, kind_of, parameters_in, is_definition_of_function, faults_of_parameters, faults_of_form, uses_of_form, elements_of, Whole, file_scope, declared_by, faults_of_declaration}
 use Rattle.pw_types.specs.Units.{whole_of, files_behind, faults_of_declarations, lacks_definition, faults_of_lacking, faults_of, typed_variable, typed_functions_of, typed_variables_of, typed_functions, typed_variables, uses_of_declarations, external_names, typed_unit}
-use Rattle.pw_types.specs.Texts.{HasText, HaveTexts}
+use Rattle.pw_types.specs.Steps.Texts.{HasText, HaveTexts}
 use Rattle.pw_types.specs.Laws.{UnitsWithoutFaultsAreWellTyped}
 use Rattle.pw_types.proofs.Empty.{front_empty, back_empty}
 use Rattle.pw_types.proofs.UnitTexts.{declaration_text, texts_behind}
