@@ -55,3 +55,6 @@ pub mod Typed
 pub mod Written
 pub mod Weighed
 pub mod Exports
+pub mod SmallTokens
+pub mod ProperStatements
+pub mod ReadUnits

@@ -52,13 +52,13 @@ stands_output : (at m count : ℕ) (t : Token) (a : tree.Expression) → count �
     → Stands at count (tree.output (place at count t) a)
 unfolding IsPlaced
 stands_output at m count t a e s = stands_by at count t _ refl (omega (arith, e))
-    (λ low high w. (w, s.placed at (at + count - 1) (omega arith) (omega (arith, e))))
+    (λ low high w. (w, s.placed (suc at) (at + count - 1) (omega arith) (omega (arith, e))))
 
 stands_unary : (at m count : ℕ) (t : Token) (op : Un) (a : tree.Expression) → count ≡ suc m → Stands (suc at) m a
     → Stands at count (tree.unary (place at count t) op a)
 unfolding IsPlaced
 stands_unary at m count t op a e s = stands_by at count t _ refl (omega (arith, e))
-    (λ low high w. (w, s.placed at (at + count - 1) (omega arith) (omega (arith, e))))
+    (λ low high w. (w, s.placed (suc at) (at + count - 1) (omega arith) (omega (arith, e))))
 
 stands_binary : (at m n count : ℕ) (t : Token) (op : Bin) (a b : tree.Expression) → count ≡ m + suc n → Stands at m a
     → Stands (suc (at + m)) n b → Stands at count (tree.binary (place at count t) op a b)
@@ -67,7 +67,7 @@ stands_binary at m n count t op a b e s r = stands_by at count t _ refl (omega (
     (λ low high w. (
       w,
       s.placed at (at + count - 1) (omega arith) (omega (arith, e)),
-      r.placed (behind a) (at + count - 1) (omega (arith, s.to)) (omega (arith, e)),
+      r.placed (suc (behind a)) (at + count - 1) (omega (arith, s.to)) (omega (arith, e)),
     ))
 
 stands_conditional : (at m n k count : ℕ) (t : Token) (c a b : tree.Expression) → count ≡ m + suc (n + suc k) → Stands at m c
@@ -77,8 +77,8 @@ stands_conditional at m n k count t c a b e s r q = stands_by at count t _ refl 
     (λ low high w. (
       w,
       s.placed at (at + count - 1) (omega arith) (omega (arith, e)),
-      r.placed (behind c) (at + count - 1) (omega (arith, s.to)) (omega (arith, e)),
-      q.placed (behind a) (at + count - 1) (omega (arith, r.to)) (omega (arith, e)),
+      r.placed (suc (behind c)) (at + count - 1) (omega (arith, s.to)) (omega (arith, e)),
+      q.placed (suc (behind a)) (at + count - 1) (omega (arith, r.to)) (omega (arith, e)),
     ))
 
 stands_index : (at m n count : ℕ) (t : Token) (a i : tree.Expression) → count ≡ m + suc (n + 1) → Stands at m a
@@ -88,7 +88,7 @@ stands_index at m n count t a i e s r = stands_by at count t _ refl (omega (arit
     (λ low high w. (
       w,
       s.placed at (at + count - 1) (omega arith) (omega (arith, e)),
-      r.placed (behind a) (at + count - 1) (omega (arith, s.to)) (omega (arith, e)),
+      r.placed (suc (behind a)) (at + count - 1) (omega (arith, s.to)) (omega (arith, e)),
     ))
 
 stands_call : (at m n count : ℕ) (t : Token) (f : tree.Expression) (xs : tree.Expressions) → count ≡ m + suc (n + 1) → Stands at m f
@@ -98,7 +98,8 @@ stands_call at m n count t f xs e s r = stands_by at count t _ refl (omega (arit
     (λ low high w. (
       w,
       s.placed at (at + count - 1) (omega arith) (omega (arith, e)),
-      r.placed (behind f) (at + count - 1) (omega (arith, s.to)) (omega (arith, e)),
+      (let b : behind f ≤ at + count - 1 = omega (arith, s.to, e) in b),
+      r.placed (suc (behind f)) (at + count - 1) (omega (arith, s.to)) (omega (arith, e)),
     ))
 
 stand_none : (at : ℕ) → AllStand at 0 tree.nil

@@ -74,11 +74,12 @@ stands_by in_head at ts y is full parts = record {
   placed = λ low high l h. parts low high (within at ts low high full l h);
 }
 
-pub stands_evaluate : (in_head : Bool) (at m : ℕ) (ts : List Token) (a : expression.Expression) → m ≤ length ts → 1 ≤ length ts → Stands at m a
+pub stands_evaluate : (in_head : Bool) (at m : ℕ) (ts : List Token) (a : expression.Expression)
+    → suc (set_end in_head (statement_place at ts)) ≡ at + m → 1 ≤ length ts → Stands at m a
     → StatementStands in_head at (length ts) (tree.evaluate (statement_place at ts) a)
 unfolding IsStatementPlaced
 stands_evaluate in_head at m ts a e full s = stands_by in_head at ts _ refl full
-    (λ low high w. (w, s.placed at (at + length ts - 1) (omega arith) (omega arith)))
+    (λ low high w. (w, s.placed at (set_end in_head (statement_place at ts)) (omega arith) (omega (arith, e))))
 
 pub stands_set : (in_head : Bool) (at m : ℕ) (ts : List Token) (x : List ℕ) (a : expression.Expression)
     → suc (set_end in_head (statement_place at ts)) ≡ suc (suc at) + m → 1 ≤ length ts → Stands (suc (suc at)) m a
@@ -119,13 +120,13 @@ pub stands_block : (in_head : Bool) (at m : ℕ) (ts : List Token) (ys : tree.St
     → StatementStands in_head at (length ts) (tree.block (statement_place at ts) ys)
 unfolding IsStatementPlaced
 stands_block in_head at m ts ys e s = stands_by in_head at ts _ refl (omega arith)
-    (λ low high w. (w, s.placed at (at + length ts - 1) (omega arith) (omega arith)))
+    (λ low high w. (w, s.placed (suc at) (at + length ts - 1) (omega arith) (omega arith)))
 
 pub stands_returns : (in_head : Bool) (at m : ℕ) (ts : List Token) (a : Option expression.Expression) → suc (m + 1) ≤ length ts → OptionStands (suc at) m a
     → StatementStands in_head at (length ts) (tree.returns (statement_place at ts) a)
 unfolding IsStatementPlaced
 stands_returns in_head at m ts a e s = stands_by in_head at ts _ refl (omega arith)
-    (λ low high w. (w, s.placed at (at + length ts - 1) (omega arith) (omega arith)))
+    (λ low high w. (w, s.placed (suc at) (at + length ts - 1) (omega arith) (omega arith)))
 
 pub stands_if : (in_head : Bool) (at m n k : ℕ) (ts : List Token) (c : expression.Expression) (a : tree.Statement) (b : tree.OptionalStatement)
     → suc (suc (m + suc (n + k))) ≤ length ts → Stands (suc (suc at)) m c → StatementStands false (suc (suc (suc at) + m)) n a
@@ -135,7 +136,7 @@ unfolding IsStatementPlaced
 stands_if in_head at m n k ts c a b e s r q = stands_by in_head at ts _ refl (omega arith)
     (λ low high w. (
       w,
-      s.placed at (at + length ts - 1) (omega arith) (omega arith),
+      s.placed (suc at) (at + length ts - 1) (omega arith) (omega arith),
       r.placed (behind c) (at + length ts - 1) (omega (arith, s.to)) (omega arith),
       q.placed (behind_statement a) (at + length ts - 1) (omega (arith, r.last)) (omega arith),
     ))
@@ -147,7 +148,7 @@ unfolding IsStatementPlaced
 stands_while in_head at m n ts c y e s r = stands_by in_head at ts _ refl (omega arith)
     (λ low high w. (
       w,
-      s.placed at (at + length ts - 1) (omega arith) (omega arith),
+      s.placed (suc at) (at + length ts - 1) (omega arith) (omega arith),
       r.placed (behind c) (at + length ts - 1) (omega (arith, s.to)) (omega arith),
     ))
 
@@ -158,7 +159,7 @@ unfolding IsStatementPlaced
 stands_do in_head at m n ts y c e s r = stands_by in_head at ts _ refl (omega arith)
     (λ low high w. (
       w,
-      s.placed at (at + length ts - 1) (omega arith) (omega arith),
+      s.placed (suc at) (at + length ts - 1) (omega arith) (omega arith),
       r.placed (behind_statement y) (at + length ts - 1) (omega (arith, s.last)) (omega arith),
     ))
 
@@ -168,17 +169,18 @@ pub stands_for : (in_head : Bool) (at m n k l : ℕ) (ts : List Token) (first : 
     → StatementStands in_head at (length ts) (tree.for_loop (statement_place at ts) first c last y)
 unfolding IsStatementPlaced
 stands_for in_head at m n k l ts first c last y e s r q p =
-    let b1 : behind_maybe at first ≤ suc (suc at) + m = s.behind at (omega arith) in
-    let b2 : behind_option (behind_maybe at first) c ≤ suc (suc at) + m + n = r.behind (behind_maybe at first) b1 in
-    let b3 : behind_maybe (behind_option (behind_maybe at first) c) last ≤ suc (suc (suc at) + m + n) + k =
-    q.behind (behind_option (behind_maybe at first) c) (omega arith) in
+    let from : at + 2 ≤ suc (suc at) = omega arith in
+    let b1 : behind_maybe (at + 2) first ≤ suc (suc at) + m = s.behind (at + 2) from in
+    let b2 : behind_option (behind_maybe (at + 2) first) c ≤ suc (suc at) + m + n = r.behind (behind_maybe (at + 2) first) b1 in
+    let b3 : behind_maybe (suc (behind_option (behind_maybe (at + 2) first) c)) last ≤ suc (suc (suc at) + m + n) + k =
+    q.behind (suc (behind_option (behind_maybe (at + 2) first) c)) (omega arith) in
     stands_by in_head at ts _ refl (omega arith)
     (λ low high w. (
       w,
-      s.placed at (at + length ts - 1) (omega arith) (omega arith),
-      r.placed (behind_maybe at first) (at + length ts - 1) b1 (omega arith),
-      q.placed (behind_option (behind_maybe at first) c) (at + length ts - 1) (omega arith) (omega arith),
-      p.placed (behind_maybe (behind_option (behind_maybe at first) c) last) (at + length ts - 1) (omega arith) (omega arith),
+      s.placed (at + 2) (at + length ts - 1) from (omega arith),
+      r.placed (behind_maybe (at + 2) first) (at + length ts - 1) b1 (omega arith),
+      q.placed (suc (behind_option (behind_maybe (at + 2) first) c)) (at + length ts - 1) (omega arith) (omega arith),
+      p.placed (behind_maybe (suc (behind_option (behind_maybe (at + 2) first) c)) last) (at + length ts - 1) (omega arith) (omega arith),
     ))
 
 pub none_stand : (at : ℕ) → StatementsStand at 0 tree.nil

@@ -50,7 +50,7 @@ simple_stands in_head at ts (assign_element x o i c q a) e h = by_form (statemen
     (omega (arith, e, length-append (spelled i) (c ∷ q ∷ spelled a))) (omega arith)
     (stands (suc (suc at)) i) (stands (suc (suc (suc (suc at) + length (spelled i)))) a))
 simple_stands in_head at ts (phrase.evaluate a) e h = by_form (statement-Eval at ts _)
-    (stands_evaluate in_head at (length (spelled a)) ts _ h (omega (arith, expression_length a)) (stands at a))
+    (stands_evaluate in_head at (length (spelled a)) ts _ e (omega (arith, expression_length a)) (stands at a))
 
 part_stands : (at : ℕ) (a : SimpleDerivation)
     → StatementStands true at (length (spelled_simple a)) (statement_of (statement_node at (spelled_simple a) (kind_of_simple at a)))

@@ -27,7 +27,7 @@ one_word s.Fn5 ty e = omega arith
 one_word s.Fn6 ty e = omega arith
 one_word _ ty e = absurd (let f : ◌≡◌ {A = Option Ty} None (Some ty) = e in cc)
 
-value_type : (ty : TypeDerivation) → IsType ty → IsValueType (type_in ty)
+pub value_type : (ty : TypeDerivation) → IsType ty → IsValueType (type_in ty)
 value_type (statement.word t) is = one_word (sort t) is.0 is.1
 value_type (unsigned u l) is = tt
 

@@ -1,13 +1,16 @@
 -- Laws of the grammar: each list of tokens has one tree or one first fault, and what holds of each tree.
 use Rattle.std.specs.Prelude.{◌≡◌, ℕ, ◌^◌, ◌<◌, ◌≤◌, ◌⊎◌, List, length, sum_by}
+use Rattle.std.specs.List.{AllByRecursion}
 use Rattle.pw_grammar.specs.declared.error.SyntaxError.{SyntaxError}
 use Rattle.pw_grammar.specs.Declarations.{Derives}
+use Rattle.pw_grammar.specs.Expressions.{value_in}
 use Rattle.pw_grammar.specs.Faults.{IsFaultless, IsFirstFault}
 use Rattle.pw_grammar.specs.Weights.{weight}
 use Rattle.pw_lex.specs.declared.token.Token.{Token}
 use Rattle.pw_tree.specs.declared.decl.Unit.{Unit}
 use Rattle.pw_tree.specs.Declarations.{declarations_of, untyped_unit_of}
 use Rattle.pw_tree.specs.Placed.{IsParsed}
+use Rattle.pw_tree.specs.Proper.{IsRead}
 
 -- the grammar derives this unit from the tokens, and they have no fault
 pub record HasTree (tokens : List Token) (unit : Unit) : Type 0 where
@@ -37,3 +40,14 @@ TreesAreWritten = (tokens : List Token) (unit : Unit) → Derives tokens unit �
 -- a unit has no fewer tokens than the definitions of its functions need
 abbrev pub UnitsAreNoLonger : Type 0
 UnitsAreNoLonger = (tokens : List Token) (unit : Unit) → Derives tokens unit → sum_by weight (declarations_of unit) ≤ length tokens
+
+-- a token has a line of 32 bits, and a value of 64 where it is a constant
+pub record IsSmallToken (token : Token) : Type 0 where
+  pub line : token.line < 2 ^ 32
+  pub value : value_in token.kind < 2 ^ 64
+
+-- the tree of a list without fault is that of a unit that was read: its trees stand in its tokens, each with a token of its own;
+-- locals are declared in blocks and by a `for` alone, functions are short, and numbers are small
+abbrev pub TreesAreRead : Type 0
+TreesAreRead = (tokens : List Token) (unit : Unit) → HasTree tokens unit → length tokens < 2 ^ 32 → AllByRecursion IsSmallToken tokens →
+    IsRead (untyped_unit_of unit)

@@ -1,5 +1,5 @@
 //! Laws of the grammar, each the contract of a function.
-ghost use Rattle.pw_grammar.specs.Laws.{HasReading, NotBoth, OneTree, OneFault, TreesAreWritten, UnitsAreNoLonger};
+ghost use Rattle.pw_grammar.specs.Laws.{HasReading, NotBoth, OneTree, OneFault, TreesAreRead, TreesAreWritten, UnitsAreNoLonger};
 ghost use Rattle.pw_grammar.specs.Reading.Whole.{ReadingTells};
 
 /// A list of tokens has a tree or a first fault, and never both; and it has one tree, or one first fault, at most.
@@ -14,6 +14,13 @@ pub fn a_list_has_a_tree_or_a_first_fault()
 /// text, none over another, and within the phrase.
 pub fn trees_are_written()
     ensures { TreesAreWritten }
+{}
+
+/// The tree of a list without fault, of fewer than 2 to the 32nd tokens with lines of 32 bits and constants of 64, is that of
+/// a unit that was read: each phrase has a token of its own; a local is declared in a block or by a `for` alone; the parts of a
+/// `for` are simple; a function's body has at most 8,192 tokens.
+pub fn trees_are_read()
+    ensures { TreesAreRead }
 {}
 
 /// A unit has at least six tokens for each definition of a function, and one more for each statement of its body.

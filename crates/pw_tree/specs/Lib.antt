@@ -3,12 +3,16 @@ pub mod Statements
 pub mod Declarations
 pub mod Types
 pub mod Placed
+pub mod Proper
 pub mod TypedExpressions
 pub mod TypedStatements
 pub mod Held
 pub mod Units
 pub mod Numbers
 pub mod TypeTexts
+pub mod WellTypedExpressions
+pub mod WellTypedStatements
+pub mod WellTypedUnits
 pub mod Names
 pub mod States
 pub mod Evaluation

@@ -35,18 +35,20 @@ abbrev pub behind : Expression → ℕ
 behind e = suc (span_of e).last
 
 unfoldable mutual
-  -- the expression stands among these tokens, and its parts in order within it
+  -- The expression stands among these tokens, and its parts in order within it, where they leave it a token of its own: its
+  -- operator, the bracket that opens arguments or an index, or a keyword.
   pub IsPlaced : ℕ → ℕ → Expression → Type 0
   IsPlaced low high (constant at n unsigned) = IsWithin low high at
   IsPlaced low high (word at name) = IsWithin low high at
-  IsPlaced low high (unary at op e) = IsWithin low high at × IsPlaced at.first at.last e
-  IsPlaced low high (binary at op l r) = IsWithin low high at × IsPlaced at.first at.last l × IsPlaced (behind l) at.last r
+  IsPlaced low high (unary at op e) = IsWithin low high at × IsPlaced (suc at.first) at.last e
+  IsPlaced low high (binary at op l r) = IsWithin low high at × IsPlaced at.first at.last l × IsPlaced (suc (behind l)) at.last r
   IsPlaced low high (conditional at c a b) =
-      IsWithin low high at × IsPlaced at.first at.last c × IsPlaced (behind c) at.last a × IsPlaced (behind a) at.last b
-  IsPlaced low high (call at f es) = IsWithin low high at × IsPlaced at.first at.last f × ArePlaced (behind f) at.last es
-  IsPlaced low high (index at b i) = IsWithin low high at × IsPlaced at.first at.last b × IsPlaced (behind b) at.last i
+      IsWithin low high at × IsPlaced at.first at.last c × IsPlaced (suc (behind c)) at.last a × IsPlaced (suc (behind a)) at.last b
+  IsPlaced low high (call at f es) =
+      IsWithin low high at × IsPlaced at.first at.last f × (behind f ≤ at.last) × ArePlaced (suc (behind f)) at.last es
+  IsPlaced low high (index at b i) = IsWithin low high at × IsPlaced at.first at.last b × IsPlaced (suc (behind b)) at.last i
   IsPlaced low high (input at) = IsWithin low high at
-  IsPlaced low high (output at e) = IsWithin low high at × IsPlaced at.first at.last e
+  IsPlaced low high (output at e) = IsWithin low high at × IsPlaced (suc at.first) at.last e
 
   -- each stands behind the last
   pub ArePlaced : ℕ → ℕ → Expressions → Type 0
@@ -106,27 +108,29 @@ IsSetPlaced end at None e = IsPlaced (at.first + 1) end e
 IsSetPlaced end at (Some i) e = IsPlaced (at.first + 2) end i × IsPlaced (suc (index_end at i)) end e
 
 unfoldable mutual
-  -- The statement stands among these tokens, and its parts in order within it; `in_head` says that it is a part of a `for`.
+  -- The statement stands among these tokens, and its parts in order within it, where they leave it a token of its own;
+  -- `in_head` says that it is a part of a `for`. An expression there has no token beside its own, but the `for` has three: its
+  -- keyword, the bracket and the second `;`.
   pub IsStatementPlaced : Bool → ℕ → ℕ → Statement → Type 0
   IsStatementPlaced in_head low high (empty at) = IsWithin low high at
-  IsStatementPlaced in_head low high (block at ss) = IsWithin low high at × AreStatementsPlaced at.first at.last ss
+  IsStatementPlaced in_head low high (block at ss) = IsWithin low high at × AreStatementsPlaced (suc at.first) at.last ss
   IsStatementPlaced in_head low high (local at ty name e) =
       IsWithin low high at × (local_name_at at ty ≤ at.last) × IsOptionPlaced (suc (local_name_at at ty)) at.last e
   IsStatementPlaced in_head low high (set at name i e) = IsWithin low high at × IsSetPlaced (set_end in_head at) at i e
-  IsStatementPlaced in_head low high (evaluate at e) = IsWithin low high at × IsPlaced at.first at.last e
+  IsStatementPlaced in_head low high (evaluate at e) = IsWithin low high at × IsPlaced at.first (set_end in_head at) e
   IsStatementPlaced in_head low high (if_else at c a b) =
-      IsWithin low high at × IsPlaced at.first at.last c × IsStatementPlaced false (behind c) at.last a
+      IsWithin low high at × IsPlaced (suc at.first) at.last c × IsStatementPlaced false (behind c) at.last a
       × IsMaybePlaced false (behind_statement a) at.last b
   IsStatementPlaced in_head low high (while_loop at c s) =
-      IsWithin low high at × IsPlaced at.first at.last c × IsStatementPlaced false (behind c) at.last s
+      IsWithin low high at × IsPlaced (suc at.first) at.last c × IsStatementPlaced false (behind c) at.last s
   IsStatementPlaced in_head low high (do_loop at s c) =
-      IsWithin low high at × IsStatementPlaced false at.first at.last s × IsPlaced (behind_statement s) at.last c
+      IsWithin low high at × IsStatementPlaced false (suc at.first) at.last s × IsPlaced (behind_statement s) at.last c
   IsStatementPlaced in_head low high (for_loop at first c last s) =
-      IsWithin low high at × IsMaybePlaced true at.first at.last first
-      × IsOptionPlaced (behind_maybe at.first first) at.last c
-      × IsMaybePlaced true (behind_option (behind_maybe at.first first) c) at.last last
-      × IsStatementPlaced false (behind_maybe (behind_option (behind_maybe at.first first) c) last) at.last s
-  IsStatementPlaced in_head low high (returns at e) = IsWithin low high at × IsOptionPlaced at.first at.last e
+      IsWithin low high at × IsMaybePlaced true (at.first + 2) at.last first
+      × IsOptionPlaced (behind_maybe (at.first + 2) first) at.last c
+      × IsMaybePlaced true (suc (behind_option (behind_maybe (at.first + 2) first) c)) at.last last
+      × IsStatementPlaced false (behind_maybe (suc (behind_option (behind_maybe (at.first + 2) first) c)) last) at.last s
+  IsStatementPlaced in_head low high (returns at e) = IsWithin low high at × IsOptionPlaced (suc at.first) at.last e
   IsStatementPlaced in_head low high (breaks at) = IsWithin low high at
   IsStatementPlaced in_head low high (continues at) = IsWithin low high at
 

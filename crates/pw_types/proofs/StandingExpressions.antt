@@ -92,11 +92,11 @@ from_parts scope role e low high p ns =
     let e_in = placed_within e p in
     stands (end_of e) (omega arith) (omega arith) (all_from low e_in.from ns) (rises_own scope role e)
 
-before : (scope : Scope) (role : Role) (e : Expression) (low high : ℕ) {ns : Nests} → IsPlaced low high e →
+before : (scope : Scope) (role : Role) (e : Expression) (lower low high : ℕ) {ns : Nests} → lower ≤ low → IsPlaced low high e →
     AllStand (span_of e).first (end_of e) (parts scope e) → AllStand (suc (end_of e)) high ns →
-    AllStand low high (more (expression scope role e) ns)
-before scope role e low high p ns others =
-    one_more (end_of e) (from_parts scope role e low high p ns) (placed_within e p).to others
+    AllStand lower high (more (expression scope role e) ns)
+before scope role e lower low high l p ns others =
+    all_from lower l (one_more (end_of e) (from_parts scope role e low high p ns) (placed_within e p).to others)
 
 mutual
   unfolding parts IsPlaced
@@ -104,26 +104,26 @@ mutual
   parts_stand : (scope : Scope) (e : Expression) (low high : ℕ) → IsPlaced low high e → AllStand (span_of e).first (end_of e) (parts scope e)
   parts_stand scope (constant at v unsigned) low high p = no_more
   parts_stand scope (word at name) low high p = no_more
-  parts_stand scope (unary at op e) low high p = before scope Value e _ _ p.1 (parts_stand scope e _ _ p.1) no_more
+  parts_stand scope (unary at op e) low high p = before scope Value e _ _ _ (omega arith) p.1 (parts_stand scope e _ _ p.1) no_more
   parts_stand scope (binary at op l r) low high p =
-      before scope Value l _ _ p.1 (parts_stand scope l _ _ p.1) (before scope Value r _ _ p.2 (parts_stand scope r _ _ p.2) no_more)
+      before scope Value l _ _ _ (omega arith) p.1 (parts_stand scope l _ _ p.1) (before scope Value r _ _ _ (omega arith) p.2 (parts_stand scope r _ _ p.2) no_more)
   parts_stand scope (conditional at c a b) low high p =
-      before scope Value c _ _ p.1 (parts_stand scope c _ _ p.1)
-      (before scope Value a _ _ p.2 (parts_stand scope a _ _ p.2) (before scope Value b _ _ p.3 (parts_stand scope b _ _ p.3) no_more))
+      before scope Value c _ _ _ (omega arith) p.1 (parts_stand scope c _ _ p.1)
+      (before scope Value a _ _ _ (omega arith) p.2 (parts_stand scope a _ _ p.2) (before scope Value b _ _ _ (omega arith) p.3 (parts_stand scope b _ _ p.3) no_more))
   parts_stand scope (call at f es) low high p =
       let f_in = placed_within f p.1 in
       stand_unless (function_of scope f) (from_parts scope Callee f _ _ p.1 (parts_stand scope f _ _ p.1)) (omega arith) f_in.to
-      (arguments_stand scope (parameters_of (callee_in scope f)) es _ _ p.2)
+      (all_from (suc (end_of f)) (omega arith) (arguments_stand scope (parameters_of (callee_in scope f)) es _ _ p.3))
   parts_stand scope (index at b i) low high p =
-      before scope Base b _ _ p.1 (parts_stand scope b _ _ p.1) (before scope Value i _ _ p.2 (parts_stand scope i _ _ p.2) no_more)
+      before scope Base b _ _ _ (omega arith) p.1 (parts_stand scope b _ _ p.1) (before scope Value i _ _ _ (omega arith) p.2 (parts_stand scope i _ _ p.2) no_more)
   parts_stand scope (input at) low high p = no_more
-  parts_stand scope (output at e) low high p = before scope Written e _ _ p.1 (parts_stand scope e _ _ p.1) no_more
+  parts_stand scope (output at e) low high p = before scope Written e _ _ _ (omega arith) p.1 (parts_stand scope e _ _ p.1) no_more
 
   arguments_stand : (scope : Scope) (params : Option (List Ty)) (es : Expressions) (low high : ℕ) → ArePlaced low high es →
       AllStand low high (arguments scope params es)
   arguments_stand scope params nil low high p = no_more
   arguments_stand scope params (cons e es) low high p =
-      before scope (Argument (first_parameter params)) e _ _ p.0 (parts_stand scope e _ _ p.0)
+      before scope (Argument (first_parameter params)) e _ _ _ (omega arith) p.0 (parts_stand scope e _ _ p.0)
       (arguments_stand scope (other_parameters params) es _ _ p.1)
 
 pub expression_stands : (scope : Scope) (role : Role) (e : Expression) (low high : ℕ) → IsPlaced low high e → Stands low (end_of e) (expression scope role e)

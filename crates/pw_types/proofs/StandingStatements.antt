@@ -18,7 +18,7 @@ use Rattle.pw_types.specs.Blocks.{Setting, part, body, head, Block, inner, behin
 use Rattle.pw_types.specs.Statements.{has_other_index, set_holds_too_many, set_element_holds_too_many, is_outside_loop, faults_of_option, type_of_target, faults_of_array, faults_of_set, returns_other, faults_by, faults_by_all, faults_by_maybe}
 use Rattle.pw_types.specs.Nests.{Nest, Nests, nest, none, more, whole, leaf, assignment, statement, statements, maybe}
 use Rattle.pw_types.proofs.OwnFaults.{Rises, ends, rises_broken, rises_name, rises_target, rises_array}
-use Rattle.pw_types.proofs.Standing.{Stands, stands, AllStand, no_more, one_more, all_from}
+use Rattle.pw_types.proofs.Standing.{Stands, stands, AllStand, no_more, one_more, all_from, stands_from}
 use Rattle.pw_types.proofs.Gathering.{flat, gather, both}
 use Rattle.pw_types.proofs.StandingExpressions.{placed_within, expression_faults, whole_faults, option_faults, expression_stands, whole_stands, option_stands}
 
@@ -153,7 +153,7 @@ mutual
       Stands low (statement_span s).last (statement x b s)
   statement_stands x b (empty at) low high p = outer_stands low at.last none (omega (arith, p.from, p.some)) no_more
   statement_stands x b (block at ss) low high p =
-      outer_stands low at.last _ (omega (arith, p.0.from, p.0.some)) (all_from low p.0.from (statements_stand (part x) (inner b) ss _ _ refl p.1))
+      outer_stands low at.last _ (omega (arith, p.0.from, p.0.some)) (all_from low (omega (arith, p.0.from)) (statements_stand (part x) (inner b) ss _ _ refl p.1))
   statement_stands x b (local at ty name e) low high p =
       let k = name_behind at ty in
       outer_stands low at.last _ (omega (arith, p.0.from, p.0.some))
@@ -161,33 +161,36 @@ mutual
       (option_stands b.scope (roles.Assigned (Some ty)) e _ _ none p.2 no_more))
   statement_stands x b (set at name i e) low high p = set_stands x b.scope at name i e low p.0.from p.1
   statement_stands x b (evaluate at e) low high p =
-      outer_stands low at.last _ (omega (arith, p.0.from, p.0.some)) (all_from low p.0.from (whole_before b.scope roles.Statement e _ _ none p.1 no_more))
+      let e_in = placed_within e p.1 in
+      let end = set_ends x.in_head at in
+      outer_stands low at.last _ (omega (arith, p.0.from, p.0.some))
+      (one_more (end_of e) (stands_from low p.0.from (whole_stands b.scope roles.Statement e _ _ p.1)) (omega arith) no_more)
   statement_stands x b (if_else at c a d) low high p =
       let a_in = statement_within false a p.2 in
-      outer_stands low at.last _ (omega (arith, p.0.from, p.0.some)) (all_from low p.0.from
+      outer_stands low at.last _ (omega (arith, p.0.from, p.0.some)) (all_from low (omega (arith, p.0.from))
       (whole_before b.scope roles.Value c _ _ _ p.1
       (one_more (statement_span a).last (statement_stands (part x) b a _ _ p.2) a_in.to
       (maybe_stands (part x) (behind a b) d _ _ none p.3 no_more))))
   statement_stands x b (while_loop at c s) low high p =
       let s_in = statement_within false s p.2 in
-      outer_stands low at.last _ (omega (arith, p.0.from, p.0.some)) (all_from low p.0.from
+      outer_stands low at.last _ (omega (arith, p.0.from, p.0.some)) (all_from low (omega (arith, p.0.from))
       (whole_before b.scope roles.Value c _ _ _ p.1 (one_more (statement_span s).last (statement_stands (body x) b s _ _ p.2) s_in.to no_more)))
   statement_stands x b (do_loop at s c) low high p =
       let s_in = statement_within false s p.1 in
-      outer_stands low at.last _ (omega (arith, p.0.from, p.0.some)) (all_from low p.0.from
+      outer_stands low at.last _ (omega (arith, p.0.from, p.0.some)) (all_from low (omega (arith, p.0.from))
       (one_more (statement_span s).last (statement_stands (body x) b s _ _ p.1) s_in.to
       (whole_before b.scope roles.Value c _ _ none p.2 no_more)))
   statement_stands x b (for_loop at first c last s) low high p =
       let s_in = statement_within false s p.4 in
       let in_body = behind_maybe last (behind_maybe first (inner b)) in
-      outer_stands low at.last _ (omega (arith, p.0.from, p.0.some)) (all_from low p.0.from
+      outer_stands low at.last _ (omega (arith, p.0.from, p.0.some)) (all_from low (omega (arith, p.0.from))
       (maybe_stands (head x) (inner b) first _ _ _ p.1
       (option_stands (behind_maybe first (inner b)).scope roles.Value c _ _ _ p.2
-      (maybe_stands (head x) (behind_maybe first (inner b)) last _ _ _ p.3
-      (one_more (statement_span s).last (statement_stands (body x) in_body s _ _ p.4) s_in.to no_more)))))
+      (all_from _ (omega arith) (maybe_stands (head x) (behind_maybe first (inner b)) last _ _ _ p.3
+      (one_more (statement_span s).last (statement_stands (body x) in_body s _ _ p.4) s_in.to no_more))))))
   statement_stands x b (returns at e) low high p =
       stands at.last (omega (arith, p.0.from, p.0.some)) (omega arith)
-      (all_from low p.0.from (option_stands b.scope roles.Value e _ _ none p.1 no_more))
+      (all_from low (omega (arith, p.0.from)) (option_stands b.scope roles.Value e _ _ none p.1 no_more))
       (rises_broken 0 rules.ReturnType at.last (returns_other x.result b.scope e) (omega arith))
   statement_stands x b (breaks at) low high p =
       leaf_stands low (omega (arith, p.from, p.some)) (rises_broken 0 rules.OutsideLoop at.last (is_outside_loop x) (omega arith))

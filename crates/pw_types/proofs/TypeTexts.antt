@@ -65,6 +65,9 @@ function_text sig has =
       few = omega (arith, length-map sig.params letter_of, has.2);
     }))
 
+pub kind_text : (kind : Kind) → HasText kind → IsTypeText (text_of_kind kind)
+kind_text (Function sig) has = function_text sig has
+kind_text (Variable ty size) has = variable_text ty size has
+
 pub typed_text : (kind : Kind) → HasText kind → IsTypeTextOrEmpty (text_of_kind kind)
-typed_text (Function sig) has = inr (function_text sig has)
-typed_text (Variable ty size) has = inr (variable_text ty size has)
+typed_text kind has = inr (kind_text kind has)

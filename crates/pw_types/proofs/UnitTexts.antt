@@ -51,7 +51,7 @@ good_size : (b c : Bool) → b || c ≡ false → b ≡ false
 good_size true c none = cc
 good_size false c none = refl
 
-declaration_text : (w : Whole) (files : List File) (elements : ℕ) (d : Declaration) → HasTypes d.form
+pub declaration_text : (w : Whole) (files : List File) (elements : ℕ) (d : Declaration) → HasTypes d.form
     → faults_of_declaration w files elements d ≡ [] → HasText (kind_of d.form)
 unfolding faults_of_declaration
 declaration_text w files elements d have none =

@@ -1,12 +1,14 @@
--- Laws of the list of faults: in which order it has them, and where they are.
-use Rattle.std.specs.Prelude.{◌≡◌, ◌⊎◌, ℕ, ◌<◌, ◌≤◌, length, map, Some, All, AllPairs}
+-- Laws of the list of faults: in which order it has them, and where they are; and of the typed unit where there is none.
+use Rattle.std.specs.Prelude.{◌≡◌, ◌⊎◌, ℕ, ◌<◌, ◌≤◌, [], length, map, Some, All, AllPairs}
 use Rattle.pw_tree.specs.Declarations.{UntypedUnit}
 use Rattle.pw_tree.specs.Placed.{IsParsed}
+use Rattle.pw_tree.specs.Proper.{IsRead}
+use Rattle.pw_tree.specs.WellTypedUnits.{IsWellTyped}
 use Rattle.pw_types.specs.declared.rule.Rule.{Rule}
 use Rattle.pw_types.specs.declared.rule.Rule.TheVariants as rules
 use Rattle.pw_types.specs.declared.fault.Fault.{Fault}
 use Rattle.pw_types.specs.Faults.{first_of}
-use Rattle.pw_types.specs.Units.{faults_of}
+use Rattle.pw_types.specs.Units.{faults_of, typed_unit}
 use Rattle.pw_types.specs.Nests.{Nested, walk, unit}
 
 -- ---- the order of faults
@@ -56,3 +58,8 @@ FirstEndsFirst =
 abbrev pub FaultsAreWithin : Type 0
 FaultsAreWithin =
     (u : UntypedUnit) → IsParsed u → All (λ f. f.at < length u.lines) (faults_of u)
+
+-- The typed unit of a unit that was read and has no faults is well typed.
+abbrev pub UnitsWithoutFaultsAreWellTyped : Type 0
+UnitsWithoutFaultsAreWellTyped =
+    (u : UntypedUnit) → IsRead u → faults_of u ≡ [] → IsWellTyped (typed_unit u)

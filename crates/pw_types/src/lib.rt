@@ -47,5 +47,8 @@ mod unit;
 
 pub use checking::check;
 pub use error::TypeError;
-pub use laws::{faults_are_within_the_unit, faults_ascend, the_first_fault_ends_first};
+pub use laws::{
+    faults_are_within_the_unit, faults_ascend, the_first_fault_ends_first,
+    units_without_faults_are_well_typed,
+};
 pub use rule::Rule;
