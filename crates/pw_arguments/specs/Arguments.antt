@@ -11,5 +11,5 @@ abbrev pub bytes_of : List (Vec ℕ Global) → List (List ℕ)
 bytes_of arguments = map (λ argument. argument.items) arguments
 
 -- the arguments after number 0, the program's name, where they are reported
-abbrev pub AreAfterName : Option (List (List ℕ)) → List (Vec ℕ Global) → Type 0
-AreAfterName arguments found = IfSome arguments (λ list. drop 1 list ≡ bytes_of found)
+abbrev pub AreAfterName : Option (List (List ℕ)) → List (List ℕ) → Type 0
+AreAfterName arguments found = IfSome arguments (λ list. drop 1 list ≡ found)

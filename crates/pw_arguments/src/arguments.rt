@@ -1,6 +1,6 @@
 //! What a list of arguments promises to whoever reads it, and how those after the program's name are read.
 ghost use Rattle.std.specs.Prelude.{ℕ, List, Option, IfOk};
-ghost use Rattle.pw_arguments.specs.Arguments.{IsArgument, AreAfterName};
+ghost use Rattle.pw_arguments.specs.Arguments.{IsArgument, AreAfterName, bytes_of};
 
 use pw_base::NoMemory;
 use std::alloc::Global;
@@ -17,7 +17,7 @@ pub trait Arguments {
 
 /// The arguments after the program's name, which is not read. Refusal: `NoMemory`.
 pub fn read_arguments<A: Arguments>(alloc: Global, arguments: &A) -> Result<Vec<Vec<u8>>, NoMemory>
-    ensures { IfOk result (λ found. AreAfterName (A.list arguments.now) found.items) }
+    ensures { IfOk result (λ found. AreAfterName (A.list arguments.now) (bytes_of found.items)) }
 {
     let mut found = Vec::new(alloc);
     for number in 1..usize::MAX {
