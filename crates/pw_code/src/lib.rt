@@ -6,8 +6,6 @@ mod address;
 mod entry;
 mod function;
 mod registers;
-#[cfg(test)]
-mod tests;
 mod words;
 
 pub use entry::put_entry;
