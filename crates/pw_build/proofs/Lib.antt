@@ -2,4 +2,5 @@ pub mod Sizes
 pub mod Parts
 pub mod Whole
 pub mod Ending
+pub mod UpToFault
 pub mod Meaning

@@ -23,6 +23,7 @@ use Rattle.pw_build.specs.declared.run.Ended.TheVariants.{Exit, ReadFault, Write
 use Rattle.pw_build.specs.Executed.{Given, moment, HasMain, IsFresh, HasExecuted, Flushes, Finishes, Executes}
 use Rattle.pw_build.specs.Meant.{FetchesKeptCode, EndsAsMeant, BreaksOffAsMeant, StopsAsMeant, IsMeant}
 use Rattle.pw_build.proofs.Ending.{meant, starts, ends_with_main, finishes}
+use Rattle.pw_build.proofs.UpToFault.{kept_up_to, fetches_up_to}
 
 -- a rest that holds all that it is a rest of is all of it
 all_is_left : (input taken rest put : List ℕ) → input ≡ taken ++ rest → rest ≡ put ++ input → rest ≡ input
@@ -88,6 +89,7 @@ broke_off_at funs main steps fresh last old new placed has bound is_fresh is r =
       whole = sym m.writes ∙ front.output;
       out = subst (λ o. SinkFails o new.out) b.leaves.put r.failure.out;
       input = r.failure.input ∙ takes_nothing _ _ b.input _ left b.leaves;
+      fetches = fetches_up_to funs _ r.at.hart.pc _ r.at.told old new (kept_up_to funs s r.k n r.at.hart.pc r.below b.ends (ap (λ u. u.pc) b.leaves.state) m.kept) b.leaves.counts b.leaves.tells r.failure.counts r.failure.tells;
       text = subst (λ k. KeepsText funs k) (sym r.failure.mem) (keeps_text funs steps r.k fresh old _ b.input is_fresh is b.leaves);
     }
 
@@ -109,6 +111,7 @@ stopped_at funs main steps fresh last old new placed has bound is_fresh is r =
       whole = sym m.writes ∙ front.output;
       out = r.failure.out ∙ b.leaves.put;
       input = subst (λ i. SourceFails i new.input) (takes_nothing _ _ b.input _ left b.leaves) r.failure.input;
+      fetches = fetches_up_to funs _ r.at.hart.pc _ r.at.told old new (kept_up_to funs s r.k n r.at.hart.pc r.below b.ends (ap (λ u. u.pc) b.leaves.state) m.kept) b.leaves.counts b.leaves.tells r.failure.counts r.failure.tells;
       text = subst (λ k. KeepsText funs k) (sym r.failure.mem) (keeps_text funs steps r.k fresh old _ b.input is_fresh is b.leaves);
     }
 
@@ -125,6 +128,7 @@ broke_off_behind funs main steps value fresh last old new mid placed has bound i
       whole = sym (append-nil (output_of main));
       out = subst (λ o. SinkFails o new.out) (l.put ∙ ap (λ bytes. wrote bytes old.out) m.writes) fails;
       input = takes_nothing _ _ r.input _ m.reads l;
+      fetches = record { fetched = _; kept = m.kept; counts = l.counts; tells = l.tells };
       text = keeps_text funs steps _ fresh old _ r.input is_fresh is l;
     }
 

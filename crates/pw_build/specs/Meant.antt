@@ -12,7 +12,7 @@ use Rattle.pw_build.specs.declared.run.Ended.{Ended}
 use Rattle.pw_build.specs.declared.run.Ended.TheVariants.{Exit, ReadFault, WriteFault}
 use Rattle.pw_build.specs.Executed.{Given}
 
--- Every fetch was counted and told, each from kept code.
+-- Every fetch was counted and, where they are reported, appended to the fetched addresses; each is from kept code.
 pub record FetchesKeptCode (funs : List Writer) (old new : Given) : Type 0 where
   pub fetched : List ℕ
   pub kept : All (LiesInKeptCode funs) fetched
@@ -29,7 +29,7 @@ pub record EndsAsMeant (funs : List Writer) (old new : Given) (value : ℕ) : Ty
   pub fetches : FetchesKeptCode funs old new
   pub text : KeepsText funs new.mem
 
--- The output failed: it gained a front of what `main` writes, and the input lost nothing.
+-- The output failed: it gained a prefix of what `main` writes, and the input lost nothing.
 pub record BreaksOffAsMeant (funs : List Writer) (old new : Given) : Type 0 where
   pub main : Writer
   pub is_main : main_writer funs ≡ Some main
@@ -38,9 +38,10 @@ pub record BreaksOffAsMeant (funs : List Writer) (old new : Given) : Type 0 wher
   pub whole : output_of main ≡ front ++ more
   pub out : SinkFails (wrote front old.out) new.out
   pub input : new.input ≡ old.input
+  pub fetches : FetchesKeptCode funs old new
   pub text : KeepsText funs new.mem
 
--- The input failed: the output gained a front of what `main` writes, and the input lost nothing.
+-- The input failed: the output gained a prefix of what `main` writes, and the input lost nothing.
 pub record StopsAsMeant (funs : List Writer) (old new : Given) : Type 0 where
   pub main : Writer
   pub is_main : main_writer funs ≡ Some main
@@ -49,6 +50,7 @@ pub record StopsAsMeant (funs : List Writer) (old new : Given) : Type 0 where
   pub whole : output_of main ≡ front ++ more
   pub out : new.out ≡ wrote front old.out
   pub input : SourceFails old.input new.input
+  pub fetches : FetchesKeptCode funs old new
   pub text : KeepsText funs new.mem
 
 -- what each end of the run has to do with the source

@@ -1,5 +1,6 @@
 //! Runs the image of a program.
-ghost use Rattle.std.specs.Prelude.{◌≡◌, ◌≤◌, ◌<◌, ◌^◌};
+ghost use Rattle.std.specs.Prelude.{◌≡◌, ◌≤◌};
+ghost use Rattle.pw_base.specs.Limits.{given_steps};
 ghost use Rattle.pw_agree.specs.Image.{CanPlace, image};
 ghost use Rattle.pw_build.specs.Meant.{IsMeant};
 ghost use Rattle.pw_build.specs.Executed.{HasMain, IsFresh, Executes, Flushes};
@@ -37,7 +38,7 @@ pub fn execute<M: Memory, I: Source, O: Sink>(
     requires has_image { M.mem mem.old ≡ image funs.now }
     requires placed { CanPlace funs.now }
     requires has_main { HasMain funs.now }
-    requires bound { (1 ≤ steps) × (steps ≤ 10 ^ 9) }
+    requires bound { (1 ≤ steps) × (steps ≤ given_steps) }
     ensures executes { Executes funs.now steps
         (record { mem = M.mem mem.old; fetches = M.fetches mem.old; told = M.told mem.old; input = I.state input.old; out = O.state out.old })
         (record { mem = M.mem mem.new; fetches = M.fetches mem.new; told = M.told mem.new; input = I.state input.new; out = O.state out.new })

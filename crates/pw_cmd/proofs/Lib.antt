@@ -1,4 +1,5 @@
 pub mod Lines
 pub mod Placed
+pub mod Programs
 pub mod Runs
 pub mod Shows

@@ -4,11 +4,12 @@ use Rattle.std.proofs.Common.{◌≡◌, ℕ, ◌+◌, ◌*◌, ◌≤◌, List,
 use Rattle.std.specs.Prelude.{sum_by, All}
 use Rattle.std.proofs.lemmas.List.Elements.{All-nil, All-cons}
 use Rattle.std.proofs.lemmas.List.Sums.{sum_by-cons}
+use Rattle.pw_base.specs.Limits.{source_bytes}
 use Rattle.pw_tree.specs.TypedExpressions.{TypedExpression, constant, output}
 use Rattle.pw_tree.specs.TypedStatements.{TypedStatement, TypedStatements, evaluate, returns, nil, cons}
 use Rattle.pw_tree.specs.Units.{Function, TypedUnit}
 use Rattle.pw_first.specs.declared.writer.Writer.{Writer}
-use Rattle.pw_first.specs.FirstForm.{IsConstant, IsOutput, IsWrittenBy, IsReturned, Writes, IsWriter, AreWriters, IsFirstForm}
+use Rattle.pw_first.specs.FirstForm.{largest_number, IsConstant, IsOutput, IsWrittenBy, IsReturned, Writes, IsWriter, AreWriters, IsFirstForm}
 use Rattle.pw_front.specs.Weights.{statement_count, weight}
 use Rattle.pw_code.proofs.CodeWords.{size-function}
 use Rattle.pw_code.specs.Scheme.{HasSmallNumbers}
@@ -35,28 +36,28 @@ words_for_weight (f ∷ fs) (w ∷ ws) k =
 
 -- ---- the numbers of a body
 
-constant_small : (e : TypedExpression) (n : ℕ) → IsConstant e n → n ≤ 2047
+constant_small : (e : TypedExpression) (n : ℕ) → IsConstant e n → n ≤ largest_number
 constant_small (constant at value) n k = k.1
 constant_small _ n k = absurd k
 
-output_small : (e : TypedExpression) (n : ℕ) → IsOutput e n → n ≤ 2047
+output_small : (e : TypedExpression) (n : ℕ) → IsOutput e n → n ≤ largest_number
 output_small (output at e) n k = constant_small e n k
 output_small _ n k = absurd k
 
-written_small : (s : TypedStatement) (n : ℕ) → IsWrittenBy s n → n ≤ 2047
+written_small : (s : TypedStatement) (n : ℕ) → IsWrittenBy s n → n ≤ largest_number
 written_small (evaluate e) n k = output_small e n k
 written_small _ n k = absurd k
 
-returned_small : (s : TypedStatement) (n : ℕ) → IsReturned s n → n ≤ 2047
+returned_small : (s : TypedStatement) (n : ℕ) → IsReturned s n → n ≤ largest_number
 returned_small (returns (Some e)) n k = constant_small e n k
 returned_small _ n k = absurd k
 
-outputs_small : (ss : TypedStatements) (outs : List ℕ) (ret : ℕ) → Writes ss outs ret → All (λ n. n ≤ 2047) outs
-outputs_small ss [] ret k = All-nil (λ n. n ≤ 2047)
+outputs_small : (ss : TypedStatements) (outs : List ℕ) (ret : ℕ) → Writes ss outs ret → All (λ n. n ≤ largest_number) outs
+outputs_small ss [] ret k = All-nil (λ n. n ≤ largest_number)
 outputs_small nil (n ∷ outs) ret k = absurd k
-outputs_small (cons s ss) (n ∷ outs) ret k = All-cons (λ n. n ≤ 2047) n outs (written_small s n k.0) (outputs_small ss outs ret k.1)
+outputs_small (cons s ss) (n ∷ outs) ret k = All-cons (λ n. n ≤ largest_number) n outs (written_small s n k.0) (outputs_small ss outs ret k.1)
 
-return_small : (ss : TypedStatements) (outs : List ℕ) (ret : ℕ) → Writes ss outs ret → ret ≤ 2047
+return_small : (ss : TypedStatements) (outs : List ℕ) (ret : ℕ) → Writes ss outs ret → ret ≤ largest_number
 return_small (cons s nil) [] ret k = returned_small s ret k
 return_small (cons s (cons t ss)) [] ret k = absurd k
 return_small nil [] ret k = absurd k
@@ -79,6 +80,6 @@ all_small (f ∷ fs) (w ∷ ws) k = All-cons HasSmallNumbers w ws (small_numbers
 -- ---- units
 
 -- the functions of a unit of the first form, which is no longer than a source file, can be placed
-pub form_can_be_placed : (unit : TypedUnit) (ws : List Writer) → sum_by weight unit.functions ≤ 1048576 → IsFirstForm unit ws → CanPlace ws
+pub form_can_be_placed : (unit : TypedUnit) (ws : List Writer) → sum_by weight unit.functions ≤ source_bytes → IsFirstForm unit ws → CanPlace ws
 form_can_be_placed unit ws short form =
     record { small = all_small unit.functions ws form.each; short = omega (arith, words_for_weight unit.functions ws form.each, short) }

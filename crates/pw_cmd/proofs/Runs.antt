@@ -1,5 +1,6 @@
 -- A run from the image that a memory holds is a run of the program, and its end is the answer.
 use Rattle.std.proofs.Common.{◌≡◌, ℕ, List, Result, sym, subst}
+use Rattle.pw_base.specs.Limits.{default_steps}
 use Rattle.pw_first.specs.declared.writer.Writer.{Writer}
 use Rattle.pw_mem.specs.Memory.{Mem}
 use Rattle.pw_agree.specs.Image.{image}
@@ -20,12 +21,12 @@ from_image funs mid old P holds p =
     subst F holds.fetches (subst M holds.mem p)
 
 -- a memory that holds the image ran
-pub ran_image : (funs : List Writer) (mid : Held) (old new : Given) (ended : Ended) → HoldsImage funs mid → Executes funs 1000000 (record { mem = mid.mem; fetches = mid.fetches; told = mid.told; input = old.input; out = old.out }) new ended → IsMeant funs (record { mem = mid.mem; fetches = mid.fetches; told = mid.told; input = old.input; out = old.out }) new ended → Ran funs old new ended
+pub ran_image : (funs : List Writer) (mid : Held) (old new : Given) (ended : Ended) → HoldsImage funs mid → Executes funs default_steps (record { mem = mid.mem; fetches = mid.fetches; told = mid.told; input = old.input; out = old.out }) new ended → IsMeant funs (record { mem = mid.mem; fetches = mid.fetches; told = mid.told; input = old.input; out = old.out }) new ended → Ran funs old new ended
 ran_image funs mid old new ended holds executes meant = record {
   has_main = record { main = holds.main; is = holds.has_main };
   told = mid.told;
   no_fetch = holds.told;
-  executes = from_image funs mid old (λ g. Executes funs 1000000 g new ended) holds executes;
+  executes = from_image funs mid old (λ g. Executes funs default_steps g new ended) holds executes;
   meant = from_image funs mid old (λ g. IsMeant funs g new ended) holds meant;
 }
 

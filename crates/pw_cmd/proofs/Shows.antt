@@ -1,6 +1,7 @@
 -- What the answers show of a status.
 use Rattle.std.proofs.Common.{◌≡◌, ◌≢◌, ℕ, ◌+◌, ◌-◌, ◌^◌, ◌<◌, ◌≤◌, min, length, get_or, List, [], ◌∷◌, Bool, true, false, cond, ◌==◌, lit≤, ap, sym, subst, ◌∙◌, arith, Some, None, Ok, Err, inl, inr}
 use Rattle.std.specs.Prelude.{◌⊎◌, Option, IsSomeAnd}
+use Rattle.pw_base.specs.Limits.{default_steps}
 use Rattle.pw_tree.specs.Meaning.{Run, exit, meaning}
 use Rattle.pw_tree.specs.Units.{TypedUnit, unit_of}
 use Rattle.pw_first.specs.declared.writer.Writer.{Writer}
@@ -32,15 +33,15 @@ use Rattle.pw_cmd.specs.Shows.{status_of_value, line_of_value, ShowsMeaning, Mea
 
 -- the project of one unit of the first form means what its `main` writes and returns
 source_means : (unit : TypedUnit) (funs : List Writer) (main : Writer) (value : ℕ) → IsFirstForm unit funs → main_writer funs ≡ Some main → value ≡ value_of main
-    → (input : List ℕ) → meaning ((unit ∷ []) ∷ []) input 1000000 ≡ record { output = output_of main; rest = input; end = exit value }
+    → (input : List ℕ) → meaning ((unit ∷ []) ∷ []) input default_steps ≡ record { output = output_of main; rest = input; end = exit value }
 source_means unit funs main value form is_main value_is input =
-    means_its_main unit funs main input 1000000 form is_main (lit≤ tt)
+    means_its_main unit funs main input default_steps form is_main (lit≤ tt)
     ∙ ap (λ v. let r : Run = record { output = output_of main; rest = input; end = exit v } in r) (sym value_is)
 
 -- what is seen of a run that ended with a value
 shown : (words : List (List ℕ)) (old new : Outside) (msg msg' : SinkState) (status value : ℕ) → HasRun words old new (Exit value) → status ≡ status_of_value value → msg' ≡ flushed_all (wrote (line_of_value value) msg) → ShowsMeaning words old new msg msg' status
 shown words old new msg msg' status value r status_is line = record {
-  began = record { text = r.text; funs = r.funs; loaded = r.loaded; form = r.form; told = r.ran.told };
+  began = record { text = r.text; funs = r.funs; loaded = r.loaded; form = r.form; told = r.ran.told; no_fetch = r.ran.no_fetch };
   value = value;
   meant = r.ran.meant;
   means = source_means (unit_of r.form.unit) r.funs r.ran.meant.main value r.form.is r.ran.meant.is_main r.ran.meant.value_is;
@@ -104,7 +105,7 @@ read_failed_only words old new msg msg' status a = by_answer a.answer a.comes a.
   by_answer (Err (Form word)) comes (inl told) six = absurd (omega (arith, told.0, six))
   by_answer (Err NoMain) comes (inl told) six = absurd (omega (arith, told.0, six))
   by_answer (Err ReadFailed) (inl not_run) (inl told) six = (not_run.refuses.0, not_run.refuses.1, inl not_run.refuses.2.faults)
-  by_answer (Err ReadFailed) (inr run) (inl told) six = (run.loaded.file, run.loaded.asks, inr (input_rose run.funs 1000000 _ (given new) run.ran.executes))
+  by_answer (Err ReadFailed) (inr run) (inl told) six = (run.loaded.file, run.loaded.asks, inr (input_rose run.funs default_steps _ (given new) run.ran.executes))
   by_answer (Err WriteFailed) comes (inl told) six = absurd (omega (arith, told.0, six))
   by_answer (Err NoMemory) comes (inl told) six = absurd (omega (arith, told.0, six))
 
@@ -235,6 +236,6 @@ completes words old new msg msg' status a = by_answer a.answer a.comes a.told wh
       let same : comes.refuses.1 ≡ funs = same_functions words old.store new.store comes.refuses.0 funs comes.refuses.1 p comes.refuses.2 comes.refuses.3 in
       absurd (none_is_not_some (ap main_writer (sym same) ∙ comes.refuses.4) has)
   by_answer (Err ReadFailed) (inl not_run) (inl told) funs main p has low none = absurd (rises_not_same old.store.faults new.store.faults not_run.refuses.2.faults none.store low.store)
-  by_answer (Err ReadFailed) (inr run) (inl told) funs main p has low none = absurd (rises_not_same old.input.faults new.input.faults (input_rose run.funs 1000000 _ (given new) run.ran.executes) none.input low.input)
+  by_answer (Err ReadFailed) (inr run) (inl told) funs main p has low none = absurd (rises_not_same old.input.faults new.input.faults (input_rose run.funs default_steps _ (given new) run.ran.executes) none.input low.input)
   by_answer (Err WriteFailed) comes (inl told) funs main p has low none = absurd (rises_not_same old.out.faults new.out.faults comes.ran.meant.out.faults none.out low.out)
   by_answer (Err NoMemory) comes (inl told) funs main p has low none = inr told.0

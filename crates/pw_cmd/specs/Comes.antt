@@ -27,6 +27,10 @@ pub record Outside : Type 0 where
   pub fetches : ℕ
   pub told : Option (List ℕ)
 
+-- the outside in these states
+abbrev pub outside : StoreState → SourceState → SinkState → Mem → ℕ → Option (List ℕ) → Outside
+outside store input out mem fetches told = record { store = store; input = input; out = out; mem = mem; fetches = fetches; told = told }
+
 -- what a run is given of it
 abbrev pub given : Outside → Given
 given o = record { mem = o.mem; fetches = o.fetches; told = o.told; input = o.input; out = o.out }

@@ -5,3 +5,5 @@ pub mod Unit
 pub mod Run
 pub mod Comes
 pub mod Shows
+pub mod Program
+pub mod System

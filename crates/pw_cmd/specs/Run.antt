@@ -1,5 +1,6 @@
 -- What running a program answers, and what it leaves.
 use Rattle.std.specs.Prelude.{◌≡◌, ℕ, List, [], Option, None, Result, Ok, Err, IfSome}
+use Rattle.pw_base.specs.Limits.{default_steps}
 use Rattle.pw_first.specs.declared.writer.Writer.{Writer}
 use Rattle.pw_agree.specs.Image.{image, main_writer}
 use Rattle.pw_build.specs.declared.run.Ended.{Ended}
@@ -17,12 +18,13 @@ outcome_of (Exit value) = Ok (outcomes.Ended value)
 outcome_of ReadFault = Err ReadFailed
 outcome_of WriteFault = Err WriteFailed
 
--- The image of the functions was put into the memory, and it ran with a million counted steps and ended so.
+-- The image of the functions was put into the memory, and it ran with the counted steps of a run that gives none, and ended so. No address
+-- was fetched before, where these are reported.
 pub record Ran (funs : List Writer) (old new : Given) (ended : Ended) : Type 0 where
   pub has_main : HasMain funs
   pub told : Option (List ℕ)
   pub no_fetch : IfSome told (λ list. list ≡ [])
-  pub executes : Executes funs 1000000 (record { mem = image funs; fetches = 0; told = told; input = old.input; out = old.out }) new ended
+  pub executes : Executes funs default_steps (record { mem = image funs; fetches = 0; told = told; input = old.input; out = old.out }) new ended
   pub meant : IsMeant funs (record { mem = image funs; fetches = 0; told = told; input = old.input; out = old.out }) new ended
 
 -- the outcome of the run, or why there was none

@@ -1,5 +1,6 @@
 -- What a reader may take from a status, in few words: each is a consequence of where the answers come.
-use Rattle.std.specs.Prelude.{◌≡◌, ◌≢◌, ℕ, ◌-◌, ◌^◌, ◌<◌, ◌≤◌, ◌⊎◌, length, List, [], ◌∷◌, ◌++◌, Option, Some, codes, decimal, if◌then◌else◌, ◌==◌}
+use Rattle.std.specs.Prelude.{◌≡◌, ◌≢◌, ℕ, ◌-◌, ◌^◌, ◌<◌, ◌≤◌, ◌⊎◌, length, List, [], ◌∷◌, ◌++◌, Option, Some, IfSome, codes, decimal, if◌then◌else◌, ◌==◌}
+use Rattle.pw_base.specs.Limits.{source_bytes, default_steps}
 use Rattle.pw_tree.specs.Meaning.{exit, meaning}
 use Rattle.pw_tree.specs.Units.{unit_of}
 use Rattle.pw_first.specs.declared.writer.Writer.{Writer}
@@ -22,23 +23,24 @@ abbrev pub line_of_value : ℕ → List ℕ
 line_of_value value = (codes "ended " ++ decimal value) ++ 10 ∷ []
 
 -- The run began: the unit was read with one call, is well typed and of the first form, and the run began in the memory of its
--- image.
+-- image, with no address fetched yet where these are reported.
 pub record Began (words : List (List ℕ)) (old new : Outside) : Type 0 where
   pub text : List ℕ
   pub funs : List Writer
   pub loaded : HasLoaded words old.store new.store text
   pub form : HasFirstForm text funs
   pub told : Option (List ℕ)
+  pub no_fetch : IfSome told (λ list. list ≡ [])
 
 -- The source means what is seen: the status and the line are those of what `main` returns, the output gained what `main`
--- writes and is flushed, the input lost nothing, only kept code was fetched, and the text in memory is the image's. And that
+-- writes and is flushed, the input lost nothing, each fetched address lies in kept code, and the text in memory is the image's. And that
 -- output, that rest of the input and that value are what the project of this one unit means, for each input.
 pub record ShowsMeaning (words : List (List ℕ)) (old new : Outside) (msg msg' : SinkState) (status : ℕ) : Type 0 where
   pub began : Began words old new
   pub value : ℕ
   pub meant : EndsAsMeant began.funs (record { mem = image began.funs; fetches = 0; told = began.told; input = old.input; out = old.out }) (given new) value
   pub means : (input : List ℕ) →
-      meaning ((unit_of began.form.unit ∷ []) ∷ []) input 1000000 ≡ record { output = output_of meant.main; rest = input; end = exit value }
+      meaning ((unit_of began.form.unit ∷ []) ∷ []) input default_steps ≡ record { output = output_of meant.main; rest = input; end = exit value }
   pub status_is : status ≡ status_of_value value
   pub line : msg' ≡ flushed_all (wrote (line_of_value value) msg)
 
@@ -66,7 +68,7 @@ pub record NoneFailed (old new : Outside) (msg msg' : SinkState) : Type 0 where
 abbrev pub PassesNone : Outside → Outside → SinkState → SinkState → ℕ → Type 0
 PassesNone old new msg msg' status = status ≢ 6 → status ≢ 7 → NoneFailed old new msg msg'
 
--- The words ask for a file, which is told to have this text, no longer than a source file may be, which has these functions.
+-- The words ask for a file, which is reported to have this text, no longer than a source file may be, which has these functions.
 pub record AsksForProgram (words : List (List ℕ)) (files : Option Files) (funs : List Writer) : Type 0 where
   pub file : List ℕ
   pub asks : AsksForOne words file
@@ -74,7 +76,7 @@ pub record AsksForProgram (words : List (List ℕ)) (files : Option Files) (funs
   pub told : files ≡ Some at
   pub text : List ℕ
   pub stands : at file ≡ Some text
-  pub short : length text ≤ 1048576
+  pub short : length text ≤ source_bytes
   pub form : HasFirstForm text funs
 
 -- no count of failed calls stands at its end

@@ -1,6 +1,7 @@
 -- What reading a unit answers, and what it leaves of the store.
 use Rattle.std.specs.Prelude.{◌≡◌, ℕ, ◌≤◌, ◌⊎◌, List, Option, length, Result, Ok, Err, Vec, ⊤}
 use Rattle.std.specs.declared.alloc.Global.{Global}
+use Rattle.pw_base.specs.Limits.{source_bytes}
 use Rattle.pw_tree.specs.declared.tunit.TUnit.{TUnit}
 use Rattle.pw_tree.specs.Units.{unit_of}
 use Rattle.pw_types.specs.declared.error.TypeError.TheVariants as types
@@ -17,13 +18,13 @@ use Rattle.pw_cmd.specs.declared.answer.Stop.TheVariants.{Usage, TooLong, Lex, S
 -- The file was read, with one call, and has this text.
 pub record HasRead (file text : List ℕ) (old new : StoreState) : Type 0 where
   pub calls : new ≡ called (Read file) old
-  pub short : length text ≤ 1048576
+  pub short : length text ≤ source_bytes
   pub stands : StandsIn old.files file text
 
 -- the file was asked for, with one call, and has more bytes than a source file may
 pub record HasTooMany (file : List ℕ) (limit : ℕ) (old new : StoreState) : Type 0 where
   pub calls : new ≡ called (Read file) old
-  pub limit_is : limit ≡ 1048576
+  pub limit_is : limit ≡ source_bytes
   pub passes : PassesLimit old.files file limit
 
 -- The text has a typed unit, which is of the first form, with these functions.

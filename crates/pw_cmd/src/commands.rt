@@ -1,6 +1,6 @@
 //! The call that the program is: words in, a status and the memory out.
 ghost use Rattle.std.specs.Prelude.{◌≡◌};
-ghost use Rattle.pw_cmd.specs.Comes.{Outside, Answers};
+ghost use Rattle.pw_cmd.specs.Comes.{outside, Answers};
 ghost use Rattle.pw_cmd.specs.Shows.{Completes, Means, PassesNone, ReadFailedOnly, WriteFailedOnly};
 ghost use Rattle.pw_cmd.specs.Words.{texts};
 
@@ -22,28 +22,28 @@ pub fn top<S: Store, I: Source, O: Sink, E: Sink, M: Memory>(
     mem: M,
 ) -> (u8, M)
     ensures answers { Answers (texts words.now)
-        (record { store = S.state store.old; input = I.state input.old; out = O.state out.old; mem = M.mem mem; fetches = M.fetches mem; told = M.told mem })
-        (record { store = S.state store.new; input = I.state input.new; out = O.state out.new; mem = M.mem result.1; fetches = M.fetches result.1; told = M.told result.1 })
+        (outside (S.state store.old) (I.state input.old) (O.state out.old) (M.mem mem) (M.fetches mem) (M.told mem))
+        (outside (S.state store.new) (I.state input.new) (O.state out.new) (M.mem result.1) (M.fetches result.1) (M.told result.1))
         (E.state msg.old) (E.state msg.new) result.0 }
     ensures means { Means (texts words.now)
-        (record { store = S.state store.old; input = I.state input.old; out = O.state out.old; mem = M.mem mem; fetches = M.fetches mem; told = M.told mem })
-        (record { store = S.state store.new; input = I.state input.new; out = O.state out.new; mem = M.mem result.1; fetches = M.fetches result.1; told = M.told result.1 })
+        (outside (S.state store.old) (I.state input.old) (O.state out.old) (M.mem mem) (M.fetches mem) (M.told mem))
+        (outside (S.state store.new) (I.state input.new) (O.state out.new) (M.mem result.1) (M.fetches result.1) (M.told result.1))
         (E.state msg.old) (E.state msg.new) result.0 }
     ensures completes { Completes (texts words.now)
-        (record { store = S.state store.old; input = I.state input.old; out = O.state out.old; mem = M.mem mem; fetches = M.fetches mem; told = M.told mem })
-        (record { store = S.state store.new; input = I.state input.new; out = O.state out.new; mem = M.mem result.1; fetches = M.fetches result.1; told = M.told result.1 })
+        (outside (S.state store.old) (I.state input.old) (O.state out.old) (M.mem mem) (M.fetches mem) (M.told mem))
+        (outside (S.state store.new) (I.state input.new) (O.state out.new) (M.mem result.1) (M.fetches result.1) (M.told result.1))
         (E.state msg.old) (E.state msg.new) result.0 }
     ensures read_failed { ReadFailedOnly (texts words.now)
-        (record { store = S.state store.old; input = I.state input.old; out = O.state out.old; mem = M.mem mem; fetches = M.fetches mem; told = M.told mem })
-        (record { store = S.state store.new; input = I.state input.new; out = O.state out.new; mem = M.mem result.1; fetches = M.fetches result.1; told = M.told result.1 })
+        (outside (S.state store.old) (I.state input.old) (O.state out.old) (M.mem mem) (M.fetches mem) (M.told mem))
+        (outside (S.state store.new) (I.state input.new) (O.state out.new) (M.mem result.1) (M.fetches result.1) (M.told result.1))
         result.0 }
     ensures write_failed { WriteFailedOnly
-        (record { store = S.state store.old; input = I.state input.old; out = O.state out.old; mem = M.mem mem; fetches = M.fetches mem; told = M.told mem })
-        (record { store = S.state store.new; input = I.state input.new; out = O.state out.new; mem = M.mem result.1; fetches = M.fetches result.1; told = M.told result.1 })
+        (outside (S.state store.old) (I.state input.old) (O.state out.old) (M.mem mem) (M.fetches mem) (M.told mem))
+        (outside (S.state store.new) (I.state input.new) (O.state out.new) (M.mem result.1) (M.fetches result.1) (M.told result.1))
         (E.state msg.old) (E.state msg.new) result.0 }
     ensures passes_none { PassesNone
-        (record { store = S.state store.old; input = I.state input.old; out = O.state out.old; mem = M.mem mem; fetches = M.fetches mem; told = M.told mem })
-        (record { store = S.state store.new; input = I.state input.new; out = O.state out.new; mem = M.mem result.1; fetches = M.fetches result.1; told = M.told result.1 })
+        (outside (S.state store.old) (I.state input.old) (O.state out.old) (M.mem mem) (M.fetches mem) (M.told mem))
+        (outside (S.state store.new) (I.state input.new) (O.state out.new) (M.mem result.1) (M.fetches result.1) (M.told result.1))
         (E.state msg.old) (E.state msg.new) result.0 }
 {
     let mut mem = mem;

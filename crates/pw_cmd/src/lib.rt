@@ -1,4 +1,5 @@
-//! The commands: from the words after the program's name to a status, a message line, the output and the memory that ran.
+//! The commands: from the arguments of a command line to the exit status, a message line, the output and the memory that
+//! ran. `top` takes the words after the program's name, `run` the arguments, and `run_on_system` those of the system.
 #![tactic(auto)]
 
 mod answer;
@@ -6,17 +7,13 @@ mod commands;
 mod message;
 mod perform;
 mod pieces;
-#[cfg(test)]
-mod recorder;
+mod program;
 mod refusal;
-#[cfg(test)]
-mod refusal_tests;
 mod running;
-#[cfg(test)]
-mod tests;
+mod system;
 mod unit;
 mod words;
 
-pub use answer::{Outcome, Stop};
 pub use commands::top;
-pub use message::tell;
+pub use program::run;
+pub use system::run_on_system;

@@ -1,5 +1,6 @@
 //! Reads the one unit of a program, and its functions.
 ghost use Rattle.std.specs.Prelude.{◌≡◌, ◌≤◌, length, sum_by, IfOk};
+ghost use Rattle.pw_base.specs.Limits.{source_bytes};
 ghost use Rattle.pw_tree.specs.Units.{unit_of};
 ghost use Rattle.pw_front.specs.Weights.{weight};
 ghost use Rattle.pw_agree.specs.Image.{CanPlace};
@@ -44,7 +45,7 @@ fn read_unit<S: Store>(alloc: Global, store: &mut S, file: &Name) -> Result<Vec<
 
 /// The functions of a text.
 fn functions_of(alloc: Global, text: &[u8]) -> Result<Items<Writer>, Stop>
-    requires { length text.now ≤ 1048576 }
+    requires { length text.now ≤ source_bytes }
     ensures reads { ReadsText text.now result }
     ensures placed { IfOk result CanPlace }
 {
@@ -56,7 +57,7 @@ fn functions_of(alloc: Global, text: &[u8]) -> Result<Items<Writer>, Stop>
 
 /// The functions of a unit that is no longer than a source file.
 fn writers_of(alloc: Global, unit: &TUnit) -> Result<Items<Writer>, Stop>
-    requires { sum_by weight (unit_of unit.now).functions ≤ 1048576 }
+    requires { sum_by weight (unit_of unit.now).functions ≤ source_bytes }
     ensures reads { ReadsForm unit.now result }
     ensures placed { IfOk result CanPlace }
 {

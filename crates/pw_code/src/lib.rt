@@ -5,8 +5,6 @@
 mod address;
 mod entry;
 mod function;
-#[cfg(test)]
-mod tests;
 mod words;
 
 pub use entry::put_entry;

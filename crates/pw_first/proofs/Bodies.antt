@@ -6,7 +6,7 @@ use Rattle.std.proofs.lemmas.List.{append-nil}
 use Rattle.pw_tree.specs.TypedExpressions.{TypedExpression, constant, output}
 use Rattle.pw_tree.specs.TypedStatements.{TypedStatement, TypedStatements, evaluate, returns, nil, cons, typed_statements_of}
 use Rattle.pw_tree.specs.declared.tstmt.TStmt.{TStmt}
-use Rattle.pw_first.specs.FirstForm.{IsConstant, IsOutput, IsWrittenBy, IsReturned, IsLast, Writes}
+use Rattle.pw_first.specs.FirstForm.{largest_number, IsConstant, IsOutput, IsWrittenBy, IsReturned, IsLast, Writes}
 use Rattle.pw_first.specs.Reading.{small_constant, written, written_by, returned_by, returned_last, numbers_from, numbers}
 
 -- two statements or more are not the last one
@@ -19,14 +19,14 @@ several_left (s ∷ t ∷ rest) h = refl
 
 constant_ok : (e : TypedExpression) (n : ℕ) → small_constant e ≡ Some n → IsConstant e n
 constant_ok (constant at value) n h =
-    elim (cases_Bool (nat_le value 2047)) [
-      | inl small ↦ let f : Some value ≡ Some n = rw small at h in let same : value ≡ n = cc in (same, subst (λ m. m ≤ 2047) same (leb-true value 2047 small))
+    elim (cases_Bool (nat_le value largest_number)) [
+      | inl small ↦ let f : Some value ≡ Some n = rw small at h in let same : value ≡ n = cc in (same, subst (λ m. m ≤ largest_number) same (leb-true value largest_number small))
       | inr large ↦ let f : None ≡ Some n = rw large at h in cc
     ]
 constant_ok _ n h = cc
 
 constant_there : (e : TypedExpression) (n : ℕ) → IsConstant e n → small_constant e ≡ Some n
-constant_there (constant at value) n k = rw (le-leb value 2047 (subst (λ m. m ≤ 2047) (sym k.0) k.1)) (ap (λ m. Some m) k.0)
+constant_there (constant at value) n k = rw (le-leb value largest_number (subst (λ m. m ≤ largest_number) (sym k.0) k.1)) (ap (λ m. Some m) k.0)
 constant_there _ n k = absurd k
 
 output_ok : (e : TypedExpression) (n : ℕ) → written e ≡ Some n → IsOutput e n

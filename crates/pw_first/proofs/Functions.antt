@@ -4,11 +4,12 @@ use Rattle.std.specs.Prelude.{option_map, option_and_then, IfSome}
 use Rattle.std.proofs.lemmas.Bool.{cases_Bool, and_parts, and_from, leb-true, le-leb}
 use Rattle.std.proofs.lemmas.List.{append-nil}
 use Rattle.pw_base.specs.declared.no_memory.NoMemory.{NoMemory}
+use Rattle.pw_base.specs.Limits.{module_names}
 use Rattle.pw_tree.specs.Units.{Function, TypedUnit}
 use Rattle.pw_tree.specs.declared.ty.Ty.{Ty}
 use Rattle.pw_tree.specs.declared.ty.Ty.TheVariants.{Long}
 use Rattle.pw_first.specs.declared.writer.Writer.{Writer}
-use Rattle.pw_first.specs.FirstForm.{Writes, IsWriter, AreWriters, IsFirstForm}
+use Rattle.pw_first.specs.FirstForm.{last_line, Writes, IsWriter, AreWriters, IsFirstForm}
 use Rattle.pw_first.specs.Reading.{numbers, is_long, is_empty, is_plain, writer, all_writers, unit_writers}
 use Rattle.pw_first.specs.Laws.{HasOneList}
 use Rattle.pw_first.proofs.Bodies.{Adds, numbers_ok, numbers_there}
@@ -35,7 +36,7 @@ plain_ok f None w plain was e = cc
 plain_ok f (Some found) w plain was e =
     let same : writer_with f found ≡ w = cc in
     let adds : Adds [] f.body found.0 found.1 = numbers_ok [] f.body found.0 found.1 was in
-    let three = and_parts (f.global && is_long f.sig.result && is_empty f.sig.params) (nat_le f.line 2047) plain in
+    let three = and_parts (f.global && is_long f.sig.result && is_empty f.sig.params) (nat_le f.line last_line) plain in
     let two = and_parts (f.global && is_long f.sig.result) (is_empty f.sig.params) three.0 in
     let one = and_parts f.global (is_long f.sig.result) two.0 in
     let is : IsWriter f (writer_with f found) = record {
@@ -44,7 +45,7 @@ plain_ok f (Some found) w plain was e =
       external = one.0;
       result = long_ok f.sig.result one.1;
       no_parameters = empty_ok f.sig.params two.1;
-      early = leb-true f.line 2047 three.1;
+      early = leb-true f.line last_line three.1;
       writes = subst (λ outs. Writes f.body outs found.1) (sym adds.whole) adds.writes;
     } in
     subst (λ v. IsWriter f v) same is
@@ -63,7 +64,7 @@ plain_there f w k =
     let empty : is_empty f.sig.params ≡ true = rw k.no_parameters refl in
     let one : (f.global && is_long f.sig.result) ≡ true = and_from f.global (is_long f.sig.result) k.external long in
     let two : (f.global && is_long f.sig.result && is_empty f.sig.params) ≡ true = and_from (f.global && is_long f.sig.result) (is_empty f.sig.params) one empty in
-    and_from (f.global && is_long f.sig.result && is_empty f.sig.params) (nat_le f.line 2047) two (le-leb f.line 2047 k.early)
+    and_from (f.global && is_long f.sig.result && is_empty f.sig.params) (nat_le f.line last_line) two (le-leb f.line last_line k.early)
 
 writer_is : (f : Function) (w : Writer) → IsWriter f w → writer_with f (w.outs, w.ret) ≡ w
 writer_is f w k =
@@ -108,13 +109,13 @@ all_there found (f ∷ fs) (w ∷ ws) k =
 unit_ok : (unit : TypedUnit) (ws : List Writer) → unit_writers unit ≡ Some ws → IsFirstForm unit ws
 unfolding unit_writers
 unit_ok unit ws e =
-    elim (cases_Bool (is_empty unit.variables && nat_le (length unit.functions) 16384)) [
+    elim (cases_Bool (is_empty unit.variables && nat_le (length unit.functions) module_names)) [
       | inl fits ↦
-          let parts = and_parts (is_empty unit.variables) (nat_le (length unit.functions) 16384) fits in
+          let parts = and_parts (is_empty unit.variables) (nat_le (length unit.functions) module_names) fits in
           let adds : AddsAll [] unit.functions ws = all_ok [] unit.functions ws (rw fits at e) in
           record {
             no_variables = empty_ok unit.variables parts.0;
-            few = leb-true (length unit.functions) 16384 parts.1;
+            few = leb-true (length unit.functions) module_names parts.1;
             each = subst (λ vs. AreWriters unit.functions vs) (sym adds.whole) adds.each;
           }
       | inr other ↦ let no : None ≡ Some ws = rw other at e in cc
@@ -124,8 +125,8 @@ unit_there : (unit : TypedUnit) (ws : List Writer) → IsFirstForm unit ws → u
 unfolding unit_writers
 unit_there unit ws k =
     let empty : is_empty unit.variables ≡ true = rw k.no_variables refl in
-    let fits : (is_empty unit.variables && nat_le (length unit.functions) 16384) ≡ true =
-    and_from (is_empty unit.variables) (nat_le (length unit.functions) 16384) empty (le-leb (length unit.functions) 16384 k.few) in
+    let fits : (is_empty unit.variables && nat_le (length unit.functions) module_names) ≡ true =
+    and_from (is_empty unit.variables) (nat_le (length unit.functions) module_names) empty (le-leb (length unit.functions) module_names k.few) in
     rw fits (all_there [] unit.functions ws k.each)
 
 pub one_list : HasOneList

@@ -1,14 +1,23 @@
 -- The first form: which typed units have it, and the writers that their functions are.
 use Rattle.std.specs.Prelude.{◌≡◌, ℕ, ◌≤◌, true, List, [], ◌∷◌, length, Some}
+use Rattle.pw_base.specs.Limits.{module_names}
 use Rattle.pw_tree.specs.TypedExpressions.{TypedExpression, constant, output}
 use Rattle.pw_tree.specs.TypedStatements.{TypedStatement, TypedStatements, evaluate, returns, nil, cons}
 use Rattle.pw_tree.specs.Units.{Function, TypedUnit}
 use Rattle.pw_tree.specs.declared.ty.Ty.TheVariants.{Long}
 use Rattle.pw_first.specs.declared.writer.Writer.{Writer}
 
--- The expression is this constant, which is at most 2047.
+-- the largest number that is written or returned, and the last line that a function's name may stand in: an immediate of 12
+-- bits holds each
+abbrev pub largest_number : ℕ
+largest_number = 2047
+
+abbrev pub last_line : ℕ
+last_line = 2047
+
+-- The expression is this constant, which is not too large.
 abbrev pub IsConstant : TypedExpression → ℕ → Type 0
-IsConstant (constant at value) number = (value ≡ number) × (number ≤ 2047)
+IsConstant (constant at value) number = (value ≡ number) × (number ≤ largest_number)
 IsConstant _ number = ⊥
 
 -- The expression is `__out` of this constant.
@@ -37,7 +46,7 @@ Writes ss [] ret = IsLast ss ret
 Writes (cons s ss) (number ∷ outs) ret = IsWrittenBy s number × Writes ss outs ret
 Writes nil (number ∷ outs) ret = ⊥
 
--- The function is `long f(void)` with external linkage, its name stands in a line up to 2047, and it is this writer. The
+-- The function is `long f(void)` with external linkage, its name stands in no later line than the last, and it is this writer. The
 -- types and the lines that the constants are marked with do not matter.
 pub record IsWriter (f : Function) (w : Writer) : Type 0 where
   pub name : w.name ≡ f.name
@@ -45,7 +54,7 @@ pub record IsWriter (f : Function) (w : Writer) : Type 0 where
   pub external : f.global ≡ true
   pub result : f.sig.result ≡ Long
   pub no_parameters : f.sig.params ≡ []
-  pub early : f.line ≤ 2047
+  pub early : f.line ≤ last_line
   pub writes : Writes f.body w.outs w.ret
 
 -- The functions are these writers, one by one.
@@ -57,5 +66,5 @@ AreWriters _ _ = ⊥
 -- The unit is of the first form, and its functions are these writers.
 pub record IsFirstForm (unit : TypedUnit) (ws : List Writer) : Type 0 where
   pub no_variables : unit.variables ≡ []
-  pub few : length unit.functions ≤ 16384
+  pub few : length unit.functions ≤ module_names
   pub each : AreWriters unit.functions ws

@@ -1,15 +1,17 @@
 -- How a typed unit is asked for the first form: each step gives the numbers or the writers, or nothing.
 use Rattle.std.specs.Prelude.{ℕ, Bool, true, false, ◌&&◌, if◌then◌else◌, nat_le, List, [], ◌∷◌, ◌++◌, length, Option, Some, None, option_map, option_and_then}
+use Rattle.pw_base.specs.Limits.{module_names}
 use Rattle.pw_tree.specs.TypedExpressions.{TypedExpression, constant, output}
 use Rattle.pw_tree.specs.TypedStatements.{TypedStatement, TypedStatements, evaluate, returns, nil, cons}
 use Rattle.pw_tree.specs.Units.{Function, TypedUnit}
 use Rattle.pw_tree.specs.declared.ty.Ty.{Ty}
 use Rattle.pw_tree.specs.declared.ty.Ty.TheVariants.{Long}
 use Rattle.pw_first.specs.declared.writer.Writer.{Writer}
+use Rattle.pw_first.specs.FirstForm.{largest_number, last_line}
 
--- the value of a constant that is at most 2047
+-- the value of a constant that is not too large
 abbrev pub small_constant : TypedExpression → Option ℕ
-small_constant (constant at value) = if nat_le value 2047 then Some value else None
+small_constant (constant at value) = if nat_le value largest_number then Some value else None
 small_constant _ = None
 
 -- the number that `__out` of a constant writes
@@ -50,9 +52,9 @@ abbrev pub is_empty : {A : Type 0} → List A → Bool
 is_empty [] = true
 is_empty _ = false
 
--- is it `long f(void)`, with external linkage and its name in a line up to 2047?
+-- is it `long f(void)`, with external linkage and its name in no later line than the last?
 abbrev pub is_plain : Function → Bool
-is_plain f = f.global && is_long f.sig.result && is_empty f.sig.params && nat_le f.line 2047
+is_plain f = f.global && is_long f.sig.result && is_empty f.sig.params && nat_le f.line last_line
 
 -- the writer that a function is
 unfoldable pub writer : Function → Option Writer
@@ -69,4 +71,4 @@ all_writers found (f ∷ fs) = option_and_then (λ w. all_writers (found ++ w �
 -- the writers that a unit is made of
 unfoldable pub unit_writers : TypedUnit → Option (List Writer)
 unit_writers unit =
-    if is_empty unit.variables && nat_le (length unit.functions) 16384 then all_writers [] unit.functions else None
+    if is_empty unit.variables && nat_le (length unit.functions) module_names then all_writers [] unit.functions else None

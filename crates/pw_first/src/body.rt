@@ -12,7 +12,7 @@ use std::alloc::Global;
 /// The largest number that is written or returned.
 const LARGEST: u64 = 2047;
 
-/// The value of a constant that is at most 2047.
+/// The value of a constant that is not too large.
 fn small_constant(expr: &TExpr) -> Option<u16>
     ensures { result ≡ spec.small_constant (typed_expression_of expr.now) }
 {

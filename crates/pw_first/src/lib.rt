@@ -5,8 +5,6 @@
 mod body;
 mod function;
 mod laws;
-#[cfg(test)]
-mod tests;
 mod unit;
 mod writer;
 

@@ -5,8 +5,6 @@
 mod error;
 mod laws;
 mod message;
-#[cfg(test)]
-mod tests;
 mod unit;
 
 pub use error::FrontError;

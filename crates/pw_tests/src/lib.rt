@@ -3,6 +3,8 @@
 #![tactic(auto)]
 
 #[cfg(test)]
+mod code_words;
+#[cfg(test)]
 mod copies;
 #[cfg(test)]
 mod cut_texts;
@@ -10,6 +12,10 @@ mod cut_texts;
 mod deep_copies;
 #[cfg(test)]
 mod division;
+#[cfg(test)]
+mod first_forms;
+#[cfg(test)]
+mod fronts;
 #[cfg(test)]
 mod statement_trees;
 #[cfg(test)]

@@ -1,14 +1,14 @@
-//! A memory for tests that tells the addresses of its fetches, up to 65,536 of them.
+//! A memory for tests that reports the addresses of its fetches, up to 65,536 of them.
 ghost use Rattle.std.specs.Prelude.{Some, None, if◌then◌else◌};
 ghost use Rattle.pw_mem.specs.Flat.{mem_of, fetches_of};
 
 use pw_mem::{Access, FlatMemory, MapError, Memory, Region};
 use std::alloc::{AllocError, Global};
 
-/// How many addresses are told; with one more the memory ceases to tell.
-const TOLD: usize = 65_536;
+/// How many addresses are reported; with one more the memory ceases to report them.
+const REPORTED: usize = 65_536;
 
-/// A memory with one vector a region that also tells its fetches. Room for them is taken when it is made.
+/// A memory with one vector a region that also reports its fetches. Room for them is taken when it is made.
 #[derive(Drop)]
 pub struct Recorder {
     flat: FlatMemory,
@@ -17,9 +17,9 @@ pub struct Recorder {
 }
 
 impl Recorder {
-    /// A memory with no region, which tells no fetch.
+    /// A memory with no region and no fetch.
     pub fn new(alloc: Global) -> Result<Recorder, AllocError> {
-        let list = Vec::with_capacity(alloc, TOLD)?;
+        let list = Vec::with_capacity(alloc, REPORTED)?;
         Ok(Recorder {
             flat: FlatMemory::new(alloc),
             list,
@@ -27,7 +27,7 @@ impl Recorder {
         })
     }
 
-    /// The addresses fetched from since the last `map`, where they are told.
+    /// The addresses fetched from since the last `map`, where they are reported.
     pub fn told(&self) -> Option<&[u64]> {
         if self.tells {
             Some(self.list.as_slice())
@@ -52,7 +52,7 @@ impl Memory for Recorder {
     }
 
     fn fetch(&mut self, at: u64) -> Result<u32, Access> {
-        if self.tells && (self.list.len() >= TOLD || self.list.push(at).is_err()) {
+        if self.tells && (self.list.len() >= REPORTED || self.list.push(at).is_err()) {
             self.tells = false;
         }
         self.flat.fetch(at)

@@ -1,5 +1,5 @@
 //! What the command says of texts that are refused, and of texts as deep as a function may be.
-use crate::tests::{NONE, run};
+use crate::command::{NONE, run};
 use pw_mem::FlatMemory;
 use std::alloc::{AllocError, Global};
 use std::test::Fail;

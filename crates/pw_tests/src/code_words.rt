@@ -1,8 +1,7 @@
 //! The words of the program that writes two bytes, as another model of the scheme gives them.
 
-use crate::entry::put_entry;
-use crate::function::{function_size, put_function};
 use pw_base::Name;
+use pw_code::{function_size, put_entry, put_function};
 use pw_first::Writer;
 use sqlite_items::Items;
 use std::test::Fail;

@@ -1,6 +1,6 @@
-//! With ample memory a unit gives its writers, or none.
-use super::writers;
+//! The writers of units of the first form, and units that are not of it.
 use pw_base::Name;
+use pw_first::writers;
 use pw_tree::{Sig, TExpr, TFun, TKind, TStmt, TUnit, TVar, Ty};
 use sqlite_items::{Boxed, Items};
 use std::alloc::Global;

@@ -1,8 +1,8 @@
-//! What `front` says of texts, and how each fault is told.
+//! What `front` says of texts, and the message of each fault.
 
 ghost use Rattle.std.specs.Prelude.{◌<◌, ◌^◌, length};
 
-use super::{FrontError, front};
+use pw_front::{FrontError, front};
 use pw_grammar::SyntaxError;
 use pw_lex::LexError;
 use pw_tree::TUnit;
