@@ -8,7 +8,8 @@ use Rattle.pw_grammar.specs.Reading.{first_limit, judged, judged_by, up_to, pars
 use Rattle.pw_grammar.specs.ReadingDeclarations.{unit}
 use Rattle.pw_grammar.specs.Laws.{Tells}
 use Rattle.pw_grammar.proofs.Known.{reading_tells}
-use Rattle.pw_parse.specs.Whole.{Answers, IsFaultless}
+use Rattle.pw_parse.specs.Steps.Answers.{Answers}
+use Rattle.pw_parse.specs.Whole.{IsFaultless}
 use Rattle.pw_lex.specs.declared.token.Token.{Token}
 use Rattle.pw_tree.specs.declared.decl.Decl.{Decl}
 

@@ -11,6 +11,4 @@ mod deep_copies;
 #[cfg(test)]
 mod division;
 #[cfg(test)]
-mod statement_trees;
-#[cfg(test)]
 mod units;
