@@ -8,7 +8,7 @@ use Rattle.pw_lex.specs.declared.token.TokenKind.{TokenKind}
 use Rattle.pw_lex.specs.declared.token.TokenKind.TheVariants.{Word, Number, Char, Keyword, Punct}
 use Rattle.pw_lex.specs.Bytes.{Text, class_of}
 use Rattle.pw_lex.specs.Fault.{Piece, white, line_comment, block_comment, token, bytes_of, StandsBefore}
-use Rattle.pw_lex.specs.Text.{HasTokens, Stand, is_newline, spelled, tokens_of_piece, tokens_behind}
+use Rattle.pw_lex.specs.Text.{HasTokens, Stand, is_newline, spelled, tokens_of_piece, tokens_after}
 use Rattle.pw_lex.specs.Token.{IsToken}
 use Rattle.pw_lex.proofs.FirstBytes.{kind_class, token_begins}
 use Rattle.pw_grammar.specs.declared.error.SyntaxError.{SyntaxError}
@@ -44,12 +44,12 @@ piece_ends before (block_comment body) rest stands = omega (arith, count_by-le-l
 piece_ends before (token bytes kind) rest stands = token_ends bytes kind stands.token
 
 pieces_end : (before : Text) (pieces : List Piece) (rest : Text) → Stand pieces rest
-    → length (tokens_behind before pieces) + count_by is_newline (spelled pieces) ≤ length (spelled pieces)
+    → length (tokens_after before pieces) + count_by is_newline (spelled pieces) ≤ length (spelled pieces)
 pieces_end before [] rest stand = omega arith
 pieces_end before (piece ∷ pieces) rest stand =
     let here = piece_ends before piece (spelled pieces ++ rest) stand.0 in
     let later = pieces_end (before ++ bytes_of piece) pieces rest stand.1 in
-    let tokens = length-append (tokens_of_piece before piece) (tokens_behind (before ++ bytes_of piece) pieces) in
+    let tokens = length-append (tokens_of_piece before piece) (tokens_after (before ++ bytes_of piece) pieces) in
     let bytes = length-append (bytes_of piece) (spelled pieces) in
     let ends = sum_by-append (λ b. cond (is_newline b) 1 0) (bytes_of piece) (spelled pieces) in
     omega arith

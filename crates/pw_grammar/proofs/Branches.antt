@@ -5,7 +5,7 @@ use Rattle.pw_grammar.specs.contracts.sort.Sort.{the_type}
 use Rattle.pw_grammar.specs.declared.sort.Sort.{Sort}
 use Rattle.pw_grammar.specs.declared.error.SyntaxError.TheVariants.{At}
 use Rattle.pw_grammar.specs.Terminals.{first_sort, is_same}
-use Rattle.pw_grammar.specs.Steps.{Position, Parser, and_then, ◌>>=◌, pure, refuse, next_sort}
+use Rattle.pw_grammar.specs.Reading.Steps.{Position, Parser, and_then, ◌>>=◌, pure, refuse, next_sort}
 use Rattle.pw_grammar.proofs.Lawful.{Language, Agree, GoesOn, Says, Same, Lawful, Within, Lax, says_within, Seq, Shrinks, same_passed, near_or_far, leads_nowhere, says_both, same_both, settled_both}
 use Rattle.pw_lex.specs.declared.token.Token.{Token}
 

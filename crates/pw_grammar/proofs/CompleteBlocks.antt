@@ -7,9 +7,9 @@ use Rattle.pw_grammar.specs.Terminals.{sort, first_sort, is_same}
 use Rattle.pw_grammar.specs.Expressions.{spelled}
 use Rattle.pw_grammar.specs.Statements as st
 use Rattle.pw_grammar.specs.Statements.{StatementDerivation, StatementDerivations, empty, block, declare, simple, if_only, if_else, while_do, do_while, for_do, leave, jump, nil, cons, spelled_statement, spelled_statements, IsStatement, AreStatements, open_ended, kind_of, tree_of_statement, trees_of_statements, spelled_simple, spelled_local, jump_of}
-use Rattle.pw_grammar.specs.Steps.{Position, Parser, ◌>>=◌, pure, next_sort}
-use Rattle.pw_grammar.specs.ReadingExpressions.{expression}
-use Rattle.pw_grammar.specs.ReadingStatements as r
+use Rattle.pw_grammar.specs.Reading.Steps.{Position, Parser, ◌>>=◌, pure, next_sort}
+use Rattle.pw_grammar.specs.Reading.Expressions.{expression}
+use Rattle.pw_grammar.specs.Reading.Statements as r
 use Rattle.pw_grammar.proofs.CompleteTokens.{spot, then_, counted, done, valued, step_skip, step_expect, either_this, either_other, parted, told_apart, line_of_front, fits, node_is, ReadsExpressions}
 use Rattle.pw_grammar.proofs.CompleteTypes.{reads_local, local_begins}
 use Rattle.pw_grammar.proofs.Lengths.{statement_length}

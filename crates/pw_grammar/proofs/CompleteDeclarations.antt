@@ -8,11 +8,11 @@ use Rattle.pw_grammar.specs.Terminals.{sort, first_sort, is_same}
 use Rattle.pw_grammar.specs.Expressions.{name_in}
 use Rattle.pw_grammar.specs.Statements.{TypeDerivation, word, unsigned, spelled_type, IsType, type_of, type_in, type_or, StatementDerivations, spelled_statements, trees_of_statements}
 use Rattle.pw_grammar.specs.Declarations as dc
-use Rattle.pw_grammar.specs.Declarations.{spelled_storage, IsStorage, IsDefining, linkage_of, linkage_by, ResultDerivation, spelled_result, IsResult, result_in, ParametersDerivation, spelled_parameters, AreParameters, parameters_of, VariableDerivation, spelled_variable, IsVariable, MayHave, DeclarationDerivation, prototype, function, variable, spelled_declaration, IsDeclaration, name_at, behind_parameters, tree_of_declaration, UnitDerivation, spelled_unit, IsUnit, trees_of_declarations}
-use Rattle.pw_grammar.specs.Steps.{Position, Parser, ◌>>=◌, pure, refuse, next_sort}
-use Rattle.pw_grammar.specs.ReadingExpressions.{expression}
-use Rattle.pw_grammar.specs.ReadingStatements as r
-use Rattle.pw_grammar.specs.ReadingDeclarations as rd
+use Rattle.pw_grammar.specs.Declarations.{spelled_storage, IsStorage, IsDefining, linkage_of, linkage_by, ResultDerivation, spelled_result, IsResult, result_in, ParametersDerivation, spelled_parameters, AreParameters, parameters_of, VariableDerivation, spelled_variable, IsVariable, MayHave, DeclarationDerivation, prototype, function, variable, spelled_declaration, IsDeclaration, name_at, after_parameters, tree_of_declaration, UnitDerivation, spelled_unit, IsUnit, trees_of_declarations}
+use Rattle.pw_grammar.specs.Reading.Steps.{Position, Parser, ◌>>=◌, pure, refuse, next_sort}
+use Rattle.pw_grammar.specs.Reading.Expressions.{expression}
+use Rattle.pw_grammar.specs.Reading.Statements as r
+use Rattle.pw_grammar.specs.Reading.Declarations as rd
 use Rattle.pw_grammar.proofs.Lengths.{declaration_length}
 use Rattle.pw_grammar.proofs.CompleteTokens.{spot, then_, counted, done, valued, step_skip, step_expect, step_name, sees_it, sees_other, either_this, either_other, behind, parted, fits, ReadsExpressions}
 use Rattle.pw_grammar.proofs.CompleteStatements.{no_other}
@@ -192,13 +192,13 @@ reads_declaration reads n (prototype g y x o ps c e) at ts (is_g, is_y, is_x, is
     let inner : length (o ∷ (spelled_parameters ps ++ c ∷ e ∷ ts)) < n = front_fits (spelled_storage g) (spelled_result y) x _ n (fits _ _ n parts short) in
     parted (rd.declaration (expression n) (r.statement n) n) at parts
     (counted _ (reads_front (expression n) (r.statement n) n at g y x (o ∷ (spelled_parameters ps ++ c ∷ e ∷ ts)) _
-    (suc (behind_parameters at g y ps)) _ ts is_g is_y is_x
+    (suc (after_parameters at g y ps)) _ ts is_g is_y is_x
     (a_function (expression n) (r.statement n) n (linkage_of g) (result_in y)
     (spot (suc (name_at at g (spelled_result y))) (o ∷ (spelled_parameters ps ++ c ∷ e ∷ ts))) is_o
     ∙ reads_function (expression n) (r.statement n) n (linkage_of g) (result_in y) (suc (name_at at g (spelled_result y))) o ps c (e ∷ ts) _ _ are is_c (omega arith)
     (ends_here (expression n) (r.statement n) n (linkage_of g) (result_in y) (parameters_of (suc (suc (name_at at g (spelled_result y)))) ps)
-    (spot (suc (behind_parameters at g y ps)) (e ∷ ts)) is_e
-    ∙ a_prototype (result_in y) (parameters_of (suc (suc (name_at at g (spelled_result y)))) ps) (suc (behind_parameters at g y ps)) e ts is_e))
+    (spot (suc (after_parameters at g y ps)) (e ∷ ts)) is_e
+    ∙ a_prototype (result_in y) (parameters_of (suc (suc (name_at at g (spelled_result y)))) ps) (suc (after_parameters at g y ps)) e ts is_e))
     refl)
     (omega (
       arith,
@@ -215,17 +215,17 @@ reads_declaration reads n (function g y x o ps c b body e) at ts (is_g, is_y, is
     let deeper : length (spelled_statements body ++ e ∷ ts) < n = omega (arith, length-append (spelled_parameters ps) (c ∷ b ∷ (spelled_statements body ++ e ∷ ts))) in
     parted (rd.declaration (expression n) (r.statement n) n) at parts
     (counted _ (reads_front (expression n) (r.statement n) n at g y x (o ∷ (spelled_parameters ps ++ c ∷ b ∷ (spelled_statements body ++ e ∷ ts))) _
-    (suc (suc (behind_parameters at g y ps)) + length (spelled_statements body)) _ ts (defines g is_g) is_y is_x
+    (suc (suc (after_parameters at g y ps)) + length (spelled_statements body)) _ ts (defines g is_g) is_y is_x
     (a_function (expression n) (r.statement n) n (linkage_of g) (result_in y)
     (spot (suc (name_at at g (spelled_result y))) (o ∷ (spelled_parameters ps ++ c ∷ b ∷ (spelled_statements body ++ e ∷ ts)))) is_o
     ∙ reads_function (expression n) (r.statement n) n (linkage_of g) (result_in y) (suc (name_at at g (spelled_result y))) o ps c
     (b ∷ (spelled_statements body ++ e ∷ ts)) _ _ are is_c (omega arith)
     (has_body (expression n) (r.statement n) n (linkage_of g) (result_in y) (parameters_of (suc (suc (name_at at g (spelled_result y)))) ps)
-    (spot (suc (behind_parameters at g y ps)) (b ∷ (spelled_statements body ++ e ∷ ts))) (no_other is_b (λ p. cc))
+    (spot (suc (after_parameters at g y ps)) (b ∷ (spelled_statements body ++ e ∷ ts))) (no_other is_b (λ p. cc))
     (may_it (linkage_of g) _ (own_definition g is_g) (all_named ps (suc (suc (name_at at g (spelled_result y)))) names))
     ∙ a_body (expression n) (r.statement n) n (result_in y) (parameters_of (suc (suc (name_at at g (spelled_result y)))) ps)
-    (suc (behind_parameters at g y ps)) b body e ts is_b is_e
-    (reads_statements reads n n n body (suc (suc (behind_parameters at g y ps))) (e ∷ ts) is is_e deeper deeper deeper)))
+    (suc (after_parameters at g y ps)) b body e ts is_b is_e
+    (reads_statements reads n n n body (suc (suc (after_parameters at g y ps))) (e ∷ ts) is is_e deeper deeper deeper)))
     refl)
     (omega (
       arith,

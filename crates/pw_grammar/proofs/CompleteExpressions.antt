@@ -4,8 +4,8 @@ use Rattle.std.proofs.lemmas.List.{length-append}
 use Rattle.pw_grammar.specs.declared.sort.Sort.TheVariants as s
 use Rattle.pw_grammar.specs.Terminals.{sort, first_sort}
 use Rattle.pw_grammar.specs.Expressions.{ExpressionDerivation, identifier, constant, bracketed, input, output, call, index, prefixed, binary, choice, spelled, IsAt, IsOperator, expression_tree}
-use Rattle.pw_grammar.specs.Steps.{Parser}
-use Rattle.pw_grammar.specs.ReadingExpressions as read
+use Rattle.pw_grammar.specs.Reading.Steps.{Parser}
+use Rattle.pw_grammar.specs.Reading.Expressions as read
 use Rattle.pw_grammar.proofs.Lawful.{near_or_far}
 use Rattle.pw_grammar.proofs.CompleteTokens.{then_, step_skip, sees_it, sees_other, step_expect, parted, finishes}
 use Rattle.pw_grammar.proofs.CompleteEnds.{Stops, stops_less, operator_stops, question_stops, EndsExpression, ends_with, ends_stops, ends_no_question}

@@ -8,8 +8,8 @@ use Rattle.pw_grammar.specs.Expressions.{value_in, IsConstant}
 use Rattle.pw_grammar.specs.Statements.{first_line}
 use Rattle.pw_grammar.specs.Declarations as dc
 use Rattle.pw_grammar.specs.Declarations.{ElementDerivation, spelled_element, IsElement, kind_of_element, element_of, MoreElements, spelled_more_elements, AreMoreElements, more_elements_of, VariableDerivation, spelled_variable, IsExtent, IsVariable, HasNoValue, MayHave, count_in, extent, elements_of, linkage_of, linkage_by}
-use Rattle.pw_grammar.specs.Steps.{Position, Parser, and_then, ◌>>=◌, pure, refuse, next_sort, sees, take, skip, either}
-use Rattle.pw_grammar.specs.ReadingDeclarations as rd
+use Rattle.pw_grammar.specs.Reading.Steps.{Position, Parser, and_then, ◌>>=◌, pure, refuse, next_sort, sees, take, skip, either}
+use Rattle.pw_grammar.specs.Reading.Declarations as rd
 use Rattle.pw_grammar.proofs.CompleteTokens.{spot, then_, counted, done, valued, step_skip, step_take, step_expect, step_name, sees_it, sees_other, either_this, either_other, behind, parted, fits}
 use Rattle.pw_grammar.proofs.CompleteStatements.{no_other}
 use Rattle.pw_tree.specs.declared.ty.Ty.{Ty}

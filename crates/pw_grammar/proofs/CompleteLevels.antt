@@ -4,8 +4,8 @@ use Rattle.std.proofs.lemmas.List.{append_assoc, append-nil, length-append}
 use Rattle.pw_grammar.specs.declared.sort.Sort.TheVariants as s
 use Rattle.pw_grammar.specs.Terminals.{sort, first_sort, prefix_of, binary_of, level_of}
 use Rattle.pw_grammar.specs.Expressions.{ExpressionDerivation, identifier, constant, bracketed, input, output, call, index, prefixed, binary, choice, spelled, IsAt, IsOperator, IsPrefix, expression_tree, prefix_in, prefix_or, binary_in, binary_or}
-use Rattle.pw_grammar.specs.Steps.{Position, Parser, and_then, on_option, ◌>>=◌, pure, next_sort, finish}
-use Rattle.pw_grammar.specs.ReadingExpressions as read
+use Rattle.pw_grammar.specs.Reading.Steps.{Position, Parser, and_then, on_option, ◌>>=◌, pure, next_sort, finish}
+use Rattle.pw_grammar.specs.Reading.Expressions as read
 use Rattle.pw_grammar.proofs.CompleteTokens.{then_, done, valued, step_skip, sees_other, parted}
 use Rattle.pw_grammar.proofs.CompleteEnds.{Stops, stops_less}
 use Rattle.pw_grammar.proofs.CompletePhrases.{operator_low, no_prefix, regroup_between, count_between}

@@ -7,8 +7,8 @@ use Rattle.pw_grammar.specs.Terminals.{sort, first_sort}
 use Rattle.pw_grammar.specs.Expressions.{ExpressionDerivation, spelled}
 use Rattle.pw_grammar.specs.Statements as st
 use Rattle.pw_grammar.specs.Statements.{SimpleDerivation, spelled_simple, IsSimple, ForStartDerivation, no_start, local_start, simple_start, spelled_start, IsStart, tree_of_start, spelled_maybe, IsMaybe, tree_of_maybe, spelled_step, IsStep, tree_of_step, spelled_local}
-use Rattle.pw_grammar.specs.Steps.{Position, Parser, pure, next_sort}
-use Rattle.pw_grammar.specs.ReadingStatements as r
+use Rattle.pw_grammar.specs.Reading.Steps.{Position, Parser, pure, next_sort}
+use Rattle.pw_grammar.specs.Reading.Statements as r
 use Rattle.pw_grammar.proofs.CompleteEnds.{ends_expression}
 use Rattle.pw_grammar.proofs.CompleteTokens.{spot, then_, done, step_skip, step_expect, sees_it, sees_other, either_this, either_other, parted, told_apart, fits, ReadsExpressions}
 use Rattle.pw_grammar.proofs.CompleteTypes.{reads_local, local_begins, no_type_is}

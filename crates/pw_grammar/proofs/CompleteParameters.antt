@@ -8,9 +8,9 @@ use Rattle.pw_grammar.specs.Terminals.{sort, first_sort, is_same}
 use Rattle.pw_grammar.specs.Statements.{spelled_type, type_in}
 use Rattle.pw_grammar.specs.Declarations as dc
 use Rattle.pw_grammar.specs.Declarations.{spelled_storage, IsStorage, linkage_of, linkage_by, ResultDerivation, spelled_result, IsResult, result_in, ParameterDerivation, spelled_parameter, spelled_name, IsParameter, IsNamed, has_name, named, MoreParameters, ParametersDerivation, spelled_more_parameters, spelled_parameters, AreMoreParameters, AreParameters, AllNamed, HaveNames, parameter_of, more_parameters_of, parameters_of}
-use Rattle.pw_grammar.specs.Steps.{Parser, ◌>>=◌, pure, skip, name, either}
-use Rattle.pw_grammar.specs.ReadingStatements as r
-use Rattle.pw_grammar.specs.ReadingDeclarations as rd
+use Rattle.pw_grammar.specs.Reading.Steps.{Parser, ◌>>=◌, pure, skip, name, either}
+use Rattle.pw_grammar.specs.Reading.Statements as r
+use Rattle.pw_grammar.specs.Reading.Declarations as rd
 use Rattle.pw_grammar.proofs.CompleteTokens.{spot, then_, counted, done, valued, step_skip, step_name, either_this, either_other, parted, told_apart}
 use Rattle.pw_grammar.proofs.CompleteTypes.{step_type, type_begins}
 use Rattle.pw_grammar.proofs.CompleteStatements.{no_other}

@@ -5,8 +5,8 @@ use Rattle.pw_grammar.specs.declared.sort.Sort.{Sort}
 use Rattle.pw_grammar.specs.declared.sort.Sort.TheVariants as s
 use Rattle.pw_grammar.specs.Terminals.{sort, first_sort}
 use Rattle.pw_grammar.specs.Expressions.{ExpressionDerivation, identifier, constant, bracketed, input, output, call, index, prefixed, binary, choice, Arguments, nothing, arguments, More, end, more, spelled, spelled_arguments, spelled_more, IsAt, AreArguments, AreMore, expression_tree, argument_trees, more_argument_trees}
-use Rattle.pw_grammar.specs.Steps.{Position, ReadResult, Parser, next_sort}
-use Rattle.pw_grammar.specs.ReadingExpressions as read
+use Rattle.pw_grammar.specs.Reading.Steps.{Position, ReadResult, Parser, next_sort}
+use Rattle.pw_grammar.specs.Reading.Expressions as read
 use Rattle.pw_grammar.proofs.CompleteTokens.{then_, done, valued, step_skip, step_take, sees_it, sees_other, step_expect, parted, finishes}
 use Rattle.pw_grammar.proofs.CompleteEnds.{EndsExpression, ends_with}
 use Rattle.pw_grammar.proofs.CompletePhrases.{operator_low, begins, begins_other, regroup_last, regroup_enclosed, count_last, count_enclosed}

@@ -5,8 +5,8 @@ use Rattle.pw_grammar.specs.declared.sort.Sort.TheVariants as s
 use Rattle.pw_grammar.specs.Terminals.{sort, first_sort}
 use Rattle.pw_grammar.specs.Expressions.{ExpressionDerivation, identifier, index, spelled, IsAt, expression_tree, name_in}
 use Rattle.pw_grammar.specs.Statements.{SimpleDerivation, assign, assign_element, evaluate, spelled_simple, IsSimple, kind_of_simple, statement_node}
-use Rattle.pw_grammar.specs.Steps.{Parser, pure, either}
-use Rattle.pw_grammar.specs.ReadingStatements as r
+use Rattle.pw_grammar.specs.Reading.Steps.{Parser, pure, either}
+use Rattle.pw_grammar.specs.Reading.Statements as r
 use Rattle.pw_grammar.proofs.CompleteEnds.{EndsExpression, ends_expression}
 use Rattle.pw_grammar.proofs.CompleteTokens.{spot, then_, counted, step_skip, either_this, either_other, parted, line_of_front, fits, node_is, ReadsExpressions}
 use Rattle.pw_grammar.proofs.Lengths.{simple_length}

@@ -6,8 +6,8 @@ use Rattle.pw_grammar.specs.declared.sort.Sort.TheVariants as s
 use Rattle.pw_grammar.specs.Terminals.{sort, first_sort, is_same, prefix_of}
 use Rattle.pw_grammar.specs.Expressions.{ExpressionDerivation, identifier, constant, bracketed, input, output, call, index, prefixed, binary, choice, spelled, IsAt, IsConstant}
 use Rattle.pw_grammar.specs.Statements.{type_of, SimpleDerivation, assign, assign_element, evaluate, spelled_simple, IsSimple}
-use Rattle.pw_grammar.specs.Steps.{Parser}
-use Rattle.pw_grammar.specs.ReadingStatements as r
+use Rattle.pw_grammar.specs.Reading.Steps.{Parser}
+use Rattle.pw_grammar.specs.Reading.Statements as r
 use Rattle.pw_grammar.proofs.Branches.{sorts_other}
 use Rattle.pw_grammar.proofs.CompleteTokens.{told_apart}
 use Rattle.pw_tree.specs.declared.ty.Ty.{Ty}

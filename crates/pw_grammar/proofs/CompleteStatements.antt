@@ -6,8 +6,8 @@ use Rattle.pw_grammar.specs.declared.sort.Sort.TheVariants as s
 use Rattle.pw_grammar.specs.Terminals.{sort, first_sort}
 use Rattle.pw_grammar.specs.Expressions.{ExpressionDerivation, spelled, IsAt, expression_tree}
 use Rattle.pw_grammar.specs.Statements as st
-use Rattle.pw_grammar.specs.Steps.{Parser, pure}
-use Rattle.pw_grammar.specs.ReadingStatements as r
+use Rattle.pw_grammar.specs.Reading.Steps.{Parser, pure}
+use Rattle.pw_grammar.specs.Reading.Statements as r
 use Rattle.pw_grammar.proofs.CompleteEnds.{ends_expression}
 use Rattle.pw_grammar.proofs.CompleteTokens.{spot, then_, done, step_skip, step_expect, either_this, either_other, parted, fits, ReadsExpressions}
 use Rattle.pw_tree.specs.declared.expr.Expr.{Expr}

@@ -6,7 +6,7 @@ use Rattle.pw_grammar.specs.declared.sort.Sort.TheVariants as s
 use Rattle.pw_grammar.specs.Terminals.{sort, first_sort}
 use Rattle.pw_grammar.specs.Expressions.{ExpressionDerivation, spelled, IsAt, expression_tree, name_in}
 use Rattle.pw_grammar.specs.Statements.{first_line, statement_node}
-use Rattle.pw_grammar.specs.Steps.{Position, ReadResult, Parser, and_then, finish, pure, refuse, next_sort, sees, take, take_from, skip, expect, name, either, finish_statement}
+use Rattle.pw_grammar.specs.Reading.Steps.{Position, ReadResult, Parser, and_then, finish, pure, refuse, next_sort, sees, take, take_from, skip, expect, name, either, finish_statement}
 use Rattle.pw_grammar.proofs.Branches.{sorts_same, sorts_other}
 use Rattle.pw_grammar.proofs.CompleteEnds.{EndsExpression}
 use Rattle.pw_tree.specs.declared.expr.Expr.{Expr, roll-Expr}

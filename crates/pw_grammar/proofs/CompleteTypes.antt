@@ -6,8 +6,8 @@ use Rattle.pw_grammar.specs.declared.sort.Sort.TheVariants as s
 use Rattle.pw_grammar.specs.Terminals.{sort, first_sort, is_same}
 use Rattle.pw_grammar.specs.Expressions.{ExpressionDerivation, spelled, IsAt, expression_tree}
 use Rattle.pw_grammar.specs.Statements.{TypeDerivation, word, unsigned, type_of, spelled_type, IsType, type_or, type_in, LocalDerivation, plain, set, spelled_local, IsLocal, kind_of_local, statement_node}
-use Rattle.pw_grammar.specs.Steps.{Position, Parser, pure, next_sort}
-use Rattle.pw_grammar.specs.ReadingStatements as r
+use Rattle.pw_grammar.specs.Reading.Steps.{Position, Parser, pure, next_sort}
+use Rattle.pw_grammar.specs.Reading.Statements as r
 use Rattle.pw_grammar.proofs.Branches.{sorts_same}
 use Rattle.pw_grammar.proofs.Lengths.{type_length}
 use Rattle.pw_grammar.proofs.CompleteEnds.{EndsExpression, ends_expression}

@@ -6,11 +6,11 @@ use Rattle.pw_grammar.specs.declared.error.SyntaxError.{SyntaxError}
 use Rattle.pw_grammar.specs.declared.error.SyntaxError.TheVariants.{At, TooNested, TooLong, NoMemory}
 use Rattle.pw_grammar.specs.Declarations.{UnitDerivation, spelled_unit, IsUnit}
 use Rattle.pw_grammar.specs.Faults.{Begins, IsStuck, IsFault, IsFirstFault, ComesBefore, GoesOnTooLong, token_of, StandsLate}
-use Rattle.pw_grammar.specs.Limits.{first_nested, first_late, anew, Walk}
-use Rattle.pw_grammar.specs.Reading.{earlier, first_limit, up_to, judged_by, value_of, judged, parsed}
+use Rattle.pw_grammar.specs.Reading.Limits.{first_nested, first_late, anew, Walk}
+use Rattle.pw_grammar.specs.Reading.Whole.{earlier, first_limit, up_to, judged_by, value_of, judged, parsed}
 use Rattle.pw_grammar.specs.Laws.{HasTree, Tells}
-use Rattle.pw_grammar.specs.Steps.{ReadResult}
-use Rattle.pw_grammar.specs.ReadingDeclarations.{unit}
+use Rattle.pw_grammar.specs.Reading.Steps.{ReadResult}
+use Rattle.pw_grammar.specs.Reading.Declarations.{unit}
 use Rattle.pw_grammar.proofs.Lawful.{near_or_far}
 use Rattle.pw_grammar.proofs.Whole.{Knows, IsRead, IsRefused, TellsOf, from_start, reading_tells, before_or_at}
 use Rattle.pw_lex.specs.declared.token.Token.{Token}

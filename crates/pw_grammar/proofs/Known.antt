@@ -1,9 +1,9 @@
 -- What is known of the reader of units and of the limits, gathered; and that no list has two trees.
 use Rattle.std.proofs.Common.{◌≡◌, sym, ◌∙◌, ap, subst, ℕ, suc, ◌<◌, List, [], length, Ok, Err, arith}
 use Rattle.pw_grammar.specs.Declarations.{UnitDerivation, spelled_unit, IsUnit, trees_of_declarations}
-use Rattle.pw_grammar.specs.Steps.{ReadResult}
-use Rattle.pw_grammar.specs.ReadingExpressions.{expression}
-use Rattle.pw_grammar.specs.ReadingDeclarations.{unit}
+use Rattle.pw_grammar.specs.Reading.Steps.{ReadResult}
+use Rattle.pw_grammar.specs.Reading.Expressions.{expression}
+use Rattle.pw_grammar.specs.Reading.Declarations.{unit}
 use Rattle.pw_grammar.specs.Laws.{ReadingTells, OneTree}
 use Rattle.pw_grammar.proofs.Lawful.{Within, within}
 use Rattle.pw_grammar.proofs.LawfulUnits as b

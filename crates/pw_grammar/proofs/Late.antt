@@ -10,7 +10,7 @@ use Rattle.pw_grammar.specs.declared.sort.Sort.{Sort}
 use Rattle.pw_grammar.specs.declared.sort.Sort.TheVariants as s
 use Rattle.pw_grammar.specs.Terminals.{sort, is_same}
 use Rattle.pw_grammar.specs.Faults.{opens, closes, opens_by, closes_by, bracket}
-use Rattle.pw_grammar.specs.Limits.{Walk, is_inside, is_late, anew, step, first_late}
+use Rattle.pw_grammar.specs.Reading.Limits.{Walk, is_inside, is_late, anew, step, first_late}
 use Rattle.pw_lex.specs.declared.token.Token.{Token}
 
 -- inside n + 1 brackets of a declaration that began at `start`

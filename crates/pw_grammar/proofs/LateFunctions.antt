@@ -11,7 +11,7 @@ use Rattle.pw_grammar.specs.Expressions.{IsConstant}
 use Rattle.pw_grammar.specs.Statements as y
 use Rattle.pw_grammar.specs.Declarations as d
 use Rattle.pw_grammar.specs.Faults.{opens_by, closes_by}
-use Rattle.pw_grammar.specs.Limits.{Walk, anew, first_late}
+use Rattle.pw_grammar.specs.Reading.Limits.{Walk, anew, first_late}
 use Rattle.pw_grammar.proofs.Lawful.{near_or_far}
 use Rattle.pw_grammar.proofs.Late.{within_brackets, IsInner, inner_nil, inner_token, inner_both}
 use Rattle.pw_grammar.proofs.Inner.{nothing_is, plain_constant, inner_one, inner_then, inner_type}
@@ -49,7 +49,7 @@ first_on w x v = if late_on w x then Some w.at else first_late (step_on w x) v
 
 -- a token whose symbol is known
 pub on_sort : (w : Walk) (t : Token) (z : Sort) (v : List Token) → sort t ≡ z → first_late w (t ∷ v) ≡ first_on w z v
-unfolding first_late Rattle.pw_grammar.specs.Limits.step
+unfolding first_late Rattle.pw_grammar.specs.Reading.Limits.step
 on_sort w t z v e = ap (λ x. first_on w x v) e
 
 -- ---- outside brackets

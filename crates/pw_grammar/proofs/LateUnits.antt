@@ -9,7 +9,7 @@ use Rattle.pw_grammar.specs.Statements.{spelled_type, spelled_statements}
 use Rattle.pw_grammar.specs.Declarations.{DeclarationDerivation, prototype, function, variable, spelled_declaration, IsDeclaration, spelled_storage, spelled_result, spelled_parameters, spelled_variable, UnitDerivation, spelled_unit, IsUnit}
 use Rattle.pw_grammar.specs.declared.error.SyntaxError.TheVariants.{TooLong}
 use Rattle.pw_grammar.specs.Faults.{before_body, IsLate, StandsLate, Begins, IsFault}
-use Rattle.pw_grammar.specs.Limits.{Walk, anew, onward, step, is_late, is_last, first_late}
+use Rattle.pw_grammar.specs.Reading.Limits.{Walk, anew, onward, step, is_late, is_last, first_late}
 use Rattle.pw_grammar.proofs.Lawful.{near_or_far}
 use Rattle.pw_grammar.proofs.Late.{IsInner}
 use Rattle.pw_grammar.proofs.Inner.{nothing_is, inner_statements}

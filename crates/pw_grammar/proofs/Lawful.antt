@@ -10,7 +10,7 @@ use Rattle.pw_grammar.specs.declared.error.SyntaxError.{SyntaxError}
 use Rattle.pw_grammar.specs.declared.error.SyntaxError.TheVariants.{At}
 use Rattle.pw_grammar.specs.Terminals.{sort, first_sort}
 use Rattle.pw_grammar.specs.Faults.{token_of}
-use Rattle.pw_grammar.specs.Steps.{Position, ReadResult, Parser, and_then, ◌>>=◌, pure, next_sort}
+use Rattle.pw_grammar.specs.Reading.Steps.{Position, ReadResult, Parser, and_then, ◌>>=◌, pure, next_sort}
 use Rattle.pw_lex.specs.declared.token.Token.{Token}
 
 -- A language: the values that own tokens have, from the first one's number on and before a token of a sort.

@@ -8,8 +8,8 @@ use Rattle.pw_grammar.specs.declared.error.SyntaxError.TheVariants.{At}
 use Rattle.pw_grammar.specs.Terminals.{binary_of, level_of, sort, sort_of, is_same}
 use Rattle.pw_grammar.specs.Expressions as g
 use Rattle.pw_grammar.specs.Expressions.{spelled, IsAt, expression_tree, binary_or}
-use Rattle.pw_grammar.specs.Steps.{on_option, Position, Parser, and_then, ◌>>=◌, pure, refuse, next_sort, sees, skip, finish}
-use Rattle.pw_grammar.specs.ReadingExpressions as r
+use Rattle.pw_grammar.specs.Reading.Steps.{on_option, Position, Parser, and_then, ◌>>=◌, pure, refuse, next_sort, sees, skip, finish}
+use Rattle.pw_grammar.specs.Reading.Expressions as r
 use Rattle.pw_grammar.proofs.Lawful.{Language, GoesOn, Lawful, Within, within, Seq, bind, leads_nowhere}
 use Rattle.pw_grammar.proofs.Branches.{keeps, lawful_test, lawful_option, keeps_within, same_sorts}
 use Rattle.pw_grammar.proofs.Tokens.{Sample, a_token}

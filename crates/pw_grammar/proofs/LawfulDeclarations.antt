@@ -7,8 +7,8 @@ use Rattle.pw_grammar.specs.Terminals.{sort, is_same}
 use Rattle.pw_grammar.specs.Expressions.{name_in}
 use Rattle.pw_grammar.specs.Statements.{spelled_statements, spelled_type, type_in, first_line}
 use Rattle.pw_grammar.specs.Declarations as g
-use Rattle.pw_grammar.specs.Steps.{Parser, refuse, sees}
-use Rattle.pw_grammar.specs.ReadingDeclarations as r
+use Rattle.pw_grammar.specs.Reading.Steps.{Parser, refuse, sees}
+use Rattle.pw_grammar.specs.Reading.Declarations as r
 use Rattle.pw_grammar.proofs.Lawful.{Language, goes_on_within, GoesOn, Lawful, Within, within, leads_nowhere}
 use Rattle.pw_grammar.proofs.Branches.{Keeps, keeps, keeps_refuse, lawful_test, keeps_within}
 use Rattle.pw_grammar.proofs.Parts.{AnExpression, Here, lawful_from}

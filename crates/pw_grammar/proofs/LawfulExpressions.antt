@@ -5,8 +5,8 @@ use Rattle.pw_grammar.specs.declared.sort.Sort.{Sort}
 use Rattle.pw_grammar.specs.declared.sort.Sort.TheVariants as s
 use Rattle.pw_grammar.specs.Terminals.{sort, sort_of, is_same}
 use Rattle.pw_grammar.specs.Expressions.{identifier, constant, bracketed, input, output, spelled, IsAt, IsConstant, expression_tree, name_in, value_in, is_unsigned}
-use Rattle.pw_grammar.specs.Steps.{Position, Parser, refuse, next_sort, take}
-use Rattle.pw_grammar.specs.ReadingExpressions as r
+use Rattle.pw_grammar.specs.Reading.Steps.{Position, Parser, refuse, next_sort, take}
+use Rattle.pw_grammar.specs.Reading.Expressions as r
 use Rattle.pw_grammar.proofs.Lawful.{Language, GoesOn, Says, Same, Lawful, Within, Seq, Pure, lawful_pure}
 use Rattle.pw_grammar.proofs.Branches.{Keeps, keeps, keeps_refuse, lawful_test, keeps_within, keeps_bind_from, same_sorts}
 use Rattle.pw_grammar.proofs.Tokens.{AToken, Sample, a_token, a_token_is_lax, keeps_take, take_shrinks}

@@ -6,8 +6,8 @@ use Rattle.pw_grammar.specs.declared.sort.Sort.TheVariants as s
 use Rattle.pw_grammar.specs.Terminals.{sort, is_same}
 use Rattle.pw_grammar.specs.Expressions.{ExpressionDerivation, spelled, IsAt, expression_tree}
 use Rattle.pw_grammar.specs.Statements.{spelled_simple, IsSimple, kind_of_simple, spelled_start, IsStart, tree_of_start, spelled_maybe, IsMaybe, tree_of_maybe, spelled_step, IsStep, tree_of_step, StatementDerivation, empty, block, simple, if_only, if_else, while_do, do_while, for_do, leave, jump, spelled_statement, spelled_statements, open_ended, IsStatement, AreStatements, kind_of, trees_of_statements, tree_of_statement, jump_of, behind_test}
-use Rattle.pw_grammar.specs.Steps.{Parser, sees}
-use Rattle.pw_grammar.specs.ReadingStatements as r
+use Rattle.pw_grammar.specs.Reading.Steps.{Parser, sees}
+use Rattle.pw_grammar.specs.Reading.Statements as r
 use Rattle.pw_grammar.proofs.Lawful.{Language, sort_before, GoesOn, Lawful, Within, Lax, within, Seq, bind, Pure, lawful_pure}
 use Rattle.pw_grammar.proofs.Branches.{Keeps, keeps_pure, lawful_test, keeps_within, same_sorts, other_sorts}
 use Rattle.pw_grammar.proofs.Parts.{AnExpression, Then, lawful_then, keeps_then}

@@ -7,9 +7,9 @@ use Rattle.pw_grammar.specs.declared.sort.Sort.TheVariants as s
 use Rattle.pw_grammar.specs.Terminals.{sort, is_same}
 use Rattle.pw_grammar.specs.Statements.{StatementDerivations, spelled_statements, AreStatements, trees_of_statements}
 use Rattle.pw_grammar.specs.Declarations as g
-use Rattle.pw_grammar.specs.Steps.{Parser, next_sort, sees}
-use Rattle.pw_grammar.specs.ReadingStatements.{is_some}
-use Rattle.pw_grammar.specs.ReadingDeclarations as r
+use Rattle.pw_grammar.specs.Reading.Steps.{Parser, next_sort, sees}
+use Rattle.pw_grammar.specs.Reading.Statements.{is_some}
+use Rattle.pw_grammar.specs.Reading.Declarations as r
 use Rattle.pw_grammar.proofs.Lawful.{Language, GoesOn, Lawful, Within, within, Pure, lawful_pure}
 use Rattle.pw_grammar.proofs.Branches.{Keeps, keeps, lawful_test, keeps_within, same_sorts}
 use Rattle.pw_grammar.proofs.Parts.{AnExpression, Here, lawful_from, Then, lawful_then}

@@ -8,8 +8,8 @@ use Rattle.pw_grammar.specs.Terminals.{sort, is_same}
 use Rattle.pw_grammar.specs.Expressions.{value_in, IsConstant}
 use Rattle.pw_grammar.specs.Statements.{first_line}
 use Rattle.pw_grammar.specs.Declarations as g
-use Rattle.pw_grammar.specs.Steps.{sees, either}
-use Rattle.pw_grammar.specs.ReadingDeclarations as r
+use Rattle.pw_grammar.specs.Reading.Steps.{sees, either}
+use Rattle.pw_grammar.specs.Reading.Declarations as r
 use Rattle.pw_grammar.proofs.Lawful.{Language, GoesOn, Lawful, Within, within, Pure, lawful_pure, leads_nowhere}
 use Rattle.pw_grammar.proofs.Branches.{keeps, keeps_pure, lawful_test, keeps_within, same_sorts}
 use Rattle.pw_grammar.proofs.Parts.{Here, lawful_from, Then}

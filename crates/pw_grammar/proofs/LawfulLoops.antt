@@ -5,8 +5,8 @@ use Rattle.pw_grammar.specs.declared.sort.Sort.{Sort}
 use Rattle.pw_grammar.specs.declared.sort.Sort.TheVariants as s
 use Rattle.pw_grammar.specs.Terminals.{is_same}
 use Rattle.pw_grammar.specs.Statements.{LocalDerivation, plain, set, spelled_local, StatementDerivation, empty, block, declare, simple, if_only, if_else, while_do, do_while, for_do, leave, jump, nil, cons, spelled_statement, spelled_statements, open_ended, IsStatement, AreStatements, kind_of, trees_of_statements, tree_of_statement}
-use Rattle.pw_grammar.specs.Steps.{Parser, ◌>>=◌, sees}
-use Rattle.pw_grammar.specs.ReadingStatements as r
+use Rattle.pw_grammar.specs.Reading.Steps.{Parser, ◌>>=◌, sees}
+use Rattle.pw_grammar.specs.Reading.Statements as r
 use Rattle.pw_grammar.proofs.Lawful.{Language, sort_before, GoesOn, Lawful, Within, Lax, within, Seq, bind, bind_from, Pure, lawful_pure}
 use Rattle.pw_grammar.proofs.Branches.{keeps, lawful_test}
 use Rattle.pw_grammar.proofs.Parts.{AnExpression}

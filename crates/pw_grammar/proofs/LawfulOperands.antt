@@ -6,8 +6,8 @@ use Rattle.pw_grammar.specs.declared.sort.Sort.TheVariants as s
 use Rattle.pw_grammar.specs.Terminals.{sort, sort_of, is_same}
 use Rattle.pw_grammar.specs.Expressions as g
 use Rattle.pw_grammar.specs.Expressions.{ExpressionDerivation, Arguments, More, spelled, spelled_arguments, spelled_more, IsAt, AreArguments, AreMore, expression_tree, argument_trees, more_argument_trees}
-use Rattle.pw_grammar.specs.Steps.{Position, ReadResult, Parser, and_then, ◌>>=◌, pure, sees, here, skip}
-use Rattle.pw_grammar.specs.ReadingExpressions as r
+use Rattle.pw_grammar.specs.Reading.Steps.{Position, ReadResult, Parser, and_then, ◌>>=◌, pure, sees, here, skip}
+use Rattle.pw_grammar.specs.Reading.Expressions as r
 use Rattle.pw_grammar.proofs.Lawful.{Language, GoesOn, Says, Lawful, Within, Lax, within, Seq, bind, Leaves, leaves_fewer, Pure, lawful_pure}
 use Rattle.pw_grammar.proofs.Branches.{Keeps, keeps, keeps_pure, lawful_test, keeps_within, keeps_bind_from, same_sorts}
 use Rattle.pw_grammar.proofs.Tokens.{Sample, a_token, skip_shrinks}

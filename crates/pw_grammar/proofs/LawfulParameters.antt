@@ -6,9 +6,9 @@ use Rattle.pw_grammar.specs.declared.sort.Sort.TheVariants as s
 use Rattle.pw_grammar.specs.Terminals.{sort, is_same}
 use Rattle.pw_grammar.specs.Statements.{spelled_type, IsType, type_in}
 use Rattle.pw_grammar.specs.Declarations as g
-use Rattle.pw_grammar.specs.Steps.{pure, sees, either}
-use Rattle.pw_grammar.specs.ReadingStatements.{some}
-use Rattle.pw_grammar.specs.ReadingDeclarations as r
+use Rattle.pw_grammar.specs.Reading.Steps.{pure, sees, either}
+use Rattle.pw_grammar.specs.Reading.Statements.{some}
+use Rattle.pw_grammar.specs.Reading.Declarations as r
 use Rattle.pw_grammar.proofs.Lawful.{Language, GoesOn, Lawful, Within, within, Pure, lawful_pure, leads_nowhere}
 use Rattle.pw_grammar.proofs.Branches.{Keeps, keeps, keeps_pure, lawful_test, keeps_within, same_sorts}
 use Rattle.pw_grammar.proofs.Parts.{Here, lawful_from, Then}

@@ -6,8 +6,8 @@ use Rattle.pw_grammar.specs.declared.sort.Sort.TheVariants as s
 use Rattle.pw_grammar.specs.Terminals.{prefix_of, sort}
 use Rattle.pw_grammar.specs.Expressions as g
 use Rattle.pw_grammar.specs.Expressions.{ExpressionDerivation, spelled, IsAt, expression_tree, IsPrefix, prefix_or, prefix_in}
-use Rattle.pw_grammar.specs.Steps.{on_option, Position, ReadResult, Parser, and_then, ◌>>=◌, pure, next_sort, skip}
-use Rattle.pw_grammar.specs.ReadingExpressions as r
+use Rattle.pw_grammar.specs.Reading.Steps.{on_option, Position, ReadResult, Parser, and_then, ◌>>=◌, pure, next_sort, skip}
+use Rattle.pw_grammar.specs.Reading.Expressions as r
 use Rattle.pw_grammar.proofs.Lawful.{Language, GoesOn, Lawful, Within, within, Seq, bind, Pure, lawful_pure, leads_nowhere}
 use Rattle.pw_grammar.proofs.Branches.{keeps_pure, lawful_option, keeps_within}
 use Rattle.pw_grammar.proofs.Parts.{AnExpression, Here, lawful_from, Then, keeps_then, WithExpression, lawful_with}

@@ -7,8 +7,8 @@ use Rattle.pw_grammar.specs.declared.sort.Sort.TheVariants as s
 use Rattle.pw_grammar.specs.Terminals.{sort, is_same}
 use Rattle.pw_grammar.specs.Expressions.{ExpressionDerivation, identifier, constant, bracketed, input, output, call, index, prefixed, binary, choice, spelled, IsAt, expression_tree, name_in}
 use Rattle.pw_grammar.specs.Statements.{TypeDerivation, word, unsigned, type_of, spelled_type, IsType, type_in, LocalDerivation, plain, set, spelled_local, IsLocal, kind_of_local, SimpleDerivation, assign, assign_element, evaluate, spelled_simple, IsSimple, kind_of_simple, first_line, statement_node}
-use Rattle.pw_grammar.specs.Steps.{Parser, pure, sees, either, finish_statement}
-use Rattle.pw_grammar.specs.ReadingStatements as r
+use Rattle.pw_grammar.specs.Reading.Steps.{Parser, pure, sees, either, finish_statement}
+use Rattle.pw_grammar.specs.Reading.Statements as r
 use Rattle.pw_grammar.proofs.Lawful.{Language, sort_before, GoesOn, Lawful, Within, within, Pure, Nothing, lawful_pure, leads_nowhere}
 use Rattle.pw_grammar.proofs.Branches.{Keeps, keeps_refuse, keeps_pure, lawful_test, keeps_within, same_sorts}
 use Rattle.pw_grammar.proofs.Parts.{AnExpression, Here, lawful_from, Then, lawful_then, keeps_then, WithExpression, lawful_with}

@@ -4,9 +4,9 @@ use Rattle.pw_grammar.specs.declared.sort.Sort.{Sort}
 use Rattle.pw_grammar.specs.declared.sort.Sort.TheVariants as s
 use Rattle.pw_grammar.specs.Terminals.{is_same}
 use Rattle.pw_grammar.specs.Statements.{StatementDerivation, empty, spelled_statement, open_ended, IsStatement, kind_of}
-use Rattle.pw_grammar.specs.Steps.{Position, ReadResult, Parser, next_sort}
-use Rattle.pw_grammar.specs.ReadingExpressions.{expression}
-use Rattle.pw_grammar.specs.ReadingStatements as r
+use Rattle.pw_grammar.specs.Reading.Steps.{Position, ReadResult, Parser, next_sort}
+use Rattle.pw_grammar.specs.Reading.Expressions.{expression}
+use Rattle.pw_grammar.specs.Reading.Statements as r
 use Rattle.pw_grammar.proofs.Lawful.{Language, sort_before, GoesOn, Lawful, Within, within, Seq, bind}
 use Rattle.pw_grammar.proofs.Branches.{keeps, lawful_test}
 use Rattle.pw_grammar.proofs.Parts.{AnExpression, Here, lawful_from}

@@ -3,7 +3,7 @@ use Rattle.std.proofs.Common.{◌≡◌, refl, sym, ◌∙◌, ap, ℕ, suc, ◌
 use Rattle.std.proofs.lemmas.Bool.{ne_eqb, eq-eqb}
 use Rattle.std.specs.Bool.{⊤}
 use Rattle.pw_grammar.specs.Expressions.{ExpressionDerivation, identifier, constant, bracketed, input, output, call, index, prefixed, binary, choice, spelled, expression_tree, name_in}
-use Rattle.pw_grammar.specs.ReadingStatements.{target, target_of, word_of, word_at, with_index}
+use Rattle.pw_grammar.specs.Reading.Statements.{target, target_of, word_of, word_at, with_index}
 use Rattle.pw_tree.specs.declared.expr.Expr.{Expr, out-Expr}
 use Rattle.pw_tree.specs.declared.expr.ExprKind.{ExprKind, out-ExprKind, out-roll-ExprKind}
 use Rattle.pw_tree.specs.declared.expr.ExprKind.TheOpen.{ExprKind-F}

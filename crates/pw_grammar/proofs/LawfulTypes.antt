@@ -4,8 +4,8 @@ use Rattle.pw_grammar.specs.declared.sort.Sort.{Sort}
 use Rattle.pw_grammar.specs.declared.sort.Sort.TheVariants as s
 use Rattle.pw_grammar.specs.Terminals.{sort, sort_of, is_same}
 use Rattle.pw_grammar.specs.Statements.{word, unsigned, type_of, spelled_type, IsType, type_or, type_in}
-use Rattle.pw_grammar.specs.Steps.{next_sort, sees}
-use Rattle.pw_grammar.specs.ReadingStatements as r
+use Rattle.pw_grammar.specs.Reading.Steps.{next_sort, sees}
+use Rattle.pw_grammar.specs.Reading.Statements as r
 use Rattle.pw_grammar.proofs.Lawful.{Language, GoesOn, Lawful, Within, Pure, lawful_pure}
 use Rattle.pw_grammar.proofs.Branches.{keeps, keeps_refuse, lawful_test, lawful_option, keeps_within, same_sorts}
 use Rattle.pw_grammar.proofs.Tokens.{Sample, a_token}

@@ -7,10 +7,10 @@ use Rattle.pw_grammar.specs.declared.sort.Sort.{Sort}
 use Rattle.pw_grammar.specs.declared.sort.Sort.TheVariants as s
 use Rattle.pw_grammar.specs.Terminals.{keywords, punctuators, symbols, sort, sort_of, first_sort, is_same}
 use Rattle.pw_grammar.specs.Declarations as g
-use Rattle.pw_grammar.specs.Steps.{Position, ReadResult, Parser, and_then, pure, refuse, sees, either}
-use Rattle.pw_grammar.specs.ReadingExpressions.{expression}
-use Rattle.pw_grammar.specs.ReadingStatements.{statement}
-use Rattle.pw_grammar.specs.ReadingDeclarations as r
+use Rattle.pw_grammar.specs.Reading.Steps.{Position, ReadResult, Parser, and_then, pure, refuse, sees, either}
+use Rattle.pw_grammar.specs.Reading.Expressions.{expression}
+use Rattle.pw_grammar.specs.Reading.Statements.{statement}
+use Rattle.pw_grammar.specs.Reading.Declarations as r
 use Rattle.pw_grammar.proofs.Lawful.{Language, GoesOn, Lawful, Within, within, bind_from, Pure, lawful_pure}
 use Rattle.pw_grammar.proofs.Branches.{keeps, keeps_refuse, keeps_pure, lawful_test, same_sorts, sorts_same}
 use Rattle.pw_grammar.proofs.Pieces.{APhrase, a_phrase_is_lax, WithPhrase, phrase_then, lawful_with_phrase, fewer_than, Full, full_shrinks}

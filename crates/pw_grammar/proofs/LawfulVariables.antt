@@ -7,8 +7,8 @@ use Rattle.pw_grammar.specs.declared.sort.Sort.{Sort}
 use Rattle.pw_grammar.specs.declared.sort.Sort.TheVariants as s
 use Rattle.pw_grammar.specs.Terminals.{sort, is_same}
 use Rattle.pw_grammar.specs.Declarations as g
-use Rattle.pw_grammar.specs.Steps.{sees}
-use Rattle.pw_grammar.specs.ReadingDeclarations as r
+use Rattle.pw_grammar.specs.Reading.Steps.{sees}
+use Rattle.pw_grammar.specs.Reading.Declarations as r
 use Rattle.pw_grammar.proofs.Lawful.{Language, GoesOn, Lawful, Within, within, Pure, lawful_pure}
 use Rattle.pw_grammar.proofs.Branches.{Keeps, keeps_pure, lawful_test, keeps_within, same_sorts}
 use Rattle.pw_grammar.proofs.Parts.{Here, lawful_from, Then, lawful_then}

@@ -4,8 +4,8 @@ use Rattle.std.proofs.lemmas.Bool.{leb-true, le-leb, and_parts}
 use Rattle.std.specs.Prelude.{take, drop}
 use Rattle.pw_grammar.specs.declared.error.SyntaxError.TheVariants.{TooNested}
 use Rattle.pw_grammar.specs.Terminals.{first_sort}
-use Rattle.pw_grammar.specs.Faults.{opens, opens_by, bracket, open_behind, IsFault}
-use Rattle.pw_grammar.specs.Limits.{first_nested}
+use Rattle.pw_grammar.specs.Faults.{opens, opens_by, bracket, open_after, IsFault}
+use Rattle.pw_grammar.specs.Reading.Limits.{first_nested}
 use Rattle.pw_grammar.proofs.Inner.{nothing_is}
 use Rattle.pw_grammar.proofs.LateUnits.{same_number}
 use Rattle.pw_lex.specs.declared.token.Token.{Token}
@@ -14,7 +14,7 @@ use Rattle.pw_lex.specs.declared.token.Token.{Token}
 pub record IsNested (n d : ℕ) (ts : List Token) : Type 0 where
   pub short : d < length ts
   pub opening : opens_by (first_sort (drop d ts)) ≡ true
-  pub deep : 200 ≤ open_behind n (take d ts)
+  pub deep : 200 ≤ open_after n (take d ts)
 
 -- one such token has this number
 abbrev pub IsNestedAt : ℕ → ℕ → List Token → ℕ → Type 0
@@ -25,7 +25,7 @@ abbrev pub FindsBy : ℕ → ℕ → List Token → ℕ → Type 0
 FindsBy at n ts t = (found : ℕ) × (first_nested at n ts ≡ Some found) × (found ≤ t)
 
 nested_on : (at n t : ℕ) (x : Token) (ts : List Token) → IsNestedAt (suc at) (bracket n x) ts t → IsNestedAt at n (x ∷ ts) t
-unfolding open_behind
+unfolding open_after
 nested_on at n t x ts f = (
   suc f.0,
   (let e : t ≡ suc at + f.0 = f.1 in omega (arith, e)),
@@ -33,7 +33,7 @@ nested_on at n t x ts f = (
 )
 
 nested_here : (at n t : ℕ) (x : Token) (ts : List Token) → opens x ≡ true → nat_le 200 n ≡ true → t ≡ at → IsNestedAt at n (x ∷ ts) t
-unfolding open_behind
+unfolding open_after
 nested_here at n t x ts o far e =
     (0, (omega arith), record { short = omega arith; opening = o; deep = leb-true 200 n far })
 
@@ -69,7 +69,7 @@ no_token d e = omega arith
 
 -- where such a token is, one is found that is not behind it
 pub nested_by : (ts : List Token) (at n d : ℕ) → IsNested n d ts → FindsBy at n ts (at + d)
-unfolding first_nested open_behind
+unfolding first_nested open_after
 nested_by [] at n d f = absurd (no_token d f.short)
 nested_by (x ∷ ts) at n zero f = finds_here at n x ts f.opening f.deep
 nested_by (x ∷ ts) at n (suc d) f =

@@ -4,7 +4,7 @@ use Rattle.pw_grammar.specs.declared.sort.Sort.{Sort}
 use Rattle.pw_grammar.specs.declared.sort.Sort.TheVariants as s
 use Rattle.pw_grammar.specs.Terminals.{sort, sort_of}
 use Rattle.pw_grammar.specs.Expressions.{ExpressionDerivation, constant, spelled, IsAt, expression_tree}
-use Rattle.pw_grammar.specs.Steps.{Position, ReadResult, Parser, ◌>>=◌, here, skip, expect, finish}
+use Rattle.pw_grammar.specs.Reading.Steps.{Position, ReadResult, Parser, ◌>>=◌, here, skip, expect, finish}
 use Rattle.pw_grammar.proofs.Lawful.{Language, GoesOn, Says, Same, Lawful, Within, Lax, within, Seq, bind, leads_nowhere}
 use Rattle.pw_grammar.proofs.Branches.{Keeps, keeps_within, keeps_bind_from}
 use Rattle.pw_grammar.proofs.Tokens.{ALine, One, Sample, a_token, a_line_is_lax, keeps_skip, lawful_expect, skip_shrinks}

@@ -7,7 +7,7 @@ use Rattle.pw_grammar.specs.declared.sort.Sort.TheVariants as s
 use Rattle.pw_grammar.specs.Terminals.{sort}
 use Rattle.pw_grammar.specs.Expressions.{name_in}
 use Rattle.pw_grammar.specs.Statements.{first_line}
-use Rattle.pw_grammar.specs.Steps.{Position, ReadResult, Parser, ◌>>=◌, pure, refuse, next_sort, line_here, take, skip, name}
+use Rattle.pw_grammar.specs.Reading.Steps.{Position, ReadResult, Parser, ◌>>=◌, pure, refuse, next_sort, line_here, take, skip, name}
 use Rattle.pw_grammar.proofs.Lawful.{Language, Agree, GoesOn, Says, Same, Lawful, Within, Lax, within, Seq, bind, Leaves, Shrinks, Pure, lawful_pure, same_passed, near_or_far}
 use Rattle.pw_grammar.proofs.Branches.{Keeps, keeps, keeps_equal, keeps_refuse, lawful_test, keeps_within, keeps_bind_from}
 use Rattle.pw_grammar.proofs.Tokens.{AName, a_name_is_lax, lawful_name, AToken, a_token_is_lax, keeps_take, take_leaves}

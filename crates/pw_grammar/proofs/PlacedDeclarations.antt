@@ -2,7 +2,7 @@
 use Rattle.std.proofs.Common.{◌≡◌, ℕ, suc, ◌+◌, ◌≤◌, [], ◌∷◌, ◌++◌, length, map, arith}
 use Rattle.std.proofs.lemmas.List.{length-append}
 use Rattle.pw_grammar.specs.Statements.{spelled_type}
-use Rattle.pw_grammar.specs.Declarations.{spelled_result, DeclarationDerivation, prototype, function, variable, spelled_declaration, name_at, behind_parameters, tree_of_declaration, UnitDerivation, spelled_unit, trees_of_declarations}
+use Rattle.pw_grammar.specs.Declarations.{spelled_result, DeclarationDerivation, prototype, function, variable, spelled_declaration, name_at, after_parameters, tree_of_declaration, UnitDerivation, spelled_unit, trees_of_declarations}
 use Rattle.pw_grammar.proofs.Lengths.{prototype_length, function_length, variable_length}
 use Rattle.pw_grammar.proofs.PlacedParts.{parameters_stand, variable_stands, extent_within}
 use Rattle.pw_grammar.proofs.PlacedStatements.{statements_stand}
@@ -33,7 +33,7 @@ declaration_stands at low high (function g r x o ps c b body e) l h = record {
   to = omega (arith, declaration_ends at (function g r x o ps c b body e));
   form = (
     parameters_stand (suc (suc (name_at at g (spelled_result r)))) _ _ ps (omega arith) (omega arith),
-    (statements_stand (suc (suc (behind_parameters at g r ps))) body).placed _ _ (omega arith) (omega arith),
+    (statements_stand (suc (suc (after_parameters at g r ps))) body).placed _ _ (omega arith) (omega arith),
   );
 }
 declaration_stands at low high (variable g ty x v e) l h = record {

@@ -6,7 +6,7 @@ use Rattle.pw_grammar.specs.declared.sort.Sort.TheVariants as s
 use Rattle.pw_grammar.specs.Terminals.{sort, sort_of, first_sort, is_same}
 use Rattle.pw_lex.specs.declared.token.TokenKind.{TokenKind}
 use Rattle.pw_grammar.specs.Expressions.{name_in}
-use Rattle.pw_grammar.specs.Steps.{Position, ReadResult, and_then, ◌>>=◌, pure, refuse, next_sort, sees, take, take_from, skip, expect, name}
+use Rattle.pw_grammar.specs.Reading.Steps.{Position, ReadResult, and_then, ◌>>=◌, pure, refuse, next_sort, sees, take, take_from, skip, expect, name}
 use Rattle.pw_grammar.proofs.Lawful.{Language, Leads, Agree, GoesOn, Says, Same, Lawful, Within, Lax, Seq, Leaves, Shrinks, Pure, lawful_pure, same_passed, near_or_far}
 use Rattle.pw_grammar.proofs.Branches.{Keeps, keeps_refuse, lawful_test, keeps_within, keeps_bind_from, same_sorts}
 use Rattle.pw_lex.specs.declared.token.Token.{Token}

@@ -3,7 +3,7 @@ use Rattle.std.proofs.Common.{subst, sym, ℕ, suc, ◌+◌, ◌≤◌, [], ◌�
 use Rattle.std.proofs.lemmas.List.{length-append}
 use Rattle.std.proofs.lemmas.List.Sums.{sum_by-cons}
 use Rattle.pw_grammar.specs.Statements.{StatementDerivations, nil, cons, spelled_statement, spelled_statements, trees_of_statements}
-use Rattle.pw_grammar.specs.Declarations.{DeclarationDerivation, prototype, function, variable, spelled_declaration, behind_parameters, tree_of_declaration, UnitDerivation, spelled_unit, trees_of_declarations}
+use Rattle.pw_grammar.specs.Declarations.{DeclarationDerivation, prototype, function, variable, spelled_declaration, after_parameters, tree_of_declaration, UnitDerivation, spelled_unit, trees_of_declarations}
 use Rattle.pw_grammar.specs.Weights.{statement_count, weight}
 use Rattle.pw_grammar.specs.Laws.{UnitsAreNoLonger}
 use Rattle.pw_grammar.proofs.Lengths.{statement_length, result_length, parameters_length, function_length}
@@ -19,7 +19,7 @@ statements_no_longer at (cons y ys) = omega
 declaration_no_longer : (at : ℕ) (c : DeclarationDerivation) → weight (declaration_of (tree_of_declaration at c)) ≤ length (spelled_declaration c)
 declaration_no_longer at (prototype g r x o ps c e) = omega arith
 declaration_no_longer at (function g r x o ps c b body e) = omega
-    (arith, function_length g r x o ps c b body e, result_length r, parameters_length ps, statements_no_longer (suc (suc (behind_parameters at g r ps))) body)
+    (arith, function_length g r x o ps c b body e, result_length r, parameters_length ps, statements_no_longer (suc (suc (after_parameters at g r ps))) body)
 declaration_no_longer at (variable g ty x v e) = omega arith
 
 unit_no_longer : (at : ℕ) (cs : UnitDerivation) → sum_by weight (map declaration_of (trees_of_declarations at cs)) ≤ length (spelled_unit cs)

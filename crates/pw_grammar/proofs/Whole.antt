@@ -8,8 +8,8 @@ use Rattle.pw_grammar.specs.declared.error.SyntaxError.{SyntaxError}
 use Rattle.pw_grammar.specs.declared.error.SyntaxError.TheVariants.{At}
 use Rattle.pw_grammar.specs.Declarations.{UnitDerivation, spelled_unit, IsUnit, trees_of_declarations}
 use Rattle.pw_grammar.specs.Faults.{Begins, IsWhole, IsStuck}
-use Rattle.pw_grammar.specs.Steps.{Position, ReadResult}
-use Rattle.pw_grammar.specs.ReadingDeclarations.{unit}
+use Rattle.pw_grammar.specs.Reading.Steps.{Position, ReadResult}
+use Rattle.pw_grammar.specs.Reading.Declarations.{unit}
 use Rattle.pw_grammar.proofs.Lawful.{Language, Agree, GoesOn, HasRead, HasStopped, Says, Same, Lawful, near_or_far}
 use Rattle.pw_lex.specs.declared.token.Token.{Token}
 use Rattle.pw_tree.specs.declared.decl.Decl.{Decl}

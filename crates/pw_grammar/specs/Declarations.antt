@@ -277,15 +277,15 @@ IsDeclaration (variable g ty x v e) =
 abbrev pub name_at : ℕ → Option Token → List Token → ℕ
 name_at at g ty = at + length (spelled_storage g) + length ty
 
-abbrev pub behind_parameters : ℕ → Option Token → ResultDerivation → ParametersDerivation → ℕ
-behind_parameters at g r ps = suc (suc (name_at at g (spelled_result r))) + length (spelled_parameters ps)
+abbrev pub after_parameters : ℕ → Option Token → ResultDerivation → ParametersDerivation → ℕ
+after_parameters at g r ps = suc (suc (name_at at g (spelled_result r))) + length (spelled_parameters ps)
 
 abbrev pub tree_of_declaration : ℕ → DeclarationDerivation → Decl
 tree_of_declaration at (prototype g r x o ps c e) = record {
   first = at;
   name_at = name_at at g (spelled_result r);
-  declarator = behind_parameters at g r ps;
-  last = suc (behind_parameters at g r ps);
+  declarator = after_parameters at g r ps;
+  last = suc (after_parameters at g r ps);
   line = x.line;
   linkage = linkage_of g;
   name = name_in x.kind;
@@ -294,13 +294,13 @@ tree_of_declaration at (prototype g r x o ps c e) = record {
 tree_of_declaration at (function g r x o ps c b body e) = record {
   first = at;
   name_at = name_at at g (spelled_result r);
-  declarator = behind_parameters at g r ps;
-  last = suc (suc (behind_parameters at g r ps)) + length (spelled_statements body);
+  declarator = after_parameters at g r ps;
+  last = suc (suc (after_parameters at g r ps)) + length (spelled_statements body);
   line = x.line;
   linkage = linkage_of g;
   name = name_in x.kind;
   kind = d.Fun (result_in r) (parameters_of (suc (suc (name_at at g (spelled_result r)))) ps)
-      (trees_of_statements (suc (suc (behind_parameters at g r ps))) body);
+      (trees_of_statements (suc (suc (after_parameters at g r ps))) body);
 }
 tree_of_declaration at (variable g ty x v e) = record {
   first = at;

@@ -49,9 +49,9 @@ abbrev pub bracket : ℕ → Token → ℕ
 bracket n t = if opens t then suc n else (if closes t then n - 1 else n)
 
 -- how many brackets are open behind these tokens
-unfoldable pub open_behind : ℕ → List Token → ℕ
-open_behind n [] = n
-open_behind n (t ∷ ts) = open_behind (bracket n t) ts
+unfoldable pub open_after : ℕ → List Token → ℕ
+open_after n [] = n
+open_after n (t ∷ ts) = open_after (bracket n t) ts
 
 -- ---- long functions
 
@@ -89,7 +89,7 @@ IsStuck tokens t = ((t < length tokens) × (Begins (take (suc t) tokens) → ⊥
 
 abbrev pub IsFault : List Token → SyntaxError → Type 0
 IsFault tokens (At t) = IsStuck tokens t
-IsFault tokens (TooNested t) = (t < length tokens) × (opens_by (first_sort (drop t tokens)) ≡ true) × (open_brackets ≤ open_behind 0 (take t tokens))
+IsFault tokens (TooNested t) = (t < length tokens) × (opens_by (first_sort (drop t tokens)) ≡ true) × (open_brackets ≤ open_after 0 (take t tokens))
 IsFault tokens (TooLong t) = (t < length tokens) × GoesOnTooLong tokens t
 IsFault tokens NoMemory = ⊥
 

@@ -3,7 +3,7 @@ use Rattle.std.specs.Prelude.{◌≡◌, ℕ, ◌^◌, ◌<◌, ◌≤◌, List,
 use Rattle.pw_grammar.specs.declared.error.SyntaxError.{SyntaxError}
 use Rattle.pw_grammar.specs.Declarations.{UnitDerivation, spelled_unit, IsUnit, trees_of_declarations, Derives}
 use Rattle.pw_grammar.specs.Faults.{IsFault, IsFirstFault}
-use Rattle.pw_grammar.specs.Reading.{parsed}
+use Rattle.pw_grammar.specs.Reading.Whole.{parsed}
 use Rattle.pw_grammar.specs.Terminals.{keywords, punctuators, symbol_beside, sort_of}
 use Rattle.pw_grammar.specs.Weights.{weight}
 use Rattle.pw_lex.specs.Bytes.{Text}

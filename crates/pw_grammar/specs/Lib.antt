@@ -2,12 +2,7 @@ pub mod Terminals
 pub mod Expressions
 pub mod Statements
 pub mod Declarations
-pub mod Steps
-pub mod ReadingExpressions
-pub mod ReadingStatements
-pub mod ReadingDeclarations
 pub mod Faults
-pub mod Limits
 pub mod Reading
 pub mod Weights
 pub mod Laws

@@ -18,7 +18,7 @@ use Rattle.pw_lex.specs.Character.{IsCharacter}
 use Rattle.pw_lex.specs.Token.{IsToken}
 use Rattle.pw_lex.specs.Fault as piece
 use Rattle.pw_lex.specs.Fault.{Piece, bytes_of, not_newline, closes, OpensComment, IsOpenComment, IsBadNumber, IsTooWide, IsLongName, BeginsToken, StandsBefore, IsBadByte}
-use Rattle.pw_lex.specs.Text.{tokens_of_piece, line_behind, FaultStands, place_of}
+use Rattle.pw_lex.specs.Text.{tokens_of_piece, line_after, FaultStands, place_of}
 use Rattle.pw_lex.specs.Reading as reading
 use Rattle.pw_lex.specs.Reading.{number_of, first_fit, close_from, character_of, constant_of, word_in, run_token, front_in, front, other, len_of, tokens_of_front}
 use Rattle.pw_lex.proofs.Lists.{length-le-prefix_len, list_all-take_while, length-take_while}
@@ -251,7 +251,7 @@ len-front_of (piece.line_comment body) = omega arith
 len-front_of (piece.block_comment body) = (let long = length-append body (42 ∷ 47 ∷ []) in omega arith)
 len-front_of (piece.token bytes kind) = refl
 
-pub tokens-front_of : (before : Text) (stands : Piece) → tokens_of_piece before stands ≡ tokens_of_front (length before) (line_behind before) (front_of stands)
+pub tokens-front_of : (before : Text) (stands : Piece) → tokens_of_piece before stands ≡ tokens_of_front (length before) (line_after before) (front_of stands)
 tokens-front_of before (piece.white byte) = refl
 tokens-front_of before (piece.line_comment body) = refl
 tokens-front_of before (piece.block_comment body) = refl

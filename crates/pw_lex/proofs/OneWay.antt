@@ -18,7 +18,7 @@ use Rattle.pw_lex.specs.Number.{IsConstant, value, limit}
 use Rattle.pw_lex.specs.Token.{IsToken}
 use Rattle.pw_lex.specs.Fault as piece
 use Rattle.pw_lex.specs.Fault.{Piece, bytes_of, not_newline, EndsLine, closes, OpensComment, IsOpenComment, IsBadNumber, IsTooWide, IsLongName, BeginsToken, StandsBefore, IsBadByte}
-use Rattle.pw_lex.specs.Text.{spelled, Stand, tokens_of_piece, tokens_behind, line_behind, HasTokens, FaultStands, HasFault}
+use Rattle.pw_lex.specs.Text.{spelled, Stand, tokens_of_piece, tokens_after, line_after, HasTokens, FaultStands, HasFault}
 use Rattle.pw_lex.specs.Laws.{HasReading, NotBoth, OneList, OneFault}
 use Rattle.pw_lex.specs.Reading as reading
 use Rattle.pw_lex.specs.Reading.{close_from, constant_of, word_value, number_kind, word_in, run_token, front_in, front, other, len_of, tokens_of_front}
@@ -233,7 +233,7 @@ ok_front : (a b : Front) → ◌≡◌ {A = Result Front LexError} (Ok a) (Ok b)
 ok_front a b same = cc
 
 record SameReading (before : Text) (pieces others : List Piece) (rest more : Text) : Type 0 where
-  tokens_are : tokens_behind before pieces ≡ tokens_behind before others
+  tokens_are : tokens_after before pieces ≡ tokens_after before others
   rest_is : rest ≡ more
   spelled_is : spelled pieces ≡ spelled others
 
@@ -253,9 +253,9 @@ same_reading before (first ∷ pieces) (other ∷ others) rest more is stand sta
     let same = same_fronts (bytes_of first) (bytes_of other) (spelled pieces ++ rest) (spelled others ++ more) texts long in
     let later = same_reading (before ++ bytes_of first) pieces others rest more same.1 stand.1 stand_too.1 stops stops_too in
     let here : tokens_of_piece before first ≡ tokens_of_piece before other =
-    tokens-front_of before first ∙ ap (tokens_of_front (length before) (line_behind before)) fronts ∙ sym (tokens-front_of before other) in
+    tokens-front_of before first ∙ ap (tokens_of_front (length before) (line_after before)) fronts ∙ sym (tokens-front_of before other) in
     record {
-      tokens_are = ap₂ (λ a b. a ++ b) here (later.tokens_are ∙ ap (λ b. tokens_behind (before ++ b) others) same.0);
+      tokens_are = ap₂ (λ a b. a ++ b) here (later.tokens_are ∙ ap (λ b. tokens_after (before ++ b) others) same.0);
       rest_is = later.rest_is;
       spelled_is = ap₂ (λ a b. a ++ b) same.0 later.spelled_is;
     }

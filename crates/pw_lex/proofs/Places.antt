@@ -7,12 +7,12 @@ use Rattle.pw_lex.specs.Bytes.{Text}
 use Rattle.pw_lex.specs.Token.{IsToken}
 use Rattle.pw_lex.specs.Fault as piece
 use Rattle.pw_lex.specs.Fault.{Piece, bytes_of}
-use Rattle.pw_lex.specs.Text.{spelled, Stand, tokens_behind, line_behind}
+use Rattle.pw_lex.specs.Text.{spelled, Stand, tokens_after, line_after}
 use Rattle.pw_lex.specs.Laws.{StandsIn, TokensStand}
 use Rattle.pw_lex.proofs.FirstBytes.{token_some}
 
 token_at : (before bytes : Text) (kind : TokenKind) → Token
-token_at before bytes kind = record { kind = kind; first = length before; end = length before + length bytes; line = line_behind before }
+token_at before bytes kind = record { kind = kind; first = length before; end = length before + length bytes; line = line_after before }
 
 stands_in : (text before bytes rest : Text) (kind : TokenKind) → text ≡ before ++ (bytes ++ rest) → IsToken bytes kind → StandsIn text (token_at before bytes kind)
 unfolding token_at
@@ -29,10 +29,10 @@ stands_in text before bytes rest kind is token =
       some = omega arith;
       within = omega arith;
       is = subst (λ b. IsToken b kind) (sym slice) token;
-      line_is = ap line_behind (sym front);
+      line_is = ap line_after (sym front);
     }
 
-all_stand : (text before : Text) (pieces : List Piece) → text ≡ before ++ spelled pieces → Stand pieces [] → All (StandsIn text) (tokens_behind before pieces)
+all_stand : (text before : Text) (pieces : List Piece) → text ≡ before ++ spelled pieces → Stand pieces [] → All (StandsIn text) (tokens_after before pieces)
 unfolding token_at
 all_stand text before [] is stand = λ k d within. absurd (omega arith)
 all_stand text before (piece.white byte ∷ pieces) is stand =
@@ -42,7 +42,7 @@ all_stand text before (piece.line_comment body ∷ pieces) is stand =
 all_stand text before (piece.block_comment body ∷ pieces) is stand =
     all_stand text (before ++ bytes_of (piece.block_comment body)) pieces (is ∙ sym (append_assoc before (bytes_of (piece.block_comment body)) (spelled pieces))) stand.1
 all_stand text before (piece.token bytes kind ∷ pieces) is stand =
-    All-cons (StandsIn text) (token_at before bytes kind) (tokens_behind (before ++ bytes) pieces)
+    All-cons (StandsIn text) (token_at before bytes kind) (tokens_after (before ++ bytes) pieces)
     (stands_in text before bytes (spelled pieces) kind is stand.0.token)
     (all_stand text (before ++ bytes) pieces (is ∙ sym (append_assoc before bytes (spelled pieces))) stand.1)
 

@@ -7,7 +7,7 @@ use Rattle.pw_lex.specs.declared.error.LexError.{LexError}
 use Rattle.pw_lex.specs.declared.error.LexError.TheVariants.{BadByte, OpenComment, BadNumber, TooWide, LongName, NoMemory}
 use Rattle.pw_lex.specs.Bytes.{Text}
 use Rattle.pw_lex.specs.Fault.{Piece, bytes_of, StandsBefore}
-use Rattle.pw_lex.specs.Text.{is_newline, line_behind, spelled, Stand, tokens_of_piece, tokens_behind, HasTokens, FaultStands, HasFault, place_of}
+use Rattle.pw_lex.specs.Text.{is_newline, line_after, spelled, Stand, tokens_of_piece, tokens_after, HasTokens, FaultStands, HasFault, place_of}
 use Rattle.pw_lex.specs.Reading.{front, len_of, tokens_of_front}
 use Rattle.pw_lex.proofs.Fronts.{len-front_of, tokens-front_of, explained, fault_explained, piece_some, fault_some, fault_place}
 
@@ -24,21 +24,21 @@ Stand_push (first ∷ pieces) piece rest stand right =
     (subst (StandsBefore first) same stand.0, Stand_push pieces piece rest stand.1 right)
 
 tokens_push : (before : Text) (pieces : List Piece) (piece : Piece)
-    → tokens_behind before (pieces ++ piece ∷ []) ≡ tokens_behind before pieces ++ tokens_of_piece (before ++ spelled pieces) piece
+    → tokens_after before (pieces ++ piece ∷ []) ≡ tokens_after before pieces ++ tokens_of_piece (before ++ spelled pieces) piece
 tokens_push before [] piece = append-nil (tokens_of_piece before piece) ∙ ap (λ t. tokens_of_piece t piece) (sym (append-nil before))
 tokens_push before (first ∷ pieces) piece =
     ap (λ ts. tokens_of_piece before first ++ ts)
     (tokens_push (before ++ bytes_of first) pieces piece
-    ∙ ap (λ t. tokens_behind (before ++ bytes_of first) pieces ++ tokens_of_piece t piece) (append_assoc before (bytes_of first) (spelled pieces)))
-    ∙ sym (append_assoc (tokens_of_piece before first) (tokens_behind (before ++ bytes_of first) pieces) (tokens_of_piece (before ++ (bytes_of first ++ spelled pieces)) piece))
+    ∙ ap (λ t. tokens_after (before ++ bytes_of first) pieces ++ tokens_of_piece t piece) (append_assoc before (bytes_of first) (spelled pieces)))
+    ∙ sym (append_assoc (tokens_of_piece before first) (tokens_after (before ++ bytes_of first) pieces) (tokens_of_piece (before ++ (bytes_of first ++ spelled pieces)) piece))
 
 -- The text up to `rest` is pieces, with these tokens; `line` is the line of what follows.
 pub record IsRead (text rest : Text) (tokens : List Token) (line : ℕ) : Type 0 where
   pub pieces : List Piece
   pub stand : Stand pieces rest
   pub text_is : text ≡ spelled pieces ++ rest
-  pub tokens_are : tokens ≡ tokens_behind [] pieces
-  pub line_is : line ≡ line_behind (spelled pieces)
+  pub tokens_are : tokens ≡ tokens_after [] pieces
+  pub line_is : line ≡ line_after (spelled pieces)
 
 pub read_start : (text : Text) → IsRead text text [] 1
 read_start text = record { pieces = []; stand = tt; text_is = refl; tokens_are = refl; line_is = refl }
@@ -72,16 +72,16 @@ read_more text rest tokens line found read some is =
     let len_is : length (bytes_of e.stands) ≡ len_of found = sym (ap len_of e.found_is ∙ len-front_of e.stands) in
     let taken : take (len_of found) rest ≡ bytes_of e.stands = ap (take (len_of found)) e.text_is ∙ take_at (bytes_of e.stands) e.rest (len_of found) len_is in
     let left : drop (len_of found) rest ≡ e.rest = ap (drop (len_of found)) e.text_is ∙ drop_at (bytes_of e.stands) e.rest (len_of found) len_is in
-    let line_is : line ≡ line_behind before = read.line_is in
+    let line_is : line ≡ line_after before = read.line_is in
     record {
       pieces = read.pieces ++ e.stands ∷ [];
       stand = subst (Stand (read.pieces ++ e.stands ∷ [])) (sym left) (Stand_push read.pieces e.stands e.rest (subst (Stand read.pieces) e.text_is read.stand) e.right);
       text_is = read.text_is ∙ ap (λ t. before ++ t) (e.text_is ∙ ap (λ t. bytes_of e.stands ++ t) (sym left))
           ∙ sym (append_assoc before (bytes_of e.stands) (drop (len_of found) rest)) ∙ ap (λ t. t ++ drop (len_of found) rest) (sym (spelled_push read.pieces e.stands));
       tokens_are = ap (λ ts. ts ++ tokens_of_front (length text - length rest) line found) read.tokens_are
-          ∙ ap (λ n. tokens_behind [] read.pieces ++ tokens_of_front n line found) place
-          ∙ ap (λ n. tokens_behind [] read.pieces ++ tokens_of_front (length before) n found) line_is
-          ∙ ap (λ ts. tokens_behind [] read.pieces ++ ts) (ap (tokens_of_front (length before) (line_behind before)) e.found_is ∙ sym (tokens-front_of before e.stands))
+          ∙ ap (λ n. tokens_after [] read.pieces ++ tokens_of_front n line found) place
+          ∙ ap (λ n. tokens_after [] read.pieces ++ tokens_of_front (length before) n found) line_is
+          ∙ ap (λ ts. tokens_after [] read.pieces ++ ts) (ap (tokens_of_front (length before) (line_after before)) e.found_is ∙ sym (tokens-front_of before e.stands))
           ∙ sym (tokens_push [] read.pieces e.stands);
       line_is =
           let counted = sum_by-append (λ b. cond (is_newline b) 1 0) before (bytes_of e.stands) in

@@ -19,12 +19,12 @@ abbrev pub digit_value : ℕ → ℕ
 digit_value byte = if nat_le byte 57 then byte - 48 else (if nat_le byte 70 then byte - 55 else byte - 87)
 
 -- the value of digits, the most significant first, behind digits of the value `above`
-abbrev pub value_behind : Radix → ℕ → Text → ℕ
-value_behind radix above [] = above
-value_behind radix above (digit ∷ digits) = value_behind radix (base radix * above + digit_value digit) digits
+abbrev pub value_after : Radix → ℕ → Text → ℕ
+value_after radix above [] = above
+value_after radix above (digit ∷ digits) = value_after radix (base radix * above + digit_value digit) digits
 
 abbrev pub value : Radix → Text → ℕ
-value radix digits = value_behind radix 0 digits
+value radix digits = value_after radix 0 digits
 
 -- what stands before the digits: nothing in base ten, 0x or 0X in base sixteen
 abbrev pub IsMark : Radix → Text → Type 0

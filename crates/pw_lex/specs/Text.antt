@@ -11,12 +11,12 @@ abbrev pub is_newline : ℕ → Bool
 is_newline byte = byte == 10
 
 -- the line, from 1, of what stands behind a text: a line ends at a byte 10
-abbrev pub line_behind : Text → ℕ
-line_behind before = 1 + count_by is_newline before
+abbrev pub line_after : Text → ℕ
+line_after before = 1 + count_by is_newline before
 
 -- the line of the byte at `at`, or of the end
 abbrev pub line_of : Text → ℕ → ℕ
-line_of text at = line_behind (take at text)
+line_of text at = line_after (take at text)
 
 -- the text of pieces
 abbrev pub spelled : List Piece → Text
@@ -34,19 +34,19 @@ tokens_of_piece before (white _) = []
 tokens_of_piece before (line_comment _) = []
 tokens_of_piece before (block_comment _) = []
 tokens_of_piece before (token bytes kind) =
-    record { kind = kind; first = length before; end = length before + length bytes; line = line_behind before } ∷ []
+    record { kind = kind; first = length before; end = length before + length bytes; line = line_after before } ∷ []
 
 -- the tokens among pieces that stand behind `before`
-abbrev pub tokens_behind : Text → List Piece → List Token
-tokens_behind before [] = []
-tokens_behind before (piece ∷ pieces) = tokens_of_piece before piece ++ tokens_behind (before ++ bytes_of piece) pieces
+abbrev pub tokens_after : Text → List Piece → List Token
+tokens_after before [] = []
+tokens_after before (piece ∷ pieces) = tokens_of_piece before piece ++ tokens_after (before ++ bytes_of piece) pieces
 
 -- the text is white bytes, comments and tokens, and these are its tokens
 pub record HasTokens (text : Text) (tokens : List Token) : Type 0 where
   pub pieces : List Piece
   pub stand : Stand pieces []
   pub text_is : text ≡ spelled pieces
-  pub tokens_are : tokens ≡ tokens_behind [] pieces
+  pub tokens_are : tokens ≡ tokens_after [] pieces
 
 -- the fault stands at the front of `rest`, at the place `at`
 abbrev pub FaultStands : ℕ → Text → LexError → Type 0

@@ -5,9 +5,9 @@ use Rattle.pw_lex.specs.declared.token.Token.{Token}
 use Rattle.pw_grammar.specs.declared.sort.Sort.TheVariants.{Name}
 use Rattle.pw_grammar.specs.Expressions.{name_in, value_in, is_unsigned}
 use Rattle.pw_grammar.specs.Statements.{first_line}
-use Rattle.pw_grammar.specs.Steps.{Position, Parser, take, take_from, name, sees, refuse, either, next_sort, and_then, pure, finish}
+use Rattle.pw_grammar.specs.Reading.Steps.{Position, Parser, take, take_from, name, sees, refuse, either, next_sort, and_then, pure, finish}
 use Rattle.pw_grammar.specs.Terminals.{is_same}
-use Rattle.pw_grammar.specs.ReadingExpressions.{constant, identifier, primary, primary_by}
+use Rattle.pw_grammar.specs.Reading.Expressions.{constant, identifier, primary, primary_by}
 use Rattle.pw_tree.specs.declared.expr.Expr.{Expr}
 use Rattle.pw_tree.specs.declared.expr.ExprKind.TheVariants as e
 use Rattle.pw_parse.specs.Steps.Values.{value}

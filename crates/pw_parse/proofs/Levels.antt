@@ -1,7 +1,7 @@
 -- An expression of a level is a chain of operands of the level below.
 use Rattle.std.proofs.Common.{◌≡◌, ℕ, suc, ◌+◌, ◌-◌, ◌<◌, ◌≤◌, sym, ap, ◌∙◌, arith}
-use Rattle.pw_grammar.specs.Steps.{Position, Parser, and_then, refuse}
-use Rattle.pw_grammar.specs.ReadingExpressions.{level, chain, prefix, choice, expression}
+use Rattle.pw_grammar.specs.Reading.Steps.{Position, Parser, and_then, refuse}
+use Rattle.pw_grammar.specs.Reading.Expressions.{level, chain, prefix, choice, expression}
 use Rattle.pw_tree.specs.declared.expr.Expr.{Expr}
 
 pub looser : (expr : Parser Expr) (n l : ℕ) (i : Position) → 2 < l

@@ -2,9 +2,9 @@
 use Rattle.std.proofs.Common.{◌≡◌, refl, sym, ◌∙◌, ap, ℕ, suc, ◌-◌, ◌<◌, List, [], ◌∷◌, ◌++◌, length, length-append, Ok, Err, arith}
 use Rattle.pw_grammar.specs.declared.error.SyntaxError.{SyntaxError}
 use Rattle.pw_grammar.specs.declared.error.SyntaxError.TheVariants.{At}
-use Rattle.pw_grammar.specs.Steps.{Position, ReadResult, and_then}
-use Rattle.pw_grammar.specs.ReadingExpressions.{expression}
-use Rattle.pw_grammar.specs.ReadingStatements.{statement}
+use Rattle.pw_grammar.specs.Reading.Steps.{Position, ReadResult, and_then}
+use Rattle.pw_grammar.specs.Reading.Expressions.{expression}
+use Rattle.pw_grammar.specs.Reading.Statements.{statement}
 use Rattle.pw_parse.specs.Steps.Heads.{front, closed}
 use Rattle.pw_parse.specs.Steps.Nesting.{close_at, resume, unread}
 use Rattle.pw_parse.specs.declared.control_head.Head.{Head}

@@ -4,9 +4,9 @@ use Rattle.std.specs.Bool.{⊤}
 use Rattle.pw_grammar.specs.declared.sort.Sort.{Sort}
 use Rattle.pw_grammar.specs.declared.sort.Sort.TheVariants as s
 use Rattle.pw_grammar.specs.Statements.{first_line}
-use Rattle.pw_grammar.specs.Steps.{Position, ReadResult, Parser, and_then, pure, sees, next_sort, skip, expect}
-use Rattle.pw_grammar.specs.ReadingExpressions.{expression}
-use Rattle.pw_grammar.specs.ReadingStatements as r
+use Rattle.pw_grammar.specs.Reading.Steps.{Position, ReadResult, Parser, and_then, pure, sees, next_sort, skip, expect}
+use Rattle.pw_grammar.specs.Reading.Expressions.{expression}
+use Rattle.pw_grammar.specs.Reading.Statements as r
 use Rattle.pw_grammar.proofs.Lawful.{Leaves, leaves_fewer}
 use Rattle.pw_grammar.proofs.Tokens.{skip_shrinks, expect_shrinks}
 use Rattle.pw_grammar.proofs.Parts.{AnExpression}

@@ -4,8 +4,8 @@ use Rattle.pw_grammar.specs.declared.error.SyntaxError.{SyntaxError}
 use Rattle.pw_grammar.specs.declared.error.SyntaxError.TheVariants.{NoMemory}
 use Rattle.pw_grammar.specs.Declarations.{Derives, lines_of}
 use Rattle.pw_grammar.specs.Faults.{IsFirstFault, token_of}
-use Rattle.pw_grammar.specs.Reading.{first_limit, judged, judged_by, up_to, parsed}
-use Rattle.pw_grammar.specs.ReadingDeclarations.{unit}
+use Rattle.pw_grammar.specs.Reading.Whole.{first_limit, judged, judged_by, up_to, parsed}
+use Rattle.pw_grammar.specs.Reading.Declarations.{unit}
 use Rattle.pw_grammar.specs.Laws.{Tells}
 use Rattle.pw_grammar.proofs.Known.{reading_tells}
 use Rattle.pw_parse.specs.Steps.Answers.{Answers}

@@ -1,9 +1,9 @@
 -- Prefix operators, from the innermost on.
 use Rattle.std.proofs.Common.{◌≡◌, ℕ, zero, suc, ◌+◌, ◌-◌, ◌≤◌, List, [], ◌∷◌, ◌++◌, length, length-append, Option, Some, None, Ok, Err, ap, ◌∙◌, sym, refl, arith}
 use Rattle.pw_lex.specs.declared.token.Token.{Token}
-use Rattle.pw_grammar.specs.Steps.{Position, ReadResult, take, take_from, skip, and_then, pure, on_option, next_sort}
+use Rattle.pw_grammar.specs.Reading.Steps.{Position, ReadResult, take, take_from, skip, and_then, pure, on_option, next_sort}
 use Rattle.pw_grammar.specs.Terminals.{prefix_of}
-use Rattle.pw_grammar.specs.ReadingExpressions.{wrapped, prefix_by, prefix_operator, operators}
+use Rattle.pw_grammar.specs.Reading.Expressions.{wrapped, prefix_by, prefix_operator, operators}
 use Rattle.pw_tree.specs.declared.operator.Un.{Un}
 use Rattle.pw_tree.specs.declared.expr.Expr.{Expr, roll-Expr}
 use Rattle.pw_tree.specs.declared.expr.ExprKind.TheVariants as e

@@ -1,7 +1,7 @@
 //! Operands with their prefix operators, and binary operators (C17, 6.5.3 to 6.5.14).
 ghost use Rattle.std.specs.Prelude.{◌-◌};
-ghost use Rattle.pw_grammar.specs.ReadingExpressions as spec;
-ghost use Rattle.pw_grammar.specs.Steps.{Reads};
+ghost use Rattle.pw_grammar.specs.Reading.Expressions as spec;
+ghost use Rattle.pw_grammar.specs.Reading.Steps.{Reads};
 ghost use Rattle.pw_parse.specs.Steps.Nests.{Nests};
 
 use crate::cursor::Cursor;
@@ -15,7 +15,7 @@ use std::alloc::Global;
 
 impl<F: Fn(Global, &mut Cursor<'_>, usize) -> Result<Boxed<Expr>, SyntaxError>> ExpressionRules<F> {
     /// An operand with the prefix operators before it.
-    #[tactic(auto, unfolding(pw_grammar::specs::ReadingExpressions::prefix, pw_grammar::specs::ReadingExpressions::wrap))]
+    #[tactic(auto, unfolding(pw_grammar::specs::Reading::Expressions::prefix, pw_grammar::specs::Reading::Expressions::wrap))]
     fn prefix(&self, cursor: &mut Cursor<'_>) -> Result<Boxed<Expr>, SyntaxError>
         requires { Nests self.now.depth (F.pre self.now.expr) (F.post self.now.expr) }
         ensures { Reads (spec.prefix (spec.expression self.now.depth) self.now.iterations cursor.old) result cursor.new }

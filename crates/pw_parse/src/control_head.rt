@@ -1,7 +1,7 @@
 //! Control-flow heads: what stands of an `if`, `while`, `do` or `for` before the statement that it holds.
 ghost use Rattle.std.specs.Prelude.{◌≡◌, ◌≤◌, ◌<◌, length, Ok, IfOk, IfNone};
-ghost use Rattle.pw_grammar.specs.ReadingExpressions as expressions;
-ghost use Rattle.pw_grammar.specs.Steps.{Reads};
+ghost use Rattle.pw_grammar.specs.Reading.Expressions as expressions;
+ghost use Rattle.pw_grammar.specs.Reading.Steps.{Reads};
 ghost use Rattle.pw_parse.specs.Steps.Heads as spec;
 ghost use Rattle.pw_parse.specs.Steps.Nesting as nesting;
 ghost use Rattle.pw_parse.specs.Steps.Nesting.{Resumes};
@@ -90,7 +90,7 @@ fn for_head(alloc: Global, cursor: &mut Cursor<'_>, depth: usize) -> Result<Head
 }
 
 /// A head, if a token of this sort begins one.
-#[tactic(auto, unfolding(pw_grammar::specs::ReadingStatements::some))]
+#[tactic(auto, unfolding(pw_grammar::specs::Reading::Statements::some))]
 pub(crate) fn maybe_head(
     alloc: Global,
     cursor: &mut Cursor<'_>,

@@ -1,7 +1,7 @@
 //! A cursor over tokens, the steps that every rule is made of.
 ghost use Rattle.std.specs.Prelude.{◌≡◌, ◌-◌, ◌+◌, ◌^◌, ◌<◌, [], length};
-ghost use Rattle.pw_grammar.specs.Steps as spec;
-ghost use Rattle.pw_grammar.specs.Steps.{Reads};
+ghost use Rattle.pw_grammar.specs.Reading.Steps as spec;
+ghost use Rattle.pw_grammar.specs.Reading.Steps.{Reads};
 ghost use Rattle.pw_grammar.specs.Statements.{first_line};
 ghost use Rattle.pw_grammar.specs.Expressions.{value_in, is_unsigned};
 ghost use Rattle.pw_parse.specs.Steps.Values.{value};
@@ -20,7 +20,7 @@ pub(crate) struct Cursor<'a> {
 }
 
 impl<'a> Model for Cursor<'a> {
-    ghost use Rattle.pw_grammar.specs.Steps.{Position};
+    ghost use Rattle.pw_grammar.specs.Reading.Steps.{Position};
     ghost use Rattle.pw_parse.specs.Steps.Cursor.{place_of, IsNumbered};
 
     ghost Value = { Position };
@@ -88,7 +88,7 @@ impl<'a> Cursor<'a> {
     }
 
     /// Whether the next token has this symbol.
-    #[tactic(auto, unfolding(pw_grammar::specs::Steps::sees))]
+    #[tactic(auto, unfolding(pw_grammar::specs::Reading::Steps::sees))]
     pub fn sees(&self, sort: Sort) -> bool
         ensures { result ≡ spec.sees sort self.now }
     {
@@ -103,7 +103,7 @@ impl<'a> Cursor<'a> {
     }
 
     /// Takes the next token, and answers its line.
-    #[tactic(auto, unfolding(pw_grammar::specs::Steps::skip, pw_grammar::specs::Steps::take, pw_grammar::specs::Steps::take_from))]
+    #[tactic(auto, unfolding(pw_grammar::specs::Reading::Steps::skip, pw_grammar::specs::Reading::Steps::take, pw_grammar::specs::Reading::Steps::take_from))]
     pub fn skip(&mut self) -> Result<u32, SyntaxError>
         ensures { Reads (spec.skip self.old) result self.new }
     {
@@ -118,7 +118,7 @@ impl<'a> Cursor<'a> {
     }
 
     /// Takes a token of this symbol, and answers its line.
-    #[tactic(auto, unfolding(pw_grammar::specs::Steps::expect))]
+    #[tactic(auto, unfolding(pw_grammar::specs::Reading::Steps::expect))]
     pub fn expect(&mut self, sort: Sort) -> Result<u32, SyntaxError>
         ensures { Reads (spec.expect sort self.old) result self.new }
     {
@@ -130,7 +130,7 @@ impl<'a> Cursor<'a> {
     }
 
     /// Takes an identifier.
-    #[tactic(auto, unfolding(pw_grammar::specs::Steps::name, pw_grammar::specs::Steps::sees, pw_grammar::specs::Steps::take, pw_grammar::specs::Steps::take_from))]
+    #[tactic(auto, unfolding(pw_grammar::specs::Reading::Steps::name, pw_grammar::specs::Reading::Steps::sees, pw_grammar::specs::Reading::Steps::take, pw_grammar::specs::Reading::Steps::take_from))]
     pub fn name(&mut self, alloc: Global) -> Result<Name, SyntaxError>
         ensures { Reads (spec.name self.old) result self.new }
     {
@@ -149,7 +149,7 @@ impl<'a> Cursor<'a> {
     }
 
     /// Takes a token, and answers the value of the constant that it is, and whether it is unsigned.
-    #[tactic(auto, unfolding(pw_grammar::specs::Steps::take, pw_grammar::specs::Steps::take_from))]
+    #[tactic(auto, unfolding(pw_grammar::specs::Reading::Steps::take, pw_grammar::specs::Reading::Steps::take_from))]
     pub fn value(&mut self) -> Result<(u64, bool), SyntaxError>
         ensures { Reads (value self.old) result self.new }
     {

@@ -1,9 +1,9 @@
 //! Declarations at file level.
 ghost use Rattle.std.specs.Prelude.{◌≡◌};
-ghost use Rattle.pw_grammar.specs.Steps.{Reads};
-ghost use Rattle.pw_grammar.specs.ReadingExpressions as expressions;
-ghost use Rattle.pw_grammar.specs.ReadingStatements as statements;
-ghost use Rattle.pw_grammar.specs.ReadingDeclarations as spec;
+ghost use Rattle.pw_grammar.specs.Reading.Steps.{Reads};
+ghost use Rattle.pw_grammar.specs.Reading.Expressions as expressions;
+ghost use Rattle.pw_grammar.specs.Reading.Statements as statements;
+ghost use Rattle.pw_grammar.specs.Reading.Declarations as spec;
 
 use crate::cursor::Cursor;
 use crate::parameter::{are_named, parameters};
@@ -16,7 +16,7 @@ use sqlite_items::Items;
 use std::alloc::Global;
 
 /// `extern`, `static` or nothing.
-#[tactic(auto, unfolding(pw_grammar::specs::ReadingDeclarations::storage, pw_grammar::specs::ReadingDeclarations::given))]
+#[tactic(auto, unfolding(pw_grammar::specs::Reading::Declarations::storage, pw_grammar::specs::Reading::Declarations::given))]
 fn storage(cursor: &mut Cursor<'_>) -> Result<Linkage, SyntaxError>
     ensures { Reads (spec.storage cursor.old) result cursor.new }
 {
@@ -32,7 +32,7 @@ fn storage(cursor: &mut Cursor<'_>) -> Result<Linkage, SyntaxError>
 }
 
 /// What a function gives: `void`, or a type.
-#[tactic(auto, unfolding(pw_grammar::specs::ReadingDeclarations::result, pw_grammar::specs::ReadingDeclarations::given))]
+#[tactic(auto, unfolding(pw_grammar::specs::Reading::Declarations::result, pw_grammar::specs::Reading::Declarations::given))]
 fn gives(cursor: &mut Cursor<'_>) -> Result<Ty, SyntaxError>
     ensures { Reads (spec.result cursor.old) result cursor.new }
 {
@@ -44,7 +44,7 @@ fn gives(cursor: &mut Cursor<'_>) -> Result<Ty, SyntaxError>
 }
 
 /// Whether a function of this storage class and these parameters may have a body.
-#[tactic(auto, unfolding(pw_grammar::specs::ReadingDeclarations::may_define))]
+#[tactic(auto, unfolding(pw_grammar::specs::Reading::Declarations::may_define))]
 fn may_define(linkage: Linkage, parameters: &[Param]) -> bool
     ensures { result ≡ spec.may_define linkage parameters.now }
 {
@@ -52,7 +52,7 @@ fn may_define(linkage: Linkage, parameters: &[Param]) -> bool
 }
 
 /// `;` after a function's declarator.
-#[tactic(auto, unfolding(pw_grammar::specs::ReadingDeclarations::prototype))]
+#[tactic(auto, unfolding(pw_grammar::specs::Reading::Declarations::prototype))]
 fn prototype(
     cursor: &mut Cursor<'_>,
     ty: Ty,
@@ -65,7 +65,7 @@ fn prototype(
 }
 
 /// A function's body after its declarator.
-#[tactic(auto, unfolding(pw_grammar::specs::ReadingDeclarations::body))]
+#[tactic(auto, unfolding(pw_grammar::specs::Reading::Declarations::body))]
 fn body(
     alloc: Global,
     cursor: &mut Cursor<'_>,
@@ -82,7 +82,7 @@ fn body(
 }
 
 /// A function from after its declarator on.
-#[tactic(auto, unfolding(pw_grammar::specs::ReadingDeclarations::function_end))]
+#[tactic(auto, unfolding(pw_grammar::specs::Reading::Declarations::function_end))]
 fn function_end(
     alloc: Global,
     cursor: &mut Cursor<'_>,
@@ -101,7 +101,7 @@ fn function_end(
 }
 
 /// A function from after its name on: its declarator's last token, and what it is.
-#[tactic(auto, unfolding(pw_grammar::specs::ReadingDeclarations::function))]
+#[tactic(auto, unfolding(pw_grammar::specs::Reading::Declarations::function))]
 fn function(
     alloc: Global,
     cursor: &mut Cursor<'_>,
@@ -130,7 +130,7 @@ fn is_void(ty: Ty) -> bool
 }
 
 /// What stands after the name: its declarator's last token, and what is declared.
-#[tactic(auto, unfolding(pw_grammar::specs::ReadingDeclarations::declarator))]
+#[tactic(auto, unfolding(pw_grammar::specs::Reading::Declarations::declarator))]
 fn declarator(
     alloc: Global,
     cursor: &mut Cursor<'_>,
@@ -150,7 +150,7 @@ fn declarator(
 }
 
 /// A declaration.
-#[tactic(auto, unfolding(pw_grammar::specs::ReadingDeclarations::declaration))]
+#[tactic(auto, unfolding(pw_grammar::specs::Reading::Declarations::declaration))]
 pub(crate) fn declaration(
     alloc: Global,
     cursor: &mut Cursor<'_>,

@@ -1,6 +1,6 @@
 //! Whole expressions: an operand of binary operators, or a choice `test ? a : b` (C17, 6.5.15).
-ghost use Rattle.pw_grammar.specs.ReadingExpressions as spec;
-ghost use Rattle.pw_grammar.specs.Steps.{Reads};
+ghost use Rattle.pw_grammar.specs.Reading.Expressions as spec;
+ghost use Rattle.pw_grammar.specs.Reading.Steps.{Reads};
 ghost use Rattle.pw_parse.specs.Steps.Nests.{Nests};
 
 use crate::cursor::Cursor;
@@ -16,7 +16,7 @@ const LOOSEST: usize = 12;
 
 impl<F: Fn(Global, &mut Cursor<'_>, usize) -> Result<Boxed<Expr>, SyntaxError>> ExpressionRules<F> {
     /// The branches of a choice whose first token has the number `first`.
-    #[tactic(auto, unfolding(pw_grammar::specs::ReadingExpressions::branches))]
+    #[tactic(auto, unfolding(pw_grammar::specs::Reading::Expressions::branches))]
     fn branches(
         &self,
         cursor: &mut Cursor<'_>,
@@ -34,7 +34,7 @@ impl<F: Fn(Global, &mut Cursor<'_>, usize) -> Result<Boxed<Expr>, SyntaxError>> 
     }
 
     /// A choice, or an expression of a tighter level.
-    #[tactic(auto, unfolding(pw_grammar::specs::ReadingExpressions::choice))]
+    #[tactic(auto, unfolding(pw_grammar::specs::Reading::Expressions::choice))]
     pub fn choice(&self, cursor: &mut Cursor<'_>) -> Result<Boxed<Expr>, SyntaxError>
         requires { Nests self.now.depth (F.pre self.now.expr) (F.post self.now.expr) }
         ensures { Reads (spec.choice (spec.expression self.now.depth) self.now.iterations cursor.old) result cursor.new }

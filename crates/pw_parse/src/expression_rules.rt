@@ -1,6 +1,6 @@
 //! The rules of expressions, over a reader of the expressions inside, so that each rule is proved by itself.
-ghost use Rattle.pw_grammar.specs.ReadingExpressions as spec;
-ghost use Rattle.pw_grammar.specs.Steps.{Reads};
+ghost use Rattle.pw_grammar.specs.Reading.Expressions as spec;
+ghost use Rattle.pw_grammar.specs.Reading.Steps.{Reads};
 ghost use Rattle.pw_parse.specs.Steps.Nests.{Nests};
 
 use crate::cursor::Cursor;

@@ -1,7 +1,7 @@
 //! The three clauses between the brackets of a `for` (C17, 6.8.5.3).
-ghost use Rattle.pw_grammar.specs.Steps.{Reads};
-ghost use Rattle.pw_grammar.specs.ReadingExpressions as expressions;
-ghost use Rattle.pw_grammar.specs.ReadingStatements as spec;
+ghost use Rattle.pw_grammar.specs.Reading.Steps.{Reads};
+ghost use Rattle.pw_grammar.specs.Reading.Expressions as expressions;
+ghost use Rattle.pw_grammar.specs.Reading.Statements as spec;
 
 use crate::cursor::Cursor;
 use crate::expression::expression;
@@ -13,7 +13,7 @@ use sqlite_items::Boxed;
 use std::alloc::Global;
 
 /// What comes up to a token of this sort: an expression, or nothing.
-#[tactic(auto, unfolding(pw_grammar::specs::ReadingStatements::maybe_before, pw_grammar::specs::ReadingStatements::some))]
+#[tactic(auto, unfolding(pw_grammar::specs::Reading::Statements::maybe_before, pw_grammar::specs::Reading::Statements::some))]
 pub(crate) fn maybe_expression(
     alloc: Global,
     cursor: &mut Cursor<'_>,
@@ -30,7 +30,7 @@ pub(crate) fn maybe_expression(
 }
 
 /// What comes up to the closing bracket: an assignment, an expression, or nothing.
-#[tactic(auto, unfolding(pw_grammar::specs::ReadingStatements::maybe_before, pw_grammar::specs::ReadingStatements::some))]
+#[tactic(auto, unfolding(pw_grammar::specs::Reading::Statements::maybe_before, pw_grammar::specs::Reading::Statements::some))]
 pub(crate) fn maybe_step(
     alloc: Global,
     cursor: &mut Cursor<'_>,
@@ -46,7 +46,7 @@ pub(crate) fn maybe_step(
 }
 
 /// An assignment or an expression, and `;`.
-#[tactic(auto, unfolding(pw_grammar::specs::ReadingStatements::simple_start))]
+#[tactic(auto, unfolding(pw_grammar::specs::Reading::Statements::simple_start))]
 fn simple_start(
     alloc: Global,
     cursor: &mut Cursor<'_>,
@@ -60,7 +60,7 @@ fn simple_start(
 }
 
 /// The first part: a local, an assignment, an expression, or nothing, and its `;`.
-#[tactic(auto, unfolding(pw_grammar::specs::ReadingStatements::start, pw_grammar::specs::ReadingStatements::no_start, pw_grammar::specs::ReadingStatements::some))]
+#[tactic(auto, unfolding(pw_grammar::specs::Reading::Statements::start, pw_grammar::specs::Reading::Statements::no_start, pw_grammar::specs::Reading::Statements::some))]
 pub(crate) fn start(
     alloc: Global,
     cursor: &mut Cursor<'_>,

@@ -1,8 +1,8 @@
 //! The values that variables begin with.
 ghost use Rattle.std.specs.Prelude.{◌≡◌};
-ghost use Rattle.pw_grammar.specs.Steps.{Reads};
+ghost use Rattle.pw_grammar.specs.Reading.Steps.{Reads};
 ghost use Rattle.pw_grammar.specs.Declarations as declarations;
-ghost use Rattle.pw_grammar.specs.ReadingDeclarations as spec;
+ghost use Rattle.pw_grammar.specs.Reading.Declarations as spec;
 ghost use Rattle.pw_parse.specs.Steps.Values.{number};
 
 use crate::cursor::Cursor;
@@ -20,7 +20,7 @@ pub(crate) fn number(cursor: &mut Cursor<'_>) -> Result<u64, SyntaxError>
 }
 
 /// A constant's value.
-#[tactic(auto, unfolding(pw_grammar::specs::ReadingDeclarations::constant_value))]
+#[tactic(auto, unfolding(pw_grammar::specs::Reading::Declarations::constant_value))]
 fn constant_value(cursor: &mut Cursor<'_>) -> Result<u64, SyntaxError>
     ensures { Reads (spec.constant_value cursor.old) result cursor.new }
 {
@@ -39,7 +39,7 @@ fn negated(value: u64) -> u64
 }
 
 /// The identifier of a function.
-#[tactic(auto, unfolding(pw_grammar::specs::ReadingDeclarations::element_word))]
+#[tactic(auto, unfolding(pw_grammar::specs::Reading::Declarations::element_word))]
 fn element_word(alloc: Global, cursor: &mut Cursor<'_>) -> Result<InitKind, SyntaxError>
     ensures { Reads (spec.element_word cursor.old) result cursor.new }
 {
@@ -48,7 +48,7 @@ fn element_word(alloc: Global, cursor: &mut Cursor<'_>) -> Result<InitKind, Synt
 }
 
 /// A constant.
-#[tactic(auto, unfolding(pw_grammar::specs::ReadingDeclarations::element_positive))]
+#[tactic(auto, unfolding(pw_grammar::specs::Reading::Declarations::element_positive))]
 fn element_positive(cursor: &mut Cursor<'_>) -> Result<InitKind, SyntaxError>
     ensures { Reads (spec.element_positive cursor.old) result cursor.new }
 {
@@ -57,7 +57,7 @@ fn element_positive(cursor: &mut Cursor<'_>) -> Result<InitKind, SyntaxError>
 }
 
 /// A minus sign and a constant.
-#[tactic(auto, unfolding(pw_grammar::specs::ReadingDeclarations::element_negative))]
+#[tactic(auto, unfolding(pw_grammar::specs::Reading::Declarations::element_negative))]
 fn element_negative(cursor: &mut Cursor<'_>) -> Result<InitKind, SyntaxError>
     ensures { Reads (spec.element_negative cursor.old) result cursor.new }
 {
@@ -67,7 +67,7 @@ fn element_negative(cursor: &mut Cursor<'_>) -> Result<InitKind, SyntaxError>
 }
 
 /// What an element is.
-#[tactic(auto, unfolding(pw_grammar::specs::ReadingDeclarations::element_kind))]
+#[tactic(auto, unfolding(pw_grammar::specs::Reading::Declarations::element_kind))]
 fn element_kind(alloc: Global, cursor: &mut Cursor<'_>) -> Result<InitKind, SyntaxError>
     ensures { Reads (spec.element_kind cursor.old) result cursor.new }
 {
@@ -81,7 +81,7 @@ fn element_kind(alloc: Global, cursor: &mut Cursor<'_>) -> Result<InitKind, Synt
 }
 
 /// An element.
-#[tactic(auto, unfolding(pw_grammar::specs::ReadingDeclarations::initial))]
+#[tactic(auto, unfolding(pw_grammar::specs::Reading::Declarations::initial))]
 fn initial(alloc: Global, cursor: &mut Cursor<'_>) -> Result<InitItem, SyntaxError>
     ensures { Reads (spec.initial cursor.old) result cursor.new }
 {
@@ -119,7 +119,7 @@ fn more_initials(
 }
 
 /// `= e`, for a variable that is no array.
-#[tactic(auto, unfolding(pw_grammar::specs::ReadingDeclarations::one_initial))]
+#[tactic(auto, unfolding(pw_grammar::specs::Reading::Declarations::one_initial))]
 fn one_initial(
     alloc: Global,
     cursor: &mut Cursor<'_>,
@@ -133,7 +133,7 @@ fn one_initial(
 }
 
 /// `= { elements }`, for an array.
-#[tactic(auto, unfolding(pw_grammar::specs::ReadingDeclarations::listed_initials))]
+#[tactic(auto, unfolding(pw_grammar::specs::Reading::Declarations::listed_initials))]
 fn listed_initials(
     alloc: Global,
     cursor: &mut Cursor<'_>,

@@ -3,8 +3,8 @@ ghost use Rattle.std.specs.Prelude.{◌≡◌, ◌<◌, ◌≤◌, ◌+◌, ◌^
 ghost use Rattle.pw_grammar.specs.Terminals.{is_same, sort_of};
 ghost use Rattle.pw_grammar.specs.Faults.{opens, closes, bracket, token_of};
 ghost use Rattle.pw_base.specs.Limits.{open_brackets};
-ghost use Rattle.pw_grammar.specs.Limits as spec;
-ghost use Rattle.pw_grammar.specs.Reading as reading;
+ghost use Rattle.pw_grammar.specs.Reading.Limits as spec;
+ghost use Rattle.pw_grammar.specs.Reading.Whole as reading;
 ghost use Rattle.pw_parse.specs.Steps.Walk.{walk_of};
 
 use pw_base::Limits;
@@ -105,7 +105,7 @@ impl Stand {
     }
 
     /// After the token.
-    #[tactic(auto, unfolding(pw_grammar::specs::Limits::step))]
+    #[tactic(auto, unfolding(pw_grammar::specs::Reading::Limits::step))]
     fn step(&self, token: &Token) -> Stand
         requires at { self.now.at < 2 ^ 32 }
         requires depth { self.now.depth ≤ self.now.at }
@@ -142,7 +142,7 @@ fn is_too_deep(depth: usize, token: &Token) -> bool
 }
 
 /// The first token that opens a bracket where as many are open as may be.
-#[tactic(auto, unfolding(pw_grammar::specs::Limits::first_nested))]
+#[tactic(auto, unfolding(pw_grammar::specs::Reading::Limits::first_nested))]
 fn first_nested(tokens: &[Token]) -> Option<usize>
     requires { length tokens.now < 2 ^ 32 }
     ensures is { result ≡ spec.first_nested 0 0 tokens.now }
@@ -163,7 +163,7 @@ fn first_nested(tokens: &[Token]) -> Option<usize>
 }
 
 /// The first token of a function's body that is past the function's limit.
-#[tactic(auto, unfolding(pw_grammar::specs::Limits::first_late))]
+#[tactic(auto, unfolding(pw_grammar::specs::Reading::Limits::first_late))]
 fn first_late(tokens: &[Token]) -> Option<usize>
     requires { length tokens.now < 2 ^ 32 }
     ensures is { result ≡ spec.first_late (spec.anew 0) tokens.now }
@@ -182,7 +182,7 @@ fn first_late(tokens: &[Token]) -> Option<usize>
 }
 
 /// The first token that passes a limit; nesting counts first.
-#[tactic(auto, unfolding(pw_grammar::specs::Reading::first_limit))]
+#[tactic(auto, unfolding(pw_grammar::specs::Reading::Whole::first_limit))]
 pub(crate) fn first_limit(tokens: &[Token]) -> Option<SyntaxError>
     requires { length tokens.now < 2 ^ 32 }
     ensures is { result ≡ reading.first_limit tokens.now }

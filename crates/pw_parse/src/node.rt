@@ -1,7 +1,7 @@
 //! Expressions and statements whose last token is the last that was read.
 ghost use Rattle.std.specs.Prelude.{◌≡◌, Ok};
-ghost use Rattle.pw_grammar.specs.Steps as spec;
-ghost use Rattle.pw_grammar.specs.Steps.{Reads};
+ghost use Rattle.pw_grammar.specs.Reading.Steps as spec;
+ghost use Rattle.pw_grammar.specs.Reading.Steps.{Reads};
 
 use crate::cursor::Cursor;
 use pw_grammar::SyntaxError;

@@ -1,7 +1,7 @@
 //! The operators that symbols are, and the prefix operators before an operand.
 ghost use Rattle.std.specs.Prelude.{◌≡◌, ◌-◌, ◌≤◌, [], length, IfOk};
-ghost use Rattle.pw_grammar.specs.ReadingExpressions as spec;
-ghost use Rattle.pw_grammar.specs.Steps.{Reads};
+ghost use Rattle.pw_grammar.specs.Reading.Expressions as spec;
+ghost use Rattle.pw_grammar.specs.Reading.Steps.{Reads};
 ghost use Rattle.pw_grammar.specs.Terminals as terminals;
 
 use crate::cursor::Cursor;
@@ -85,7 +85,7 @@ fn at_level(level: usize, op: Option<Bin>) -> Option<Bin>
 }
 
 /// An operator of the level, with its line, if one comes next.
-#[tactic(auto, unfolding(pw_grammar::specs::ReadingExpressions::binary_operator))]
+#[tactic(auto, unfolding(pw_grammar::specs::Reading::Expressions::binary_operator))]
 pub(crate) fn binary_operator(
     cursor: &mut Cursor<'_>,
     level: usize,
@@ -99,7 +99,7 @@ pub(crate) fn binary_operator(
 }
 
 /// An operator before an operand, with its line, if one comes next.
-#[tactic(auto, unfolding(pw_grammar::specs::ReadingExpressions::prefix_operator))]
+#[tactic(auto, unfolding(pw_grammar::specs::Reading::Expressions::prefix_operator))]
 fn prefix_operator(cursor: &mut Cursor<'_>) -> Result<Option<(Un, u32)>, SyntaxError>
     ensures { Reads (spec.prefix_operator cursor.old) result cursor.new }
 {

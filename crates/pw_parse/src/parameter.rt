@@ -1,8 +1,8 @@
 //! The parameters of a function.
 ghost use Rattle.std.specs.Prelude.{◌≡◌, [], ◌∷◌};
 ghost use Rattle.std.specs.List.{list_all};
-ghost use Rattle.pw_grammar.specs.Steps.{Reads};
-ghost use Rattle.pw_grammar.specs.ReadingDeclarations as spec;
+ghost use Rattle.pw_grammar.specs.Reading.Steps.{Reads};
+ghost use Rattle.pw_grammar.specs.Reading.Declarations as spec;
 
 use crate::cursor::Cursor;
 use crate::types::type_name;
@@ -13,7 +13,7 @@ use sqlite_items::Items;
 use std::alloc::Global;
 
 /// An identifier, or nothing.
-#[tactic(auto, unfolding(pw_grammar::specs::ReadingDeclarations::maybe_name, pw_grammar::specs::ReadingStatements::some))]
+#[tactic(auto, unfolding(pw_grammar::specs::Reading::Declarations::maybe_name, pw_grammar::specs::Reading::Statements::some))]
 fn maybe_name(alloc: Global, cursor: &mut Cursor<'_>) -> Result<Option<Name>, SyntaxError>
     ensures { Reads (spec.maybe_name cursor.old) result cursor.new }
 {
@@ -25,7 +25,7 @@ fn maybe_name(alloc: Global, cursor: &mut Cursor<'_>) -> Result<Option<Name>, Sy
 }
 
 /// A type, and an identifier or nothing.
-#[tactic(auto, unfolding(pw_grammar::specs::ReadingDeclarations::parameter))]
+#[tactic(auto, unfolding(pw_grammar::specs::Reading::Declarations::parameter))]
 fn parameter(alloc: Global, cursor: &mut Cursor<'_>) -> Result<Param, SyntaxError>
     ensures { Reads (spec.parameter cursor.old) result cursor.new }
 {
@@ -60,7 +60,7 @@ fn more_parameters(
 }
 
 /// One or more parameters.
-#[tactic(auto, unfolding(pw_grammar::specs::ReadingDeclarations::some_parameters))]
+#[tactic(auto, unfolding(pw_grammar::specs::Reading::Declarations::some_parameters))]
 fn some_parameters(
     alloc: Global,
     cursor: &mut Cursor<'_>,
@@ -74,7 +74,7 @@ fn some_parameters(
 }
 
 /// `void`, or one or more parameters.
-#[tactic(auto, unfolding(pw_grammar::specs::ReadingDeclarations::parameters, pw_grammar::specs::ReadingDeclarations::given))]
+#[tactic(auto, unfolding(pw_grammar::specs::Reading::Declarations::parameters, pw_grammar::specs::Reading::Declarations::given))]
 pub(crate) fn parameters(
     alloc: Global,
     cursor: &mut Cursor<'_>,

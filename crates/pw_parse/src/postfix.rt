@@ -1,7 +1,7 @@
 //! Calls and indices (C17, 6.5.2).
 ghost use Rattle.std.specs.Prelude.{[], ◌∷◌};
-ghost use Rattle.pw_grammar.specs.ReadingExpressions as spec;
-ghost use Rattle.pw_grammar.specs.Steps.{Reads};
+ghost use Rattle.pw_grammar.specs.Reading.Expressions as spec;
+ghost use Rattle.pw_grammar.specs.Reading.Steps.{Reads};
 ghost use Rattle.pw_parse.specs.Steps.Nests.{Nests};
 
 use crate::cursor::Cursor;
@@ -33,7 +33,7 @@ impl<F: Fn(Global, &mut Cursor<'_>, usize) -> Result<Boxed<Expr>, SyntaxError>> 
     }
 
     /// One argument or more.
-    #[tactic(auto, unfolding(pw_grammar::specs::ReadingExpressions::some_arguments))]
+    #[tactic(auto, unfolding(pw_grammar::specs::Reading::Expressions::some_arguments))]
     fn some_arguments(&self, cursor: &mut Cursor<'_>) -> Result<Items<Expr>, SyntaxError>
         requires { Nests self.now.depth (F.pre self.now.expr) (F.post self.now.expr) }
         ensures { Reads (spec.some_arguments (spec.expression self.now.depth) self.now.iterations cursor.old) result cursor.new }
@@ -44,7 +44,7 @@ impl<F: Fn(Global, &mut Cursor<'_>, usize) -> Result<Boxed<Expr>, SyntaxError>> 
     }
 
     /// The arguments of a call.
-    #[tactic(auto, unfolding(pw_grammar::specs::ReadingExpressions::arguments))]
+    #[tactic(auto, unfolding(pw_grammar::specs::Reading::Expressions::arguments))]
     fn arguments(&self, cursor: &mut Cursor<'_>) -> Result<Items<Expr>, SyntaxError>
         requires { Nests self.now.depth (F.pre self.now.expr) (F.post self.now.expr) }
         ensures { Reads (spec.arguments (spec.expression self.now.depth) self.now.iterations cursor.old) result cursor.new }
@@ -57,7 +57,7 @@ impl<F: Fn(Global, &mut Cursor<'_>, usize) -> Result<Boxed<Expr>, SyntaxError>> 
     }
 
     /// A call of the callee, whose first token has the number `first`.
-    #[tactic(auto, unfolding(pw_grammar::specs::ReadingExpressions::call))]
+    #[tactic(auto, unfolding(pw_grammar::specs::Reading::Expressions::call))]
     fn call(
         &self,
         cursor: &mut Cursor<'_>,
@@ -80,7 +80,7 @@ impl<F: Fn(Global, &mut Cursor<'_>, usize) -> Result<Boxed<Expr>, SyntaxError>> 
     }
 
     /// An index into the base, whose first token has the number `first`.
-    #[tactic(auto, unfolding(pw_grammar::specs::ReadingExpressions::index))]
+    #[tactic(auto, unfolding(pw_grammar::specs::Reading::Expressions::index))]
     fn index(
         &self,
         cursor: &mut Cursor<'_>,
@@ -125,7 +125,7 @@ impl<F: Fn(Global, &mut Cursor<'_>, usize) -> Result<Boxed<Expr>, SyntaxError>> 
     }
 
     /// A primary expression, with the calls and indices after it.
-    #[tactic(auto, unfolding(pw_grammar::specs::ReadingExpressions::postfix))]
+    #[tactic(auto, unfolding(pw_grammar::specs::Reading::Expressions::postfix))]
     pub fn postfix(&self, cursor: &mut Cursor<'_>) -> Result<Boxed<Expr>, SyntaxError>
         requires { Nests self.now.depth (F.pre self.now.expr) (F.post self.now.expr) }
         ensures { Reads (spec.postfix (spec.expression self.now.depth) self.now.iterations cursor.old) result cursor.new }

@@ -1,6 +1,6 @@
 //! Primary expressions (C17, 6.5.1), input and output.
-ghost use Rattle.pw_grammar.specs.ReadingExpressions as spec;
-ghost use Rattle.pw_grammar.specs.Steps.{Reads, either, refuse};
+ghost use Rattle.pw_grammar.specs.Reading.Expressions as spec;
+ghost use Rattle.pw_grammar.specs.Reading.Steps.{Reads, either, refuse};
 ghost use Rattle.pw_parse.specs.Steps.Nests.{Nests};
 
 use crate::cursor::Cursor;
@@ -12,7 +12,7 @@ use sqlite_items::Boxed;
 use std::alloc::Global;
 
 /// An identifier.
-#[tactic(auto, unfolding(pw_grammar::specs::ReadingExpressions::identifier, pw_grammar::specs::Steps::name))]
+#[tactic(auto, unfolding(pw_grammar::specs::Reading::Expressions::identifier, pw_grammar::specs::Reading::Steps::name))]
 fn identifier(alloc: Global, cursor: &mut Cursor<'_>) -> Result<Boxed<Expr>, SyntaxError>
     ensures { Reads (either Sort.Name spec.identifier refuse cursor.old) result cursor.new }
 {
@@ -23,7 +23,7 @@ fn identifier(alloc: Global, cursor: &mut Cursor<'_>) -> Result<Boxed<Expr>, Syn
 }
 
 /// A constant.
-#[tactic(auto, unfolding(pw_grammar::specs::ReadingExpressions::constant))]
+#[tactic(auto, unfolding(pw_grammar::specs::Reading::Expressions::constant))]
 fn constant(alloc: Global, cursor: &mut Cursor<'_>) -> Result<Boxed<Expr>, SyntaxError>
     ensures { Reads (spec.constant cursor.old) result cursor.new }
 {
@@ -34,7 +34,7 @@ fn constant(alloc: Global, cursor: &mut Cursor<'_>) -> Result<Boxed<Expr>, Synta
 }
 
 /// `__in()`
-#[tactic(auto, unfolding(pw_grammar::specs::ReadingExpressions::input))]
+#[tactic(auto, unfolding(pw_grammar::specs::Reading::Expressions::input))]
 fn input(alloc: Global, cursor: &mut Cursor<'_>) -> Result<Boxed<Expr>, SyntaxError>
     ensures { Reads (spec.input cursor.old) result cursor.new }
 {
@@ -47,7 +47,7 @@ fn input(alloc: Global, cursor: &mut Cursor<'_>) -> Result<Boxed<Expr>, SyntaxEr
 
 impl<F: Fn(Global, &mut Cursor<'_>, usize) -> Result<Boxed<Expr>, SyntaxError>> ExpressionRules<F> {
     /// `(e)`
-    #[tactic(auto, unfolding(pw_grammar::specs::ReadingExpressions::bracketed))]
+    #[tactic(auto, unfolding(pw_grammar::specs::Reading::Expressions::bracketed))]
     fn bracketed(&self, cursor: &mut Cursor<'_>) -> Result<Boxed<Expr>, SyntaxError>
         requires { Nests self.now.depth (F.pre self.now.expr) (F.post self.now.expr) }
         ensures { Reads (spec.bracketed (spec.expression self.now.depth) cursor.old) result cursor.new }
@@ -59,7 +59,7 @@ impl<F: Fn(Global, &mut Cursor<'_>, usize) -> Result<Boxed<Expr>, SyntaxError>> 
     }
 
     /// `__out(e)`
-    #[tactic(auto, unfolding(pw_grammar::specs::ReadingExpressions::output))]
+    #[tactic(auto, unfolding(pw_grammar::specs::Reading::Expressions::output))]
     fn output(&self, cursor: &mut Cursor<'_>) -> Result<Boxed<Expr>, SyntaxError>
         requires { Nests self.now.depth (F.pre self.now.expr) (F.post self.now.expr) }
         ensures { Reads (spec.output (spec.expression self.now.depth) cursor.old) result cursor.new }
@@ -73,7 +73,7 @@ impl<F: Fn(Global, &mut Cursor<'_>, usize) -> Result<Boxed<Expr>, SyntaxError>> 
     }
 
     /// A primary expression.
-    #[tactic(auto, unfolding(pw_grammar::specs::ReadingExpressions::primary))]
+    #[tactic(auto, unfolding(pw_grammar::specs::Reading::Expressions::primary))]
     pub fn primary(&self, cursor: &mut Cursor<'_>) -> Result<Boxed<Expr>, SyntaxError>
         requires { Nests self.now.depth (F.pre self.now.expr) (F.post self.now.expr) }
         ensures { Reads (spec.primary (spec.expression self.now.depth) cursor.old) result cursor.new }

@@ -1,8 +1,8 @@
 //! Statements that hold expressions alone: locals, assignments, and expressions by themselves.
 ghost use Rattle.std.specs.Prelude.{◌≡◌, Some};
-ghost use Rattle.pw_grammar.specs.Steps.{Reads};
-ghost use Rattle.pw_grammar.specs.ReadingExpressions as expressions;
-ghost use Rattle.pw_grammar.specs.ReadingStatements as spec;
+ghost use Rattle.pw_grammar.specs.Reading.Steps.{Reads};
+ghost use Rattle.pw_grammar.specs.Reading.Expressions as expressions;
+ghost use Rattle.pw_grammar.specs.Reading.Statements as spec;
 
 use crate::cursor::Cursor;
 use crate::expression::expression;
@@ -15,7 +15,7 @@ use sqlite_items::Boxed;
 use std::alloc::Global;
 
 /// `= e`, or nothing.
-#[tactic(auto, unfolding(pw_grammar::specs::ReadingStatements::maybe_value, pw_grammar::specs::ReadingStatements::value))]
+#[tactic(auto, unfolding(pw_grammar::specs::Reading::Statements::maybe_value, pw_grammar::specs::Reading::Statements::value))]
 fn maybe_value(
     alloc: Global,
     cursor: &mut Cursor<'_>,
@@ -32,7 +32,7 @@ fn maybe_value(
 }
 
 /// A local's declaration.
-#[tactic(auto, unfolding(pw_grammar::specs::ReadingStatements::local))]
+#[tactic(auto, unfolding(pw_grammar::specs::Reading::Statements::local))]
 pub(crate) fn local(
     alloc: Global,
     cursor: &mut Cursor<'_>,
@@ -62,7 +62,7 @@ fn word_of(first: u32, expr: Boxed<Expr>) -> Option<Name>
 }
 
 /// The identifier, or the identifier and the index, that an expression assigns to where it begins a statement.
-#[tactic(auto, unfolding(pw_grammar::specs::ReadingStatements::target))]
+#[tactic(auto, unfolding(pw_grammar::specs::Reading::Statements::target))]
 fn target(first: u32, expr: Boxed<Expr>) -> Option<(Name, Option<Boxed<Expr>>)>
     ensures { result ≡ spec.target first expr }
 {
@@ -98,7 +98,7 @@ fn assigned(
 }
 
 /// An assignment, or an expression by itself.
-#[tactic(auto, unfolding(pw_grammar::specs::ReadingStatements::simple))]
+#[tactic(auto, unfolding(pw_grammar::specs::Reading::Statements::simple))]
 fn simple(
     alloc: Global,
     cursor: &mut Cursor<'_>,
@@ -118,7 +118,7 @@ fn simple(
 }
 
 /// An assignment, or an expression by itself, without its `;`.
-#[tactic(auto, unfolding(pw_grammar::specs::ReadingStatements::simple_statement))]
+#[tactic(auto, unfolding(pw_grammar::specs::Reading::Statements::simple_statement))]
 pub(crate) fn simple_statement(
     alloc: Global,
     cursor: &mut Cursor<'_>,
@@ -133,7 +133,7 @@ pub(crate) fn simple_statement(
 }
 
 /// An assignment or an expression, and `;`.
-#[tactic(auto, unfolding(pw_grammar::specs::ReadingStatements::evaluated))]
+#[tactic(auto, unfolding(pw_grammar::specs::Reading::Statements::evaluated))]
 pub(crate) fn evaluated(
     alloc: Global,
     cursor: &mut Cursor<'_>,
@@ -147,7 +147,7 @@ pub(crate) fn evaluated(
 }
 
 /// `( e )`
-#[tactic(auto, unfolding(pw_grammar::specs::ReadingStatements::test))]
+#[tactic(auto, unfolding(pw_grammar::specs::Reading::Statements::test))]
 pub(crate) fn test(
     alloc: Global,
     cursor: &mut Cursor<'_>,

@@ -1,9 +1,9 @@
 //! Statements, which hold expressions and statements. What holds statements takes their reader as a parameter, so that
 //! each rule is proved by itself.
 ghost use Rattle.std.specs.Prelude.{◌≡◌, []};
-ghost use Rattle.pw_grammar.specs.Steps.{Reads};
-ghost use Rattle.pw_grammar.specs.ReadingExpressions as expressions;
-ghost use Rattle.pw_grammar.specs.ReadingStatements as spec;
+ghost use Rattle.pw_grammar.specs.Reading.Steps.{Reads};
+ghost use Rattle.pw_grammar.specs.Reading.Expressions as expressions;
+ghost use Rattle.pw_grammar.specs.Reading.Statements as spec;
 ghost use Rattle.pw_parse.specs.Steps.Heads as fronts;
 ghost use Rattle.pw_parse.specs.Steps.Nests.{NestsStatements};
 
@@ -78,7 +78,7 @@ pub(crate) fn inner_statements(
 }
 
 /// `;`
-#[tactic(auto, unfolding(pw_grammar::specs::ReadingStatements::empty))]
+#[tactic(auto, unfolding(pw_grammar::specs::Reading::Statements::empty))]
 fn empty(cursor: &mut Cursor<'_>) -> Result<StmtKind, SyntaxError>
     ensures { Reads (spec.empty cursor.old) result cursor.new }
 {
@@ -87,7 +87,7 @@ fn empty(cursor: &mut Cursor<'_>) -> Result<StmtKind, SyntaxError>
 }
 
 /// `return e ;`, or `return ;`
-#[tactic(auto, unfolding(pw_grammar::specs::ReadingStatements::leave))]
+#[tactic(auto, unfolding(pw_grammar::specs::Reading::Statements::leave))]
 fn leave(alloc: Global, cursor: &mut Cursor<'_>, depth: usize) -> Result<StmtKind, SyntaxError>
     ensures { Reads (spec.leave (expressions.expression depth) cursor.old) result cursor.new }
 {
@@ -98,7 +98,7 @@ fn leave(alloc: Global, cursor: &mut Cursor<'_>, depth: usize) -> Result<StmtKin
 }
 
 /// `break ;`
-#[tactic(auto, unfolding(pw_grammar::specs::ReadingStatements::jump))]
+#[tactic(auto, unfolding(pw_grammar::specs::Reading::Statements::jump))]
 fn break_off(cursor: &mut Cursor<'_>) -> Result<StmtKind, SyntaxError>
     ensures { Reads (spec.jump StmtKind.Break cursor.old) result cursor.new }
 {
@@ -108,7 +108,7 @@ fn break_off(cursor: &mut Cursor<'_>) -> Result<StmtKind, SyntaxError>
 }
 
 /// `continue ;`
-#[tactic(auto, unfolding(pw_grammar::specs::ReadingStatements::jump))]
+#[tactic(auto, unfolding(pw_grammar::specs::Reading::Statements::jump))]
 fn go_on(cursor: &mut Cursor<'_>) -> Result<StmtKind, SyntaxError>
     ensures { Reads (spec.jump StmtKind.Continue cursor.old) result cursor.new }
 {
@@ -127,7 +127,7 @@ impl<S: Fn(Global, &mut Cursor<'_>, usize) -> Result<Boxed<Stmt>, SyntaxError>> 
     }
 
     /// A statement of a block, or a local's declaration.
-    #[tactic(auto, unfolding(pw_grammar::specs::ReadingStatements::element))]
+    #[tactic(auto, unfolding(pw_grammar::specs::Reading::Statements::element))]
     fn element(&self, cursor: &mut Cursor<'_>) -> Result<Boxed<Stmt>, SyntaxError>
         requires { NestsStatements self.now.inner (S.pre self.now.stmt) (S.post self.now.stmt) }
         ensures { Reads (spec.element (expressions.expression self.now.depth) (spec.statement self.now.inner) cursor.old) result cursor.new }
@@ -155,7 +155,7 @@ impl<S: Fn(Global, &mut Cursor<'_>, usize) -> Result<Boxed<Stmt>, SyntaxError>> 
     }
 
     /// `{ statements }`
-    #[tactic(auto, unfolding(pw_grammar::specs::ReadingStatements::block))]
+    #[tactic(auto, unfolding(pw_grammar::specs::Reading::Statements::block))]
     fn block(&self, cursor: &mut Cursor<'_>) -> Result<StmtKind, SyntaxError>
         requires { NestsStatements self.now.inner (S.pre self.now.stmt) (S.post self.now.stmt) }
         ensures { Reads (spec.block (expressions.expression self.now.depth) (spec.statement self.now.inner) self.now.depth cursor.old) result cursor.new }

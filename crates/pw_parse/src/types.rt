@@ -1,8 +1,8 @@
 //! The types that a declaration begins with.
 ghost use Rattle.std.specs.Prelude.{◌≡◌};
 ghost use Rattle.pw_grammar.specs.Statements as statements;
-ghost use Rattle.pw_grammar.specs.Steps.{Reads};
-ghost use Rattle.pw_grammar.specs.ReadingStatements as spec;
+ghost use Rattle.pw_grammar.specs.Reading.Steps.{Reads};
+ghost use Rattle.pw_grammar.specs.Reading.Statements as spec;
 
 use crate::cursor::Cursor;
 use pw_grammar::{Sort, SyntaxError, is_same};
@@ -26,7 +26,7 @@ fn type_of(sort: Sort) -> Option<Ty>
 }
 
 /// Whether a type begins with this symbol.
-#[tactic(auto, unfolding(pw_grammar::specs::ReadingStatements::begins_type))]
+#[tactic(auto, unfolding(pw_grammar::specs::Reading::Statements::begins_type))]
 pub(crate) fn begins_type(sort: Sort) -> bool
     ensures { result ≡ spec.begins_type sort }
 {
@@ -37,7 +37,7 @@ pub(crate) fn begins_type(sort: Sort) -> bool
 }
 
 /// `unsigned long`
-#[tactic(auto, unfolding(pw_grammar::specs::ReadingStatements::unsigned_long))]
+#[tactic(auto, unfolding(pw_grammar::specs::Reading::Statements::unsigned_long))]
 fn unsigned_long(cursor: &mut Cursor<'_>) -> Result<Ty, SyntaxError>
     ensures { Reads (spec.unsigned_long cursor.old) result cursor.new }
 {
@@ -47,7 +47,7 @@ fn unsigned_long(cursor: &mut Cursor<'_>) -> Result<Ty, SyntaxError>
 }
 
 /// A type: one word, or `unsigned long`.
-#[tactic(auto, unfolding(pw_grammar::specs::ReadingStatements::type_name))]
+#[tactic(auto, unfolding(pw_grammar::specs::Reading::Statements::type_name))]
 pub(crate) fn type_name(cursor: &mut Cursor<'_>) -> Result<Ty, SyntaxError>
     ensures { Reads (spec.type_name cursor.old) result cursor.new }
 {

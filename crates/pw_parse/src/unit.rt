@@ -1,9 +1,9 @@
 //! Units: declarations up to the end of the list.
-ghost use Rattle.pw_grammar.specs.Steps.{Reads};
+ghost use Rattle.pw_grammar.specs.Reading.Steps.{Reads};
 ghost use Rattle.std.specs.Prelude.{[]};
-ghost use Rattle.pw_grammar.specs.ReadingExpressions as expressions;
-ghost use Rattle.pw_grammar.specs.ReadingStatements as statements;
-ghost use Rattle.pw_grammar.specs.ReadingDeclarations as spec;
+ghost use Rattle.pw_grammar.specs.Reading.Expressions as expressions;
+ghost use Rattle.pw_grammar.specs.Reading.Statements as statements;
+ghost use Rattle.pw_grammar.specs.Reading.Declarations as spec;
 
 use crate::cursor::Cursor;
 use crate::declaration::declaration;
@@ -31,7 +31,7 @@ fn declarations(
 }
 
 /// The declarations of a whole list of fewer tokens than `depth`.
-#[tactic(auto, unfolding(pw_grammar::specs::ReadingDeclarations::unit, pw_grammar::specs::ReadingDeclarations::all_declarations))]
+#[tactic(auto, unfolding(pw_grammar::specs::Reading::Declarations::unit, pw_grammar::specs::Reading::Declarations::all_declarations))]
 pub(crate) fn unit(
     alloc: Global,
     cursor: &mut Cursor<'_>,

@@ -1,7 +1,7 @@
 //! Variables at file level: their size and what they begin with.
 ghost use Rattle.std.specs.Prelude.{◌≡◌};
-ghost use Rattle.pw_grammar.specs.Steps.{Reads};
-ghost use Rattle.pw_grammar.specs.ReadingDeclarations as spec;
+ghost use Rattle.pw_grammar.specs.Reading.Steps.{Reads};
+ghost use Rattle.pw_grammar.specs.Reading.Declarations as spec;
 
 use crate::cursor::Cursor;
 use crate::initialiser::{initials, number};
@@ -21,7 +21,7 @@ pub(crate) fn is_extern(linkage: Linkage) -> bool
 }
 
 /// `[ n ]`
-#[tactic(auto, unfolding(pw_grammar::specs::ReadingDeclarations::size))]
+#[tactic(auto, unfolding(pw_grammar::specs::Reading::Declarations::size))]
 fn size(cursor: &mut Cursor<'_>) -> Result<Option<u64>, SyntaxError>
     ensures { Reads (spec.size cursor.old) result cursor.new }
 {
@@ -35,7 +35,7 @@ fn size(cursor: &mut Cursor<'_>) -> Result<Option<u64>, SyntaxError>
 }
 
 /// `[ n ]`, or nothing.
-#[tactic(auto, unfolding(pw_grammar::specs::ReadingDeclarations::maybe_size))]
+#[tactic(auto, unfolding(pw_grammar::specs::Reading::Declarations::maybe_size))]
 fn maybe_size(cursor: &mut Cursor<'_>) -> Result<Option<u64>, SyntaxError>
     ensures { Reads (spec.maybe_size cursor.old) result cursor.new }
 {
@@ -47,7 +47,7 @@ fn maybe_size(cursor: &mut Cursor<'_>) -> Result<Option<u64>, SyntaxError>
 }
 
 /// What a variable begins with, or nothing.
-#[tactic(auto, unfolding(pw_grammar::specs::ReadingDeclarations::maybe_initials))]
+#[tactic(auto, unfolding(pw_grammar::specs::Reading::Declarations::maybe_initials))]
 fn maybe_initials(
     alloc: Global,
     cursor: &mut Cursor<'_>,
@@ -65,7 +65,7 @@ fn maybe_initials(
 }
 
 /// A variable from after its name on: its declarator's last token, and what it is.
-#[tactic(auto, unfolding(pw_grammar::specs::ReadingDeclarations::variable, pw_grammar::specs::ReadingDeclarations::last_taken))]
+#[tactic(auto, unfolding(pw_grammar::specs::Reading::Declarations::variable, pw_grammar::specs::Reading::Declarations::last_taken))]
 pub(crate) fn variable(
     alloc: Global,
     cursor: &mut Cursor<'_>,

@@ -2,8 +2,8 @@
 ghost use Rattle.std.specs.Prelude.{◌≡◌, ◌≢◌, ◌<◌, ◌^◌, ◌-◌, length, map, IfOk, IfErr};
 ghost use Rattle.pw_grammar.specs.Declarations.{Derives, lines_of};
 ghost use Rattle.pw_grammar.specs.Faults.{IsFirstFault, IsFault, token_of};
-ghost use Rattle.pw_grammar.specs.Reading as spec;
-ghost use Rattle.pw_grammar.specs.ReadingDeclarations as declarations;
+ghost use Rattle.pw_grammar.specs.Reading.Whole as spec;
+ghost use Rattle.pw_grammar.specs.Reading.Declarations as declarations;
 ghost use Rattle.pw_parse.specs.Steps.Answers.{Answers};
 ghost use Rattle.pw_parse.specs.Whole.{IsFaultless, fault_line_of};
 
@@ -48,7 +48,7 @@ fn without_limit(alloc: Global, tokens: &[Token]) -> Result<Items<Decl>, SyntaxE
 }
 
 /// The declarations of a list, or its first fault.
-#[tactic(auto, unfolding(pw_grammar::specs::Reading::parsed))]
+#[tactic(auto, unfolding(pw_grammar::specs::Reading::Whole::parsed))]
 fn parsed(alloc: Global, tokens: &[Token]) -> Result<Items<Decl>, SyntaxError>
     requires { length tokens.now < 2 ^ 32 }
     ensures { Answers (spec.parsed (2 ^ 32) tokens.now) result }

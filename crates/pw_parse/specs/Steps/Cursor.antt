@@ -1,7 +1,7 @@
 -- What a cursor is seen as, and what bounds it.
 use Rattle.std.specs.Prelude.{◌+◌, ◌^◌, ◌<◌, length}
 use Rattle.pw_parse.specs.declared.cursor.Cursor.TheInside.{Inside}
-use Rattle.pw_grammar.specs.Steps.{Position}
+use Rattle.pw_grammar.specs.Reading.Steps.{Position}
 
 -- a cursor is seen as the position where it stands
 abbrev pub place_of : Inside → Position

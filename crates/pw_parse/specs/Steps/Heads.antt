@@ -3,8 +3,8 @@
 use Rattle.std.specs.Prelude.{ℕ, Option, Some, None}
 use Rattle.pw_grammar.specs.declared.sort.Sort.{Sort}
 use Rattle.pw_grammar.specs.declared.sort.Sort.TheVariants as s
-use Rattle.pw_grammar.specs.Steps.{Parser, ◌>>=◌, pure, next_sort, here, line_here, skip, expect, either, on_option, finish_statement}
-use Rattle.pw_grammar.specs.ReadingStatements.{test, start, maybe_before, some, simple_statement, maybe_else, empty, block, leave, jump, evaluated}
+use Rattle.pw_grammar.specs.Reading.Steps.{Parser, ◌>>=◌, pure, next_sort, here, line_here, skip, expect, either, on_option, finish_statement}
+use Rattle.pw_grammar.specs.Reading.Statements.{test, start, maybe_before, some, simple_statement, maybe_else, empty, block, leave, jump, evaluated}
 use Rattle.pw_parse.specs.declared.control_head.Head.{Head}
 use Rattle.pw_parse.specs.declared.control_head.HeadForm.{HeadForm}
 use Rattle.pw_parse.specs.declared.control_head.HeadForm.TheVariants as h

@@ -2,9 +2,9 @@
 use Rattle.std.specs.Prelude.{◌≡◌, ◌≢◌, ℕ, ◌-◌, List, [], ◌∷◌, length, Option, Some, None, Result, Ok, Err}
 use Rattle.pw_grammar.specs.declared.error.SyntaxError.{SyntaxError}
 use Rattle.pw_grammar.specs.declared.error.SyntaxError.TheVariants.{NoMemory}
-use Rattle.pw_grammar.specs.Steps.{Parser, Position, ReadResult, and_then}
-use Rattle.pw_grammar.specs.ReadingExpressions.{expression}
-use Rattle.pw_grammar.specs.ReadingStatements.{statement}
+use Rattle.pw_grammar.specs.Reading.Steps.{Parser, Position, ReadResult, and_then}
+use Rattle.pw_grammar.specs.Reading.Expressions.{expression}
+use Rattle.pw_grammar.specs.Reading.Statements.{statement}
 use Rattle.pw_parse.specs.Steps.Heads.{close}
 use Rattle.pw_parse.specs.declared.control_head.Head.{Head}
 use Rattle.pw_tree.specs.declared.stmt.Stmt.{Stmt}

@@ -5,9 +5,9 @@ use denote.Ref.{MutBor}
 use Rattle.pw_tree.specs.declared.expr.Expr.{Expr}
 use Rattle.pw_tree.specs.declared.stmt.Stmt.{Stmt}
 use Rattle.pw_grammar.specs.declared.error.SyntaxError.{SyntaxError}
-use Rattle.pw_grammar.specs.Steps.{Position, Reads}
-use Rattle.pw_grammar.specs.ReadingExpressions.{expression}
-use Rattle.pw_grammar.specs.ReadingStatements.{statement}
+use Rattle.pw_grammar.specs.Reading.Steps.{Position, Reads}
+use Rattle.pw_grammar.specs.Reading.Expressions.{expression}
+use Rattle.pw_grammar.specs.Reading.Statements.{statement}
 
 -- the function with this precondition and this postcondition may be called with the depth, and reads an expression to it
 pub record Nests (depth : ℕ) (pre : Global → MutBor Position → ℕ → Type 0)

@@ -1,7 +1,7 @@
 -- The value that a constant carries.
 use Rattle.std.specs.Prelude.{ℕ, Bool}
 use Rattle.pw_grammar.specs.Expressions.{value_in, is_unsigned}
-use Rattle.pw_grammar.specs.Steps.{Parser, take, ◌>>=◌, pure}
+use Rattle.pw_grammar.specs.Reading.Steps.{Parser, take, ◌>>=◌, pure}
 
 -- takes a token, and answers the value of the constant that it is, and whether it is unsigned
 abbrev pub value : Parser (ℕ × Bool)

@@ -1,5 +1,5 @@
 use Rattle.std.proofs.Common.{◌∙◌, sym, ap, subst, arith, Err}
-use Rattle.pw_grammar.specs.Steps.{ReadResult, Reads}
+use Rattle.pw_grammar.specs.Reading.Steps.{ReadResult, Reads}
 use Rattle.pw_tree.specs.declared.expr.Expr.{Expr}
 use Rattle.pw_parse.proofs.Levels.{less_deep, too_deep}
 use Rattle.pw_parse.proofs.expression.+expression.Goals as goal

@@ -1,6 +1,6 @@
 use Rattle.std.proofs.Common.{rules, arith}
 use Rattle.std.proofs.lemmas.Grind.{common_steps}
-use Rattle.pw_grammar.specs.ReadingDeclarations.{more_initials}
+use Rattle.pw_grammar.specs.Reading.Declarations.{more_initials}
 use Rattle.pw_parse.proofs.Iterations.{one_more, no_more}
 use Rattle.pw_parse.proofs.initialiser.more_initials.Goals as goal
 

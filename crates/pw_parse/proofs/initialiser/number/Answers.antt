@@ -4,7 +4,7 @@ use Rattle.pw_lex.specs.declared.token.Token.{Token}
 use Rattle.pw_grammar.specs.declared.error.SyntaxError.{SyntaxError}
 use Rattle.pw_grammar.specs.declared.error.SyntaxError.TheVariants.{NoMemory}
 use Rattle.pw_grammar.specs.Expressions.{value_in, is_unsigned}
-use Rattle.pw_grammar.specs.Steps.{Position, ReadResult, take, and_then, pure}
+use Rattle.pw_grammar.specs.Reading.Steps.{Position, ReadResult, take, and_then, pure}
 use Rattle.pw_parse.proofs.initialiser.number.Goals as goal
 
 -- an outcome of which less is kept

@@ -1,6 +1,6 @@
 use Rattle.std.proofs.Common.{rules, arith}
 use Rattle.std.proofs.lemmas.Grind.{common_steps}
-use Rattle.pw_grammar.specs.ReadingExpressions.{operators}
+use Rattle.pw_grammar.specs.Reading.Expressions.{operators}
 use Rattle.pw_parse.proofs.Iterations.{one_more, no_more}
 use Rattle.pw_parse.proofs.operator.operators.Goals as goal
 

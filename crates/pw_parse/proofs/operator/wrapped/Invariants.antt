@@ -1,6 +1,6 @@
 -- The operand so far, after the operators that are left, is the whole.
 use Rattle.std.proofs.Common.{◌≡◌, ◌-◌, ◌≤◌, length}
-use Rattle.pw_grammar.specs.ReadingExpressions.{wrapped}
+use Rattle.pw_grammar.specs.Reading.Expressions.{wrapped}
 use Rattle.pw_parse.proofs.operator.wrapped.Given as goal
 
 abbrev pub invariant-inner : goal.invariant-inner

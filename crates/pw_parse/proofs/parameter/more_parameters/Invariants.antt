@@ -1,6 +1,6 @@
 -- What is left to read gives what the whole gives.
 use Rattle.std.proofs.Common.{◌≡◌, ◌-◌}
-use Rattle.pw_grammar.specs.ReadingDeclarations.{more_parameters}
+use Rattle.pw_grammar.specs.Reading.Declarations.{more_parameters}
 use Rattle.pw_parse.proofs.parameter.more_parameters.Given as goal
 
 abbrev pub invariant-loop-iteration : goal.invariant-loop-iteration

@@ -1,8 +1,8 @@
 use Rattle.std.proofs.Common.{rules, arith}
 use Rattle.std.proofs.lemmas.Grind.{common_steps}
-use Rattle.pw_grammar.specs.ReadingExpressions.{expression}
-use Rattle.pw_grammar.specs.ReadingStatements.{statement}
-use Rattle.pw_grammar.specs.ReadingDeclarations.{declaration, declarations}
+use Rattle.pw_grammar.specs.Reading.Expressions.{expression}
+use Rattle.pw_grammar.specs.Reading.Statements.{statement}
+use Rattle.pw_grammar.specs.Reading.Declarations.{declaration, declarations}
 use Rattle.pw_parse.proofs.Iterations.{one_more, no_more}
 use Rattle.pw_parse.proofs.unit.declarations.Goals as goal
 

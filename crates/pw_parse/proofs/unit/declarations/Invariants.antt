@@ -1,8 +1,8 @@
 -- What is left to read gives what the whole gives.
 use Rattle.std.proofs.Common.{◌≡◌, ◌-◌, []}
-use Rattle.pw_grammar.specs.ReadingExpressions.{expression}
-use Rattle.pw_grammar.specs.ReadingStatements.{statement}
-use Rattle.pw_grammar.specs.ReadingDeclarations.{declaration, declarations}
+use Rattle.pw_grammar.specs.Reading.Expressions.{expression}
+use Rattle.pw_grammar.specs.Reading.Statements.{statement}
+use Rattle.pw_grammar.specs.Reading.Declarations.{declaration, declarations}
 use Rattle.pw_parse.proofs.unit.declarations.Given as goal
 
 abbrev pub invariant-loop-iteration : goal.invariant-loop-iteration

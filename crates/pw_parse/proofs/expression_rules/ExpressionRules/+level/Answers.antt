@@ -1,6 +1,6 @@
 use Rattle.std.proofs.Common.{◌-◌, rules, arith}
 use Rattle.std.proofs.lemmas.Grind.{common_steps}
-use Rattle.pw_grammar.specs.ReadingExpressions.{expression, level, chain}
+use Rattle.pw_grammar.specs.Reading.Expressions.{expression, level, chain}
 use Rattle.pw_parse.proofs.Iterations.{one_more, no_more}
 use Rattle.pw_parse.proofs.Levels.{looser, tightest}
 use Rattle.pw_parse.proofs.expression_rules.ExpressionRules.+level.Goals as goal

@@ -1,6 +1,6 @@
 -- What is left to read gives what the whole gives.
 use Rattle.std.proofs.Common.{◌≡◌, ◌-◌}
-use Rattle.pw_grammar.specs.ReadingExpressions.{expression, level, chain}
+use Rattle.pw_grammar.specs.Reading.Expressions.{expression, level, chain}
 use Rattle.pw_parse.proofs.expression_rules.ExpressionRules.+level.Given as goal
 
 abbrev pub decreases-level : goal.decreases-level

@@ -1,6 +1,6 @@
 use Rattle.std.proofs.Common.{rules, arith}
 use Rattle.std.proofs.lemmas.Grind.{common_steps}
-use Rattle.pw_grammar.specs.ReadingExpressions.{expression, more_arguments}
+use Rattle.pw_grammar.specs.Reading.Expressions.{expression, more_arguments}
 use Rattle.pw_parse.proofs.Iterations.{one_more, no_more}
 use Rattle.pw_parse.proofs.expression_rules.ExpressionRules.more_arguments.Goals as goal
 

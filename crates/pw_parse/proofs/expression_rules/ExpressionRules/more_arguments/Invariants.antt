@@ -1,6 +1,6 @@
 -- What is left to read gives what the whole gives.
 use Rattle.std.proofs.Common.{◌≡◌, ◌-◌}
-use Rattle.pw_grammar.specs.ReadingExpressions.{expression, more_arguments}
+use Rattle.pw_grammar.specs.Reading.Expressions.{expression, more_arguments}
 use Rattle.pw_parse.proofs.expression_rules.ExpressionRules.more_arguments.Given as goal
 
 abbrev pub invariant-loop-iteration : goal.invariant-loop-iteration

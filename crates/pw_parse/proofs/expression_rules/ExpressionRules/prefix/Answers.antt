@@ -1,6 +1,6 @@
 use Rattle.std.proofs.Common.{◌≡◌, ◌-◌, [], length, rules, arith}
 use Rattle.std.proofs.lemmas.Grind.{common_steps}
-use Rattle.pw_grammar.specs.ReadingExpressions.{prefix, wrap}
+use Rattle.pw_grammar.specs.Reading.Expressions.{prefix, wrap}
 use Rattle.pw_parse.proofs.Wrapping.{counted}
 use Rattle.pw_parse.proofs.expression_rules.ExpressionRules.prefix.Goals as goal
 

@@ -1,6 +1,6 @@
 use Rattle.std.proofs.Common.{sym, subst}
-use Rattle.pw_grammar.specs.Steps.{ReadResult, Reads}
-use Rattle.pw_grammar.specs.ReadingExpressions.{expression}
+use Rattle.pw_grammar.specs.Reading.Steps.{ReadResult, Reads}
+use Rattle.pw_grammar.specs.Reading.Expressions.{expression}
 use Rattle.pw_tree.specs.declared.expr.Expr.{Expr}
 use Rattle.pw_parse.proofs.Leaves.{at_name}
 use Rattle.pw_parse.proofs.expression_rules.ExpressionRules.primary.Goals as goal

@@ -1,6 +1,6 @@
 use Rattle.std.proofs.Common.{rules, arith}
 use Rattle.std.proofs.lemmas.Grind.{common_steps}
-use Rattle.pw_grammar.specs.ReadingExpressions.{expression, suffixes}
+use Rattle.pw_grammar.specs.Reading.Expressions.{expression, suffixes}
 use Rattle.pw_parse.proofs.Iterations.{one_more, no_more}
 use Rattle.pw_parse.proofs.expression_rules.ExpressionRules.suffixes.Goals as goal
 use Rattle.pw_parse.proofs.expression_rules.ExpressionRules.suffixes.Goals.{then-sees+in_ok-left, else-sees+then-sees-2+in_ok-left-2}

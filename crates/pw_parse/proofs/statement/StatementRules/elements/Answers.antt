@@ -1,7 +1,7 @@
 use Rattle.std.proofs.Common.{rules, arith}
 use Rattle.std.proofs.lemmas.Grind.{common_steps}
-use Rattle.pw_grammar.specs.ReadingExpressions.{expression}
-use Rattle.pw_grammar.specs.ReadingStatements.{statement, elements}
+use Rattle.pw_grammar.specs.Reading.Expressions.{expression}
+use Rattle.pw_grammar.specs.Reading.Statements.{statement, elements}
 use Rattle.pw_parse.proofs.Iterations.{one_more, no_more}
 use Rattle.pw_parse.proofs.statement.StatementRules.elements.Goals as goal
 

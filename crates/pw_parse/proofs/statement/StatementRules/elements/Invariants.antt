@@ -1,7 +1,7 @@
 -- What is left to read gives what the whole gives.
 use Rattle.std.proofs.Common.{◌≡◌, ◌-◌, []}
-use Rattle.pw_grammar.specs.ReadingExpressions.{expression}
-use Rattle.pw_grammar.specs.ReadingStatements.{statement, elements}
+use Rattle.pw_grammar.specs.Reading.Expressions.{expression}
+use Rattle.pw_grammar.specs.Reading.Statements.{statement, elements}
 use Rattle.pw_parse.proofs.statement.StatementRules.elements.Given as goal
 
 abbrev pub invariant-loop-iteration : goal.invariant-loop-iteration

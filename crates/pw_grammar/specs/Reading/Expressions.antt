@@ -5,7 +5,7 @@ use Rattle.pw_grammar.specs.declared.sort.Sort.{Sort}
 use Rattle.pw_grammar.specs.declared.sort.Sort.TheVariants as s
 use Rattle.pw_grammar.specs.Terminals.{prefix_of, binary_of, level_of}
 use Rattle.pw_grammar.specs.Expressions.{name_in, value_in, is_unsigned}
-use Rattle.pw_grammar.specs.Steps.{Parser, either, on_option, ◌>>=◌, pure, refuse, next_sort, sees, here, take, skip, expect, finish}
+use Rattle.pw_grammar.specs.Reading.Steps.{Parser, either, on_option, ◌>>=◌, pure, refuse, next_sort, sees, here, take, skip, expect, finish}
 use Rattle.pw_tree.specs.declared.operator.Un.{Un}
 use Rattle.pw_tree.specs.declared.operator.Bin.{Bin}
 use Rattle.pw_tree.specs.declared.expr.Expr.{Expr, roll-Expr}

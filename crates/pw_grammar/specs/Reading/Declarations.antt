@@ -4,9 +4,9 @@ use Rattle.std.specs.List.{list_all}
 use Rattle.pw_grammar.specs.declared.sort.Sort.TheVariants as s
 use Rattle.pw_grammar.specs.Expressions.{value_in}
 use Rattle.pw_grammar.specs.Declarations.{negated}
-use Rattle.pw_grammar.specs.Steps.{Parser, ◌>>=◌, pure, refuse, sees, here, line_here, take, skip, expect, name, either}
-use Rattle.pw_grammar.specs.ReadingExpressions.{expression}
-use Rattle.pw_grammar.specs.ReadingStatements.{type_name, is_some, some, elements, statement}
+use Rattle.pw_grammar.specs.Reading.Steps.{Parser, ◌>>=◌, pure, refuse, sees, here, line_here, take, skip, expect, name, either}
+use Rattle.pw_grammar.specs.Reading.Expressions.{expression}
+use Rattle.pw_grammar.specs.Reading.Statements.{type_name, is_some, some, elements, statement}
 use Rattle.pw_tree.specs.declared.ty.Ty.{Ty}
 use Rattle.pw_tree.specs.declared.ty.Ty.TheVariants as ty
 use Rattle.pw_tree.specs.declared.expr.Expr.{Expr}

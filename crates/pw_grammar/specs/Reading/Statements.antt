@@ -4,8 +4,8 @@ use Rattle.pw_grammar.specs.declared.sort.Sort.{Sort}
 use Rattle.pw_grammar.specs.declared.sort.Sort.TheVariants as s
 use Rattle.pw_grammar.specs.Terminals.{is_same}
 use Rattle.pw_grammar.specs.Statements.{type_of}
-use Rattle.pw_grammar.specs.Steps.{Parser, ◌>>=◌, pure, refuse, next_sort, sees, here, line_here, skip, expect, name, either, finish_statement}
-use Rattle.pw_grammar.specs.ReadingExpressions.{expression}
+use Rattle.pw_grammar.specs.Reading.Steps.{Parser, ◌>>=◌, pure, refuse, next_sort, sees, here, line_here, skip, expect, name, either, finish_statement}
+use Rattle.pw_grammar.specs.Reading.Expressions.{expression}
 use Rattle.pw_tree.specs.declared.ty.Ty.{Ty}
 use Rattle.pw_tree.specs.declared.ty.Ty.TheVariants.{Ulong}
 use Rattle.pw_tree.specs.declared.expr.Expr.{Expr, out-Expr}
