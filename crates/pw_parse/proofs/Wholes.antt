@@ -3,13 +3,11 @@ use Rattle.std.proofs.Common.{◌≡◌, ◌≢◌, sym, subst, ℕ, suc, ◌<�
 use Rattle.pw_grammar.specs.declared.error.SyntaxError.{SyntaxError}
 use Rattle.pw_grammar.specs.declared.error.SyntaxError.TheVariants.{NoMemory}
 use Rattle.pw_grammar.specs.Declarations.{Derives, lines_of}
-use Rattle.pw_grammar.specs.Faults.{IsFirstFault, token_of}
-use Rattle.pw_grammar.specs.Reading.Whole.{first_limit, judged, judged_by, up_to, parsed}
+use Rattle.pw_grammar.specs.Faults.{IsFaultless, IsFirstFault, token_of}
+use Rattle.pw_grammar.specs.Reading.Whole.{first_limit, judged, judged_by, up_to, parsed, Tells}
 use Rattle.pw_grammar.specs.Reading.Declarations.{unit}
-use Rattle.pw_grammar.specs.Laws.{Tells}
-use Rattle.pw_grammar.proofs.Known.{reading_tells}
+use Rattle.pw_grammar.proofs.Exports.{reading_tells}
 use Rattle.pw_parse.specs.Steps.Answers.{Answers}
-use Rattle.pw_parse.specs.Whole.{IsFaultless}
 use Rattle.pw_lex.specs.declared.token.Token.{Token}
 use Rattle.pw_tree.specs.declared.decl.Decl.{Decl}
 
@@ -28,7 +26,7 @@ pub derives_by : (ts : List Token) (decls : List Decl) (lines : List ℕ) → le
     → Derives ts (record { decls = decls; lines = lines })
 derives_by ts decls lines short a l =
     let t = tells_by ts (Ok decls) short a in
-    record { phrase = t.phrase; is = t.is; spells = t.spells; decls = t.trees; lines = l }
+    subst (λ ls. Derives ts (record { decls = decls; lines = ls })) (sym l) t.derives
 
 pub faultless_by : (ts : List Token) (decls : List Decl) → length ts < 2 ^ 32 → Answers (parsed (2 ^ 32) ts) (Ok decls) → IsFaultless ts
 faultless_by ts decls short a = let t = tells_by ts (Ok decls) short a in t.no_fault

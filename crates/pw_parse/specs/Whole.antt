@@ -1,12 +1,6 @@
 -- What the answer for a whole list of tokens says of the list.
 use Rattle.std.specs.Prelude.{ℕ, List, map, slice_index_or}
-use Rattle.pw_grammar.specs.declared.error.SyntaxError.{SyntaxError}
-use Rattle.pw_grammar.specs.Faults.{IsFault}
 use Rattle.pw_lex.specs.declared.token.Token.{Token}
-
--- the tokens have no fault
-abbrev pub IsFaultless : List Token → Type 0
-IsFaultless tokens = (fault : SyntaxError) → IsFault tokens fault → ⊥
 
 -- the line of the token with this number, or, where the list has no such token, the line of its end
 abbrev pub fault_line_of : List Token → ℕ → ℕ → ℕ

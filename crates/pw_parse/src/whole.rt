@@ -1,11 +1,11 @@
 //! The tree of a whole token list, or its first fault.
 ghost use Rattle.std.specs.Prelude.{◌≡◌, ◌≢◌, ◌<◌, ◌^◌, ◌-◌, length, map, IfOk, IfErr};
 ghost use Rattle.pw_grammar.specs.Declarations.{Derives, lines_of};
-ghost use Rattle.pw_grammar.specs.Faults.{IsFirstFault, IsFault, token_of};
+ghost use Rattle.pw_grammar.specs.Faults.{IsFaultless, IsFirstFault, IsFault, token_of};
 ghost use Rattle.pw_grammar.specs.Reading.Whole as spec;
 ghost use Rattle.pw_grammar.specs.Reading.Declarations as declarations;
 ghost use Rattle.pw_parse.specs.Steps.Answers.{Answers};
-ghost use Rattle.pw_parse.specs.Whole.{IsFaultless, fault_line_of};
+ghost use Rattle.pw_parse.specs.Whole.{fault_line_of};
 
 use crate::cursor::Cursor;
 use crate::limits::first_limit;
