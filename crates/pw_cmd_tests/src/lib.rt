@@ -8,6 +8,4 @@ mod command;
 #[cfg(test)]
 mod programs;
 #[cfg(test)]
-mod recorder;
-#[cfg(test)]
 mod refusals;

@@ -1,9 +1,8 @@
 //! What the command answers and writes on small programs, and what it leaves of the memory.
 use crate::command::{Fails, NONE, run};
-use crate::recorder::Recorder;
 use pw_hart::Hart;
 use pw_io::{MemSink, MemSource};
-use pw_mem::{FlatMemory, Memory};
+use pw_mem::{FlatMemory, Memory, Recorder};
 use std::alloc::Global;
 use std::test::Fail;
 

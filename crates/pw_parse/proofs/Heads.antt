@@ -1,4 +1,4 @@
--- What is read by turns is what is read by recursion: a statement is its front and what follows it.
+-- What a loop reads is what the recursion reads: a statement is its front and what follows it.
 use Rattle.std.proofs.Common.{◌≡◌, refl, ◌∙◌, ℕ, suc, Bool, true, false, if◌then◌else◌, Option, Some, None, Ok, Err}
 use Rattle.pw_grammar.specs.declared.sort.Sort.{Sort}
 use Rattle.pw_grammar.specs.declared.sort.Sort.TheVariants as s
@@ -6,12 +6,12 @@ use Rattle.pw_grammar.specs.Statements.{first_line}
 use Rattle.pw_grammar.specs.Reading.Steps.{Position, ReadResult, Parser, and_then, pure, sees, next_sort, skip, expect, finish_statement}
 use Rattle.pw_grammar.specs.Reading.Expressions.{expression}
 use Rattle.pw_grammar.specs.Reading.Statements as r
-use Rattle.pw_parse.specs.Heads as p
-use Rattle.pw_parse.specs.declared.head.Head.{Head}
-use Rattle.pw_parse.specs.declared.head.HeadForm.{HeadForm}
-use Rattle.pw_parse.specs.declared.head.HeadForm.TheVariants as h
-use Rattle.pw_parse.specs.declared.head.Front.{Front}
-use Rattle.pw_parse.specs.declared.head.Front.TheVariants as f
+use Rattle.pw_parse.specs.Steps.Heads as p
+use Rattle.pw_parse.specs.declared.control_head.Head.{Head}
+use Rattle.pw_parse.specs.declared.control_head.HeadForm.{HeadForm}
+use Rattle.pw_parse.specs.declared.control_head.HeadForm.TheVariants as h
+use Rattle.pw_parse.specs.declared.control_head.Front.{Front}
+use Rattle.pw_parse.specs.declared.control_head.Front.TheVariants as f
 use Rattle.pw_tree.specs.declared.expr.Expr.{Expr}
 use Rattle.pw_tree.specs.declared.stmt.Stmt.{Stmt}
 use Rattle.pw_tree.specs.declared.stmt.StmtKind.{StmtKind}

@@ -10,7 +10,7 @@ use Rattle.pw_grammar.specs.Terminals.{is_same}
 use Rattle.pw_grammar.specs.Reading.Expressions.{constant, identifier, primary, primary_by}
 use Rattle.pw_tree.specs.declared.expr.Expr.{Expr}
 use Rattle.pw_tree.specs.declared.expr.ExprKind.TheVariants as e
-use Rattle.pw_parse.specs.Values.{value}
+use Rattle.pw_parse.specs.Steps.Values.{value}
 
 constant_from : (at : ℕ) (ts : List Token) (j : Position) (v : ℕ × Bool) (line : ℕ)
     → and_then (take_from at ts) (λ t. pure (value_in t.kind, is_unsigned t.kind)) ≡ Ok (v, j) → line ≡ first_line ts

@@ -1,4 +1,4 @@
-pub mod Turns
+pub mod Iterations
 pub mod Wrapping
 pub mod Leaves
 pub mod Levels

@@ -1,15 +1,15 @@
--- The turns of the reader of statements in one another.
+-- The iterations of the reader of statements in one another.
 use Rattle.std.proofs.Common.{◌≡◌, refl, sym, ◌∙◌, ap, ℕ, suc, ◌-◌, ◌<◌, List, [], ◌∷◌, ◌++◌, length, length-append, Ok, Err, arith}
 use Rattle.pw_grammar.specs.declared.error.SyntaxError.{SyntaxError}
 use Rattle.pw_grammar.specs.declared.error.SyntaxError.TheVariants.{At}
 use Rattle.pw_grammar.specs.Reading.Steps.{Position, ReadResult, and_then}
 use Rattle.pw_grammar.specs.Reading.Expressions.{expression}
 use Rattle.pw_grammar.specs.Reading.Statements.{statement}
-use Rattle.pw_parse.specs.Heads.{front, closed}
-use Rattle.pw_parse.specs.Nesting.{close_at, resume, unread}
-use Rattle.pw_parse.specs.declared.head.Head.{Head}
-use Rattle.pw_parse.specs.declared.head.Front.{Front}
-use Rattle.pw_parse.specs.declared.head.Front.TheVariants as f
+use Rattle.pw_parse.specs.Steps.Heads.{front, closed}
+use Rattle.pw_parse.specs.Steps.Nesting.{close_at, resume, unread}
+use Rattle.pw_parse.specs.declared.control_head.Head.{Head}
+use Rattle.pw_parse.specs.declared.control_head.Front.{Front}
+use Rattle.pw_parse.specs.declared.control_head.Front.TheVariants as f
 use Rattle.pw_parse.proofs.Heads.{follow, statement_front, closes}
 use Rattle.pw_tree.specs.declared.stmt.Stmt.{Stmt}
 
@@ -29,7 +29,7 @@ last_head n (h ∷ hs) g o =
     ap (λ x. and_then x (close_at n h)) (last_head (n - 1) hs g o
     ∙ ap (λ m. resume (n - 1) hs (and_then o (close_at m g))) e)
 
--- ---- a turn inward
+-- ---- an iteration inward
 
 -- a statement that is nowhere yet
 pub outermost : (n : ℕ) (i : Position) → statement n i ≡ unread n [] i
@@ -72,7 +72,7 @@ pub front_whole : (n d : ℕ) (hs : List Head) (i : Position) (y : Stmt) (j : Po
     → front (expression d) (statement (d - 1)) d i ≡ Ok (f.Whole y, j) → unread n hs i ≡ resume n hs (Ok (y, j))
 front_whole n d hs i y j at some is = turned n d hs i (Ok (f.Whole y, j)) at some is
 
--- ---- a turn outward
+-- ---- an iteration outward
 
 outward : (n d : ℕ) (hs : List Head) (g : Head) (y : Stmt) (i : Position) (o : ReadResult Front) → d ≡ n - length hs
     → closed (expression d) g y i ≡ o → resume n (hs ++ g ∷ []) (Ok (y, i)) ≡ resume n hs (and_then o (follow (expression d) (statement (d - 1))))

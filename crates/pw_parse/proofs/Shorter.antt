@@ -15,12 +15,12 @@ use Rattle.pw_grammar.proofs.LawfulChains.{lawful_expression}
 use Rattle.pw_grammar.proofs.LawfulStarts.{AMaybe, lawful_maybe, AStep, lawful_step, AStart, lawful_start}
 use Rattle.pw_grammar.proofs.LawfulLoops.{AStatement, full_statement}
 use Rattle.pw_grammar.proofs.LawfulStatements.{lawful_statement}
-use Rattle.pw_parse.specs.Heads as p
-use Rattle.pw_parse.specs.declared.head.Head.{Head}
-use Rattle.pw_parse.specs.declared.head.HeadForm.{HeadForm}
-use Rattle.pw_parse.specs.declared.head.HeadForm.TheVariants as h
-use Rattle.pw_parse.specs.declared.head.Front.{Front}
-use Rattle.pw_parse.specs.declared.head.Front.TheVariants as f
+use Rattle.pw_parse.specs.Steps.Heads as p
+use Rattle.pw_parse.specs.declared.control_head.Head.{Head}
+use Rattle.pw_parse.specs.declared.control_head.HeadForm.{HeadForm}
+use Rattle.pw_parse.specs.declared.control_head.HeadForm.TheVariants as h
+use Rattle.pw_parse.specs.declared.control_head.Front.{Front}
+use Rattle.pw_parse.specs.declared.control_head.Front.TheVariants as f
 use Rattle.pw_parse.proofs.Heads.{follow}
 use Rattle.pw_parse.proofs.Nesting.{front_at}
 use Rattle.pw_tree.specs.declared.expr.Expr.{Expr}
@@ -92,7 +92,7 @@ for_leaves n i =
 
 -- ---- a front takes a token
 
--- fewer than m tokens are left behind a head
+-- fewer than m tokens are left after a head
 abbrev HeadLeaves : ℕ → Front → Position → Type 0
 HeadLeaves m (f.Head g) j = length j.rest < m
 HeadLeaves m (f.Whole y) j = ⊤
@@ -136,9 +136,9 @@ front_shorter d i (f.Head g) j some is = subst (λ o. HeadsLeave (length i.rest)
 front_shorter d i (f.Whole y) j some is = subst (λ o. Leaves (length i.rest) o)
     (front_at d i some ∙ ap (λ o. and_then o (follow (expression d) (r.statement (d - 1)))) is) (statement_leaves d i)
 
--- ---- behind a head's statement
+-- ---- after a head's statement
 
--- behind the whole there are no more tokens, and behind `else` fewer
+-- after the whole there are no more tokens, and after `else` fewer
 abbrev Behind : ℕ → Front → Position → Type 0
 Behind m (f.Head g) j = length j.rest < m
 Behind m (f.Whole y) j = length j.rest ≤ m

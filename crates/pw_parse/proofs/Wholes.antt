@@ -7,7 +7,7 @@ use Rattle.pw_grammar.specs.Faults.{IsFaultless, IsFirstFault, token_of}
 use Rattle.pw_grammar.specs.Reading.Whole.{first_limit, judged, judged_by, up_to, parsed, Tells}
 use Rattle.pw_grammar.specs.Reading.Declarations.{unit}
 use Rattle.pw_grammar.proofs.Exports.{reading_tells}
-use Rattle.pw_parse.specs.Whole.{Answers}
+use Rattle.pw_parse.specs.Steps.Answers.{Answers}
 use Rattle.pw_lex.specs.declared.token.Token.{Token}
 use Rattle.pw_tree.specs.declared.decl.Decl.{Decl}
 

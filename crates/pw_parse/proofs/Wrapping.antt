@@ -6,10 +6,9 @@ use Rattle.pw_grammar.specs.Terminals.{prefix_of}
 use Rattle.pw_grammar.specs.Reading.Expressions.{wrapped, prefix_by, prefix_operator, operators}
 use Rattle.pw_tree.specs.declared.operator.Un.{Un}
 use Rattle.pw_tree.specs.declared.expr.Expr.{Expr, roll-Expr}
-use Rattle.pw_tree.specs.declared.expr.ExprKind.{ExprKind}
 use Rattle.pw_tree.specs.declared.expr.ExprKind.TheVariants as e
 
--- one operator in front of an operand
+-- one operator before an operand
 abbrev pub wrapped_once : ℕ → ℕ → Un × ℕ → Expr → Expr
 wrapped_once at last op a = roll-Expr (record { first = at; last = last; line = op.1; kind = e.Unary op.0 a })
 
@@ -21,19 +20,18 @@ innermost at last (o ∷ ops) op a =
     let e : suc at + length ops ≡ at + length (o ∷ ops) = omega arith in
     ap (wrapped_once at last o) (innermost (suc at) last ops op a ∙ ap (λ n. wrapped (suc at) last ops (wrapped_once n last op a)) e)
 
--- a turn of a loop that goes from the innermost operator on
-pub one_inner : {x : Expr} (at last : ℕ) (before ops : List (Un × ℕ)) (op : Un × ℕ) (a : Expr) (kind : ExprKind)
-    → before ≡ ops ++ op ∷ [] → kind ≡ e.Unary op.0 a → length before ≤ at → x ≡ wrapped (at - length before) last before a
-    → (x ≡ wrapped (at - 1 - length ops) last ops (roll-Expr (record { first = at - 1; last = last; line = op.1; kind = kind })))
-    × (length ops ≤ at - 1)
-one_inner at last before ops op a kind split form fits h =
+-- an iteration of a loop that goes from the innermost operator on
+pub one_inner : {x : Expr} (at last : ℕ) (before ops : List (Un × ℕ)) (op : Un × ℕ) (a w : Expr)
+    → before ≡ ops ++ op ∷ [] → w ≡ wrapped_once (at - 1) last op a → length before ≤ at → x ≡ wrapped (at - length before) last before a
+    → (x ≡ wrapped (at - 1 - length ops) last ops w) × (length ops ≤ at - 1)
+one_inner at last before ops op a w split form fits h =
     let count : length before ≡ length ops + 1 = ap length split ∙ length-append ops (op ∷ []) in
     let start : at - length before ≡ at - 1 - length ops = omega (arith, count, fits) in
     let inner : at - 1 - length ops + length ops ≡ at - 1 = omega (arith, count, fits) in
     let turned = h ∙ ap (λ m. wrapped m last before a) start ∙ ap (λ l. wrapped (at - 1 - length ops) last l a) split
     ∙ innermost (at - 1 - length ops) last ops op a
     ∙ ap (λ m. wrapped (at - 1 - length ops) last ops (wrapped_once m last op a)) inner
-    ∙ ap (λ k. wrapped (at - 1 - length ops) last ops (roll-Expr (record { first = at - 1; last = last; line = op.1; kind = k }))) (sym form) in
+    ∙ ap (wrapped (at - 1 - length ops) last ops) (sym form) in
     (turned, omega (arith, count, fits))
 
 pub none_inner : {x : Expr} (at last : ℕ) (ops : List (Un × ℕ)) (a : Expr) → ops ≡ [] → x ≡ wrapped (at - length ops) last ops a → a ≡ x

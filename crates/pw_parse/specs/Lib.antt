@@ -1,9 +1,2 @@
-pub mod Cursor
-pub mod Values
-pub mod Numbers
-pub mod Nests
-pub mod NestsStatements
-pub mod Heads
-pub mod Nesting
-pub mod Walk
 pub mod Whole
+pub mod Steps

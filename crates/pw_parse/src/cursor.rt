@@ -4,7 +4,7 @@ ghost use Rattle.pw_grammar.specs.Reading.Steps as spec;
 ghost use Rattle.pw_grammar.specs.Reading.Steps.{Reads};
 ghost use Rattle.pw_grammar.specs.Statements.{first_line};
 ghost use Rattle.pw_grammar.specs.Expressions.{value_in, is_unsigned};
-ghost use Rattle.pw_parse.specs.Values.{value};
+ghost use Rattle.pw_parse.specs.Steps.Values.{value};
 
 use pw_base::Name;
 use pw_grammar::{Sort, SyntaxError, is_same, sort_of, word_of};
@@ -21,7 +21,7 @@ pub(crate) struct Cursor<'a> {
 
 impl<'a> Model for Cursor<'a> {
     ghost use Rattle.pw_grammar.specs.Reading.Steps.{Position};
-    ghost use Rattle.pw_parse.specs.Cursor.{place_of, IsNumbered};
+    ghost use Rattle.pw_parse.specs.Steps.Cursor.{place_of, IsNumbered};
 
     ghost Value = { Position };
 
@@ -129,7 +129,7 @@ impl<'a> Cursor<'a> {
         }
     }
 
-    /// Takes a name.
+    /// Takes an identifier.
     #[tactic(auto, unfolding(pw_grammar::specs::Reading::Steps::name, pw_grammar::specs::Reading::Steps::sees, pw_grammar::specs::Reading::Steps::take, pw_grammar::specs::Reading::Steps::take_from))]
     pub fn name(&mut self, alloc: Global) -> Result<Name, SyntaxError>
         ensures { Reads (spec.name self.old) result self.new }

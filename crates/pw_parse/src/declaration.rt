@@ -51,7 +51,7 @@ fn may_define(linkage: Linkage, parameters: &[Param]) -> bool
     !is_extern(linkage) && are_named(parameters)
 }
 
-/// `;` behind a function's declarator.
+/// `;` after a function's declarator.
 #[tactic(auto, unfolding(pw_grammar::specs::Reading::Declarations::prototype))]
 fn prototype(
     cursor: &mut Cursor<'_>,
@@ -64,7 +64,7 @@ fn prototype(
     Ok(DeclKind::Proto(ty, parameters))
 }
 
-/// A function's body behind its declarator.
+/// A function's body after its declarator.
 #[tactic(auto, unfolding(pw_grammar::specs::Reading::Declarations::body))]
 fn body(
     alloc: Global,
@@ -81,7 +81,7 @@ fn body(
     Ok(DeclKind::Fun(ty, parameters, body))
 }
 
-/// A function from behind its declarator on.
+/// A function from after its declarator on.
 #[tactic(auto, unfolding(pw_grammar::specs::Reading::Declarations::function_end))]
 fn function_end(
     alloc: Global,
@@ -100,7 +100,7 @@ fn function_end(
     }
 }
 
-/// A function from behind its name on: its declarator's last token, and what it is.
+/// A function from after its name on: its declarator's last token, and what it is.
 #[tactic(auto, unfolding(pw_grammar::specs::Reading::Declarations::function))]
 fn function(
     alloc: Global,
@@ -129,7 +129,7 @@ fn is_void(ty: Ty) -> bool
     }
 }
 
-/// What stands behind the name: its declarator's last token, and what is declared.
+/// What stands after the name: its declarator's last token, and what is declared.
 #[tactic(auto, unfolding(pw_grammar::specs::Reading::Declarations::declarator))]
 fn declarator(
     alloc: Global,

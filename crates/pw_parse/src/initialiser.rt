@@ -3,7 +3,7 @@ ghost use Rattle.std.specs.Prelude.{◌≡◌};
 ghost use Rattle.pw_grammar.specs.Reading.Steps.{Reads};
 ghost use Rattle.pw_grammar.specs.Declarations as declarations;
 ghost use Rattle.pw_grammar.specs.Reading.Declarations as spec;
-ghost use Rattle.pw_parse.specs.Numbers.{number};
+ghost use Rattle.pw_parse.specs.Steps.Values.{number};
 
 use crate::cursor::Cursor;
 use pw_grammar::{Sort, SyntaxError};
@@ -38,7 +38,7 @@ fn negated(value: u64) -> u64
     value.wrapping_neg()
 }
 
-/// A name.
+/// The identifier of a function.
 #[tactic(auto, unfolding(pw_grammar::specs::Reading::Declarations::element_word))]
 fn element_word(alloc: Global, cursor: &mut Cursor<'_>) -> Result<InitKind, SyntaxError>
     ensures { Reads (spec.element_word cursor.old) result cursor.new }
@@ -96,16 +96,16 @@ fn initial(alloc: Global, cursor: &mut Cursor<'_>) -> Result<InitItem, SyntaxErr
     })
 }
 
-/// Further elements, each behind its comma; behind the last, a comma may stand.
+/// Further elements, each after its comma; after the last, a comma may stand.
 fn more_initials(
     alloc: Global,
     cursor: &mut Cursor<'_>,
-    turns: usize,
+    iterations: usize,
     mut found: Items<InitItem>,
 ) -> Result<Items<InitItem>, SyntaxError>
-    ensures { Reads (spec.more_initials turns found cursor.old) result cursor.new }
+    ensures { Reads (spec.more_initials iterations found cursor.old) result cursor.new }
 {
-    for _turn in 0..turns {
+    for _iteration in 0..iterations {
         if !cursor.sees(Sort::Comma) {
             return Ok(found);
         }
@@ -137,15 +137,15 @@ fn one_initial(
 fn listed_initials(
     alloc: Global,
     cursor: &mut Cursor<'_>,
-    turns: usize,
+    iterations: usize,
 ) -> Result<Option<Items<InitItem>>, SyntaxError>
-    ensures { Reads (spec.listed_initials turns cursor.old) result cursor.new }
+    ensures { Reads (spec.listed_initials iterations cursor.old) result cursor.new }
 {
     cursor.skip()?;
     cursor.expect(Sort::LeftBrace)?;
     let mut found = Items::new(alloc);
     found.push(initial(alloc, cursor)?)?;
-    let all = more_initials(alloc, cursor, turns, found)?;
+    let all = more_initials(alloc, cursor, iterations, found)?;
     cursor.expect(Sort::RightBrace)?;
     Ok(Some(all))
 }
@@ -154,13 +154,13 @@ fn listed_initials(
 pub(crate) fn initials(
     alloc: Global,
     cursor: &mut Cursor<'_>,
-    turns: usize,
+    iterations: usize,
     size: Option<u64>,
 ) -> Result<Option<Items<InitItem>>, SyntaxError>
-    ensures { Reads (spec.initials_by turns size cursor.old) result cursor.new }
+    ensures { Reads (spec.initials_by iterations size cursor.old) result cursor.new }
 {
     match size {
         None => one_initial(alloc, cursor),
-        Some(_) => listed_initials(alloc, cursor, turns),
+        Some(_) => listed_initials(alloc, cursor, iterations),
     }
 }

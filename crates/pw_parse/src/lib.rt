@@ -1,28 +1,24 @@
 //! Reads a token list from left to right: its tree, or its first fault.
 #![tactic(auto)]
 
+mod binary;
+mod control_head;
 mod cursor;
 mod declaration;
 mod expression;
-mod grammar;
-mod head;
-mod header;
+mod expression_rules;
+mod for_clauses;
 mod initialiser;
-mod level;
 mod limits;
 mod node;
 mod operator;
 mod parameter;
 mod postfix;
 mod primary;
-mod simple;
+mod simple_statement;
 mod statement;
-#[cfg(test)]
-mod tests;
 mod types;
 mod unit;
-#[cfg(test)]
-mod unit_tests;
 mod variable;
 mod whole;
 

@@ -2,9 +2,10 @@
 ghost use Rattle.std.specs.Prelude.{◌≡◌, ◌<◌, ◌≤◌, ◌+◌, ◌^◌, ◌&&◌, nat_le, length, IfSome};
 ghost use Rattle.pw_grammar.specs.Terminals.{is_same, sort_of};
 ghost use Rattle.pw_grammar.specs.Faults.{opens, closes, bracket, token_of};
+ghost use Rattle.pw_base.specs.Limits.{open_brackets};
 ghost use Rattle.pw_grammar.specs.Reading.Limits as spec;
 ghost use Rattle.pw_grammar.specs.Reading.Whole as reading;
-ghost use Rattle.pw_parse.specs.Walk.{walk_of};
+ghost use Rattle.pw_parse.specs.Steps.Walk.{walk_of};
 
 use pw_base::Limits;
 use pw_grammar::{Sort, SyntaxError, is_same, sort_of};
@@ -43,7 +44,7 @@ fn closes(token: &Token) -> bool
     }
 }
 
-/// How many brackets are open behind a token, where `depth` are open before it.
+/// How many brackets are open after a token, where `depth` are open before it.
 fn bracket(depth: usize, token: &Token) -> usize
     requires { depth < 2 ^ 32 }
     ensures is { result ≡ bracket depth token.now }
@@ -85,7 +86,7 @@ impl Stand {
         self.in_body || (is_sort(token, Sort::LeftBrace) && self.depth == 0 && self.behind_list)
     }
 
-    /// Whether it stands there behind as many tokens of its function as there may be.
+    /// Whether it stands there after as many tokens of its function as there may be.
     fn is_late(&self, token: &Token) -> bool
         requires { self.now.start < 2 ^ 32 }
         ensures { result ≡ spec.is_late (walk_of self.now) token.now }
@@ -103,7 +104,7 @@ impl Stand {
                 || (is_sort(token, Sort::RightBrace) && self.in_body))
     }
 
-    /// Behind the token.
+    /// After the token.
     #[tactic(auto, unfolding(pw_grammar::specs::Reading::Limits::step))]
     fn step(&self, token: &Token) -> Stand
         requires at { self.now.at < 2 ^ 32 }
@@ -135,12 +136,12 @@ impl Stand {
 
 /// Whether the token opens a bracket where as many are open as may be.
 fn is_too_deep(depth: usize, token: &Token) -> bool
-    ensures { result ≡ (opens token.now && nat_le 200 depth) }
+    ensures { result ≡ (opens token.now && nat_le open_brackets depth) }
 {
     opens(token) && Limits::OPEN_BRACKETS <= depth
 }
 
-/// The first token that opens a bracket where 200 are open.
+/// The first token that opens a bracket where as many are open as may be.
 #[tactic(auto, unfolding(pw_grammar::specs::Reading::Limits::first_nested))]
 fn first_nested(tokens: &[Token]) -> Option<usize>
     requires { length tokens.now < 2 ^ 32 }

@@ -1,56 +1,64 @@
-//! The forms of expressions, with their parts in boxes.
-ghost use Rattle.std.specs.Prelude.{◌≡◌, IfOk};
+//! Expressions and statements whose last token is the last that was read.
+ghost use Rattle.std.specs.Prelude.{◌≡◌, Ok};
+ghost use Rattle.pw_grammar.specs.Reading.Steps as spec;
+ghost use Rattle.pw_grammar.specs.Reading.Steps.{Reads};
 
-use pw_tree::{Bin, Expr, ExprKind, Un};
-use sqlite_items::{Boxed, Items};
-use std::alloc::{AllocError, Global};
+use crate::cursor::Cursor;
+use pw_grammar::SyntaxError;
+use pw_tree::{Expr, ExprKind, Stmt, StmtKind};
+use sqlite_items::Boxed;
+use std::alloc::Global;
 
-/// `op a`
-pub(crate) fn unary(alloc: Global, op: Un, a: Expr) -> Result<ExprKind, AllocError>
-    ensures { IfOk result (λ kind. kind ≡ ExprKind.Unary op a) }
-{
-    Ok(ExprKind::Unary(op, Boxed::new(alloc, a)?))
-}
-
-/// `a op b`
-pub(crate) fn binary(alloc: Global, op: Bin, a: Expr, b: Expr) -> Result<ExprKind, AllocError>
-    ensures { IfOk result (λ kind. kind ≡ ExprKind.Binary op a b) }
-{
-    Ok(ExprKind::Binary(op, Boxed::new(alloc, a)?, Boxed::new(alloc, b)?))
-}
-
-/// `test ? a : b`
-pub(crate) fn cond(alloc: Global, test: Expr, a: Expr, b: Expr) -> Result<ExprKind, AllocError>
-    ensures { IfOk result (λ kind. kind ≡ ExprKind.Cond test a b) }
-{
-    Ok(ExprKind::Cond(
-        Boxed::new(alloc, test)?,
-        Boxed::new(alloc, a)?,
-        Boxed::new(alloc, b)?,
-    ))
-}
-
-/// `callee(arguments)`
-pub(crate) fn call(
+/// The expression of this form, with the number of its first token and its line.
+pub(crate) fn finished(
     alloc: Global,
-    callee: Expr,
-    arguments: Items<Expr>,
-) -> Result<ExprKind, AllocError>
-    ensures { IfOk result (λ kind. kind ≡ ExprKind.Call callee arguments) }
+    cursor: &Cursor<'_>,
+    first: u32,
+    line: u32,
+    kind: ExprKind,
+) -> Result<Boxed<Expr>, SyntaxError>
+    ensures { Reads (spec.finish first line kind cursor.now) result cursor.now }
 {
-    Ok(ExprKind::Call(Boxed::new(alloc, callee)?, arguments))
+    let last = cursor.last();
+    Ok(Boxed::new(
+        alloc,
+        Expr {
+            first,
+            last,
+            line,
+            kind,
+        },
+    )?)
 }
 
-/// `base[index]`
-pub(crate) fn index(alloc: Global, base: Expr, index: Expr) -> Result<ExprKind, AllocError>
-    ensures { IfOk result (λ kind. kind ≡ ExprKind.Index base index) }
+/// The statement of this form, with the number of its first token and its line.
+pub(crate) fn finished_statement(
+    alloc: Global,
+    cursor: &Cursor<'_>,
+    first: u32,
+    line: u32,
+    kind: StmtKind,
+) -> Result<Boxed<Stmt>, SyntaxError>
+    ensures { Reads (spec.finish_statement first line kind cursor.now) result cursor.now }
 {
-    Ok(ExprKind::Index(Boxed::new(alloc, base)?, Boxed::new(alloc, index)?))
+    let last = cursor.last();
+    Ok(Boxed::new(
+        alloc,
+        Stmt {
+            first,
+            last,
+            line,
+            kind,
+        },
+    )?)
 }
 
-/// `__out(a)`
-pub(crate) fn output(alloc: Global, a: Expr) -> Result<ExprKind, AllocError>
-    ensures { IfOk result (λ kind. kind ≡ ExprKind.Output a) }
+/// The value in the box, if there is one.
+pub(crate) fn unboxed(value: Option<Boxed<Expr>>) -> Option<Expr>
+    ensures { result ≡ value }
 {
-    Ok(ExprKind::Output(Boxed::new(alloc, a)?))
+    match value {
+        Some(value) => Some(value.into_inner()),
+        None => None,
+    }
 }

@@ -1,17 +1,16 @@
-//! Operators, and the prefix operators in front of an operand.
+//! The operators that symbols are, and the prefix operators before an operand.
 ghost use Rattle.std.specs.Prelude.{◌≡◌, ◌-◌, ◌≤◌, [], length, IfOk};
 ghost use Rattle.pw_grammar.specs.Reading.Expressions as spec;
 ghost use Rattle.pw_grammar.specs.Reading.Steps.{Reads};
 ghost use Rattle.pw_grammar.specs.Terminals as terminals;
 
 use crate::cursor::Cursor;
-use crate::node::unary;
 use pw_grammar::{Sort, SyntaxError};
-use pw_tree::{Bin, Expr, Un};
-use sqlite_items::Items;
+use pw_tree::{Bin, Expr, ExprKind, Un};
+use sqlite_items::{Boxed, Items};
 use std::alloc::{AllocError, Global};
 
-/// The operator that a symbol is in front of its operand (C17, 6.5.3.3).
+/// The operator that a symbol is before its operand (C17, 6.5.3.3).
 fn prefix_of(sort: Sort) -> Option<Un>
     ensures { result ≡ terminals.prefix_of sort }
 {
@@ -99,7 +98,7 @@ pub(crate) fn binary_operator(
     }
 }
 
-/// An operator in front of an operand, with its line, if one comes next.
+/// An operator before an operand, with its line, if one comes next.
 #[tactic(auto, unfolding(pw_grammar::specs::Reading::Expressions::prefix_operator))]
 fn prefix_operator(cursor: &mut Cursor<'_>) -> Result<Option<(Un, u32)>, SyntaxError>
     ensures { Reads (spec.prefix_operator cursor.old) result cursor.new }
@@ -114,12 +113,12 @@ fn prefix_operator(cursor: &mut Cursor<'_>) -> Result<Option<(Un, u32)>, SyntaxE
 pub(crate) fn operators(
     alloc: Global,
     cursor: &mut Cursor<'_>,
-    turns: usize,
+    iterations: usize,
 ) -> Result<Items<(Un, u32)>, SyntaxError>
-    ensures { Reads (spec.operators turns [] cursor.old) result cursor.new }
+    ensures { Reads (spec.operators iterations [] cursor.old) result cursor.new }
 {
     let mut found = Items::new(alloc);
-    for _turn in 0..turns {
+    for _iteration in 0..iterations {
         match prefix_operator(cursor)? {
             None => return Ok(found),
             Some(op) => found.push(op)?,
@@ -128,26 +127,29 @@ pub(crate) fn operators(
     Ok(found)
 }
 
-/// The operand behind these operators. `at` is the number of the operand's first token, `last` that of its last.
+/// The operand after these operators. `at` is the number of the operand's first token, `last` that of its last.
 pub(crate) fn wrapped(
     alloc: Global,
     mut at: u32,
     last: u32,
     mut ops: Items<(Un, u32)>,
-    operand: Expr,
-) -> Result<Expr, AllocError>
+    operand: Boxed<Expr>,
+) -> Result<Boxed<Expr>, AllocError>
     requires { length ops ≤ at }
     ensures { IfOk result (λ whole. whole ≡ spec.wrapped (at - length ops) last ops operand) }
 {
     let mut whole = operand;
     'inner: while let Some((op, line)) = ops.pop() {
         at -= 1;
-        whole = Expr {
-            first: at,
-            last,
-            line,
-            kind: unary(alloc, op, whole)?,
-        };
+        whole = Boxed::new(
+            alloc,
+            Expr {
+                first: at,
+                last,
+                line,
+                kind: ExprKind::Unary(op, whole),
+            },
+        )?;
     }
     Ok(whole)
 }

@@ -12,7 +12,7 @@ use pw_tree::Param;
 use sqlite_items::Items;
 use std::alloc::Global;
 
-/// A name, or nothing.
+/// An identifier, or nothing.
 #[tactic(auto, unfolding(pw_grammar::specs::Reading::Declarations::maybe_name, pw_grammar::specs::Reading::Statements::some))]
 fn maybe_name(alloc: Global, cursor: &mut Cursor<'_>) -> Result<Option<Name>, SyntaxError>
     ensures { Reads (spec.maybe_name cursor.old) result cursor.new }
@@ -24,7 +24,7 @@ fn maybe_name(alloc: Global, cursor: &mut Cursor<'_>) -> Result<Option<Name>, Sy
     Ok(Some(name))
 }
 
-/// A type, and a name or nothing.
+/// A type, and an identifier or nothing.
 #[tactic(auto, unfolding(pw_grammar::specs::Reading::Declarations::parameter))]
 fn parameter(alloc: Global, cursor: &mut Cursor<'_>) -> Result<Param, SyntaxError>
     ensures { Reads (spec.parameter cursor.old) result cursor.new }
@@ -40,16 +40,16 @@ fn parameter(alloc: Global, cursor: &mut Cursor<'_>) -> Result<Param, SyntaxErro
     })
 }
 
-/// Further parameters, each behind its comma.
+/// Further parameters, each after its comma.
 fn more_parameters(
     alloc: Global,
     cursor: &mut Cursor<'_>,
-    turns: usize,
+    iterations: usize,
     mut found: Items<Param>,
 ) -> Result<Items<Param>, SyntaxError>
-    ensures { Reads (spec.more_parameters turns found cursor.old) result cursor.new }
+    ensures { Reads (spec.more_parameters iterations found cursor.old) result cursor.new }
 {
-    for _turn in 0..turns {
+    for _iteration in 0..iterations {
         if !cursor.sees(Sort::Comma) {
             return Ok(found);
         }
@@ -64,13 +64,13 @@ fn more_parameters(
 fn some_parameters(
     alloc: Global,
     cursor: &mut Cursor<'_>,
-    turns: usize,
+    iterations: usize,
 ) -> Result<Items<Param>, SyntaxError>
-    ensures { Reads (spec.some_parameters turns cursor.old) result cursor.new }
+    ensures { Reads (spec.some_parameters iterations cursor.old) result cursor.new }
 {
     let mut found = Items::new(alloc);
     found.push(parameter(alloc, cursor)?)?;
-    more_parameters(alloc, cursor, turns, found)
+    more_parameters(alloc, cursor, iterations, found)
 }
 
 /// `void`, or one or more parameters.
@@ -78,12 +78,12 @@ fn some_parameters(
 pub(crate) fn parameters(
     alloc: Global,
     cursor: &mut Cursor<'_>,
-    turns: usize,
+    iterations: usize,
 ) -> Result<Items<Param>, SyntaxError>
-    ensures { Reads (spec.parameters turns cursor.old) result cursor.new }
+    ensures { Reads (spec.parameters iterations cursor.old) result cursor.new }
 {
     if !cursor.sees(Sort::Void) {
-        return some_parameters(alloc, cursor, turns);
+        return some_parameters(alloc, cursor, iterations);
     }
     cursor.skip()?;
     Ok(Items::new(alloc))

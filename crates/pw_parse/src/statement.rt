@@ -4,24 +4,25 @@ ghost use Rattle.std.specs.Prelude.{◌≡◌, []};
 ghost use Rattle.pw_grammar.specs.Reading.Steps.{Reads};
 ghost use Rattle.pw_grammar.specs.Reading.Expressions as expressions;
 ghost use Rattle.pw_grammar.specs.Reading.Statements as spec;
-ghost use Rattle.pw_parse.specs.Heads as fronts;
-ghost use Rattle.pw_parse.specs.NestsStatements.{NestsStatements};
+ghost use Rattle.pw_parse.specs.Steps.Heads as fronts;
+ghost use Rattle.pw_parse.specs.Steps.Nests.{NestsStatements};
 
+use crate::control_head::{Front, Head, maybe_head, resume, whole};
 use crate::cursor::Cursor;
-use crate::head::{Front, Head, maybe_head, resume, whole};
-use crate::header::maybe_expression;
-use crate::simple::{evaluated, local};
+use crate::for_clauses::maybe_expression;
+use crate::node::unboxed;
+use crate::simple_statement::{evaluated, local};
 use crate::types::begins_type;
 use pw_grammar::{Sort, SyntaxError};
 use pw_tree::{Stmt, StmtKind};
-use sqlite_items::Items;
+use sqlite_items::{Boxed, Items};
 use std::alloc::Global;
 
 /// The rules of statements, over a reader of those that stand in others.
 #[derive(Clone, Copy)]
-pub(crate) struct Statements<S> {
+pub(crate) struct StatementRules<S> {
     pub alloc: Global,
-    /// How deep expressions may nest, and how often a loop may turn.
+    /// How deep expressions may nest, and how often a loop may iterate.
     pub depth: usize,
     /// How deep statements in others may nest.
     pub inner: usize,
@@ -33,7 +34,7 @@ pub(crate) fn statement(
     alloc: Global,
     cursor: &mut Cursor<'_>,
     depth: usize,
-) -> Result<Stmt, SyntaxError>
+) -> Result<Boxed<Stmt>, SyntaxError>
     ensures { Reads (spec.statement depth cursor.old) result cursor.new }
 {
     let mut heads = Items::new(alloc);
@@ -42,7 +43,7 @@ pub(crate) fn statement(
         if left == 0 {
             return Err(cursor.refuse());
         }
-        let reader = Statements {
+        let reader = StatementRules {
             alloc,
             depth: left,
             inner: left - 1,
@@ -67,7 +68,7 @@ pub(crate) fn inner_statements(
 ) -> Result<Items<Stmt>, SyntaxError>
     ensures { Reads (spec.elements (expressions.expression depth) (spec.statement depth) depth [] cursor.old) result cursor.new }
 {
-    Statements {
+    StatementRules {
         alloc,
         depth,
         inner: depth,
@@ -93,7 +94,7 @@ fn leave(alloc: Global, cursor: &mut Cursor<'_>, depth: usize) -> Result<StmtKin
     cursor.skip()?;
     let value = maybe_expression(alloc, cursor, depth, Sort::Semicolon)?;
     cursor.expect(Sort::Semicolon)?;
-    Ok(StmtKind::Return(value))
+    Ok(StmtKind::Return(unboxed(value)))
 }
 
 /// `break ;`
@@ -116,9 +117,9 @@ fn go_on(cursor: &mut Cursor<'_>) -> Result<StmtKind, SyntaxError>
     Ok(StmtKind::Continue)
 }
 
-impl<S: Fn(Global, &mut Cursor<'_>, usize) -> Result<Stmt, SyntaxError>> Statements<S> {
+impl<S: Fn(Global, &mut Cursor<'_>, usize) -> Result<Boxed<Stmt>, SyntaxError>> StatementRules<S> {
     /// A statement that stands in another.
-    fn part(&self, cursor: &mut Cursor<'_>) -> Result<Stmt, SyntaxError>
+    fn part(&self, cursor: &mut Cursor<'_>) -> Result<Boxed<Stmt>, SyntaxError>
         requires { NestsStatements self.now.inner (S.pre self.now.stmt) (S.post self.now.stmt) }
         ensures { Reads (spec.statement self.now.inner cursor.old) result cursor.new }
     {
@@ -127,7 +128,7 @@ impl<S: Fn(Global, &mut Cursor<'_>, usize) -> Result<Stmt, SyntaxError>> Stateme
 
     /// A statement of a block, or a local's declaration.
     #[tactic(auto, unfolding(pw_grammar::specs::Reading::Statements::element))]
-    fn element(&self, cursor: &mut Cursor<'_>) -> Result<Stmt, SyntaxError>
+    fn element(&self, cursor: &mut Cursor<'_>) -> Result<Boxed<Stmt>, SyntaxError>
         requires { NestsStatements self.now.inner (S.pre self.now.stmt) (S.post self.now.stmt) }
         ensures { Reads (spec.element (expressions.expression self.now.depth) (spec.statement self.now.inner) cursor.old) result cursor.new }
     {
@@ -144,11 +145,11 @@ impl<S: Fn(Global, &mut Cursor<'_>, usize) -> Result<Stmt, SyntaxError>> Stateme
         ensures { Reads (spec.elements (expressions.expression self.now.depth) (spec.statement self.now.inner) self.now.depth [] cursor.old) result cursor.new }
     {
         let mut found = Items::new(self.alloc);
-        for _turn in 0..self.depth {
+        for _iteration in 0..self.depth {
             if cursor.sees(Sort::RightBrace) {
                 return Ok(found);
             }
-            found.push(self.element(cursor)?)?;
+            found.push(self.element(cursor)?.into_inner())?;
         }
         Ok(found)
     }
@@ -176,12 +177,12 @@ impl<S: Fn(Global, &mut Cursor<'_>, usize) -> Result<Stmt, SyntaxError>> Stateme
             Sort::Return => leave(self.alloc, cursor, self.depth),
             Sort::Break => break_off(cursor),
             Sort::Continue => go_on(cursor),
-            _ => evaluated(self.alloc, cursor, self.depth),
+            _ => Ok(evaluated(self.alloc, cursor, self.depth)?.into_inner()),
         }
     }
 
     /// A statement's head, or a whole statement without one.
-    #[tactic(auto, unfolding(crate::specs::Heads::front))]
+    #[tactic(auto, unfolding(crate::specs::Steps::Heads::front))]
     fn front(&self, cursor: &mut Cursor<'_>) -> Result<Front, SyntaxError>
         requires { NestsStatements self.now.inner (S.pre self.now.stmt) (S.post self.now.stmt) }
         ensures { Reads (fronts.front (expressions.expression self.now.depth) (spec.statement self.now.inner) self.now.depth cursor.old) result cursor.new }
@@ -193,6 +194,6 @@ impl<S: Fn(Global, &mut Cursor<'_>, usize) -> Result<Stmt, SyntaxError>> Stateme
             return Ok(Front::Head(Head { first, line, form }));
         }
         let kind = self.headless(cursor, sort)?;
-        Ok(whole(cursor, first, line, kind))
+        whole(self.alloc, cursor, first, line, kind)
     }
 }

@@ -21,7 +21,7 @@ fn declarations(
     ensures { Reads (spec.declarations (spec.declaration (expressions.expression depth) (statements.statement depth) depth) depth [] cursor.old) result cursor.new }
 {
     let mut found = Items::new(alloc);
-    for _turn in 0..depth {
+    for _iteration in 0..depth {
         if cursor.sees(Sort::End) {
             return Ok(found);
         }

@@ -51,33 +51,33 @@ fn maybe_size(cursor: &mut Cursor<'_>) -> Result<Option<u64>, SyntaxError>
 fn maybe_initials(
     alloc: Global,
     cursor: &mut Cursor<'_>,
-    turns: usize,
+    iterations: usize,
     linkage: Linkage,
     size: Option<u64>,
 ) -> Result<Option<Items<InitItem>>, SyntaxError>
-    ensures { Reads (spec.maybe_initials turns linkage size cursor.old) result cursor.new }
+    ensures { Reads (spec.maybe_initials iterations linkage size cursor.old) result cursor.new }
 {
     if cursor.sees(Sort::Assign) && !is_extern(linkage) {
-        initials(alloc, cursor, turns, size)
+        initials(alloc, cursor, iterations, size)
     } else {
         Ok(None)
     }
 }
 
-/// A variable from behind its name on: its declarator's last token, and what it is.
+/// A variable from after its name on: its declarator's last token, and what it is.
 #[tactic(auto, unfolding(pw_grammar::specs::Reading::Declarations::variable, pw_grammar::specs::Reading::Declarations::last_taken))]
 pub(crate) fn variable(
     alloc: Global,
     cursor: &mut Cursor<'_>,
-    turns: usize,
+    iterations: usize,
     linkage: Linkage,
     ty: Ty,
 ) -> Result<(u32, DeclKind), SyntaxError>
-    ensures { Reads (spec.variable turns linkage ty cursor.old) result cursor.new }
+    ensures { Reads (spec.variable iterations linkage ty cursor.old) result cursor.new }
 {
     let size = maybe_size(cursor)?;
     let declarator = cursor.last();
-    let initials = maybe_initials(alloc, cursor, turns, linkage, size)?;
+    let initials = maybe_initials(alloc, cursor, iterations, linkage, size)?;
     cursor.expect(Sort::Semicolon)?;
     Ok((declarator, DeclKind::Var(ty, size, initials)))
 }

@@ -4,7 +4,8 @@ ghost use Rattle.pw_grammar.specs.Declarations.{Derives, lines_of};
 ghost use Rattle.pw_grammar.specs.Faults.{IsFaultless, IsFirstFault, IsFault, token_of};
 ghost use Rattle.pw_grammar.specs.Reading.Whole as spec;
 ghost use Rattle.pw_grammar.specs.Reading.Declarations as declarations;
-ghost use Rattle.pw_parse.specs.Whole.{Answers, fault_line_of};
+ghost use Rattle.pw_parse.specs.Steps.Answers.{Answers};
+ghost use Rattle.pw_parse.specs.Whole.{fault_line_of};
 
 use crate::cursor::Cursor;
 use crate::limits::first_limit;
@@ -74,8 +75,8 @@ fn lines(alloc: Global, tokens: &[Token]) -> Result<Items<u32>, NoMemory>
 ///
 /// Refusals: exactly the first fault of the list, the one at the least token and at one token in this order. `At`: no
 /// unit has the tokens up to this one as its first; at the end, the list is no unit. `TooNested`: the token opens a
-/// bracket while 200 are open. `TooLong`: the token stands in a function's body, its braces included, behind 8,192
-/// tokens of the function. `NoMemory` may come in place of each answer.
+/// bracket while `Limits::OPEN_BRACKETS` are open. `TooLong`: the token stands in a function's body, its braces
+/// included, after `Limits::FUNCTION_TOKENS` tokens of the function. `NoMemory` may come in place of each answer.
 pub fn parse(alloc: Global, tokens: &[Token]) -> Result<Unit, SyntaxError>
     requires { length tokens.now < 2 ^ 32 }
     ensures tree { IfOk result (λ unit. Derives tokens.now unit) }

@@ -17,6 +17,5 @@ mod first_forms;
 #[cfg(test)]
 mod fronts;
 #[cfg(test)]
-mod statement_trees;
 #[cfg(test)]
 mod units;

@@ -1,41 +1,41 @@
 use Rattle.std.proofs.Common.{rules, arith}
 use Rattle.std.proofs.lemmas.Grind.{common_steps}
 use Rattle.pw_grammar.specs.Reading.Declarations.{more_initials}
-use Rattle.pw_parse.proofs.Turns.{one_more, no_more}
+use Rattle.pw_parse.proofs.Iterations.{one_more, no_more}
 use Rattle.pw_parse.proofs.initialiser.more_initials.Goals as goal
 
 pub returns-then-not-sees : goal.returns-then-not-sees
 unfolding more_initials
 returns-then-not-sees c =
-    let e = one_more (λ n. more_initials n c.loop-turn.found c.loop-turn.cursor) _ c.loop-turn._turn c.loop-turn-test.true c.loop-turn.invariant in
+    let e = one_more (λ n. more_initials n c.loop-iteration.found c.loop-iteration.cursor) _ c.loop-iteration._iteration c.loop-iteration-test.true c.loop-iteration.invariant in
     first_of (search rules, grind (arith, common_steps))
 
 pub returns-in_err-skip : goal.returns-in_err-skip
 unfolding more_initials
 returns-in_err-skip c =
-    let e = one_more (λ n. more_initials n c.loop-turn.found c.loop-turn.cursor) _ c.loop-turn._turn c.loop-turn-test.true c.loop-turn.invariant in
+    let e = one_more (λ n. more_initials n c.loop-iteration.found c.loop-iteration.cursor) _ c.loop-iteration._iteration c.loop-iteration-test.true c.loop-iteration.invariant in
     first_of (search rules, grind (arith, common_steps))
 
 pub returns-then-sees : goal.returns-then-sees
 unfolding more_initials
 returns-then-sees c =
-    let e = one_more (λ n. more_initials n c.loop-turn.found c.loop-turn.cursor) _ c.loop-turn._turn c.loop-turn-test.true c.loop-turn.invariant in
+    let e = one_more (λ n. more_initials n c.loop-iteration.found c.loop-iteration.cursor) _ c.loop-iteration._iteration c.loop-iteration-test.true c.loop-iteration.invariant in
     first_of (search rules, grind (arith, common_steps))
 
 pub returns-in_err-initial : goal.returns-in_err-initial
 unfolding more_initials
 returns-in_err-initial c =
-    let e = one_more (λ n. more_initials n c.loop-turn.found c.loop-turn.cursor) _ c.loop-turn._turn c.loop-turn-test.true c.loop-turn.invariant in
+    let e = one_more (λ n. more_initials n c.loop-iteration.found c.loop-iteration.cursor) _ c.loop-iteration._iteration c.loop-iteration-test.true c.loop-iteration.invariant in
     first_of (search rules, grind (arith, common_steps))
 
-pub loop-turn-preserved : goal.loop-turn-preserved
+pub loop-iteration-preserved : goal.loop-iteration-preserved
 unfolding more_initials
-loop-turn-preserved c =
-    let e = one_more (λ n. more_initials n c.loop-turn.found c.loop-turn.cursor) _ c.loop-turn._turn c.loop-turn-test.true c.loop-turn.invariant in
+loop-iteration-preserved c =
+    let e = one_more (λ n. more_initials n c.loop-iteration.found c.loop-iteration.cursor) _ c.loop-iteration._iteration c.loop-iteration-test.true c.loop-iteration.invariant in
     first_of (search rules, grind (arith, common_steps))
 
 pub returns : goal.returns
 unfolding more_initials
 returns c =
-    let e = no_more (λ n. more_initials n c.loop-turn.found c.loop-turn.cursor) _ c.loop-turn._turn c.loop-turn-test.false c.loop-turn.invariant in
+    let e = no_more (λ n. more_initials n c.loop-iteration.found c.loop-iteration.cursor) _ c.loop-iteration._iteration c.loop-iteration-test.false c.loop-iteration.invariant in
     first_of (search rules, grind (arith, common_steps))

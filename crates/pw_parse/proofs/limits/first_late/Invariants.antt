@@ -1,7 +1,7 @@
 -- What is left of the list finds what the whole list does.
 use Rattle.std.proofs.Common.{◌≡◌, ◌≤◌, ◌+◌, length}
 use Rattle.pw_grammar.specs.Reading.Limits as spec
-use Rattle.pw_parse.specs.Walk.{walk_of}
+use Rattle.pw_parse.specs.Steps.Walk.{walk_of}
 use Rattle.pw_parse.proofs.limits.first_late.Given as goal
 
 abbrev pub invariant-loop-rest : goal.invariant-loop-rest

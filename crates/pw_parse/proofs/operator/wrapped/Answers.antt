@@ -6,8 +6,8 @@ use Rattle.pw_parse.proofs.operator.wrapped.Goals as goal
 pub inner-preserved : goal.inner-preserved
 inner-preserved c =
     let op : Un × ℕ = (c.in-Some.op, c.in-Some.line) in
-    one_inner c.inner.at c.args.last c.inner.ops c.pop.new.self op c.inner.whole c.in_ok-unary.field-0
-    c.in-Some.ensures c.in_ok-unary.ensures c.inner.invariant.1 c.inner.invariant.0
+    one_inner c.inner.at c.args.last c.inner.ops c.pop.new.self op c.inner.whole _
+    c.in-Some.ensures c.in_ok-whole.ensures c.inner.invariant.1 c.inner.invariant.0
 
 pub returns : goal.returns
 returns c = none_inner c.inner.at c.args.last c.inner.ops c.inner.whole c.in_default.ensures.0 c.inner.invariant.0

@@ -1,4 +1,4 @@
--- The operand so far, behind the operators that are left, is the whole.
+-- The operand so far, after the operators that are left, is the whole.
 use Rattle.std.proofs.Common.{◌≡◌, ◌-◌, ◌≤◌, length}
 use Rattle.pw_grammar.specs.Reading.Expressions.{wrapped}
 use Rattle.pw_parse.proofs.operator.wrapped.Given as goal

@@ -3,7 +3,7 @@ use Rattle.std.proofs.Common.{◌≡◌, ◌≢◌, sym, subst, ◌∙◌, ap, �
 use Rattle.std.proofs.lemmas.Grind.{common_steps}
 use Rattle.pw_grammar.specs.declared.error.SyntaxError.TheVariants.{NoMemory}
 use Rattle.pw_grammar.specs.Reading.Statements.{statement}
-use Rattle.pw_parse.specs.Nesting.{resume, unread, Resumes}
+use Rattle.pw_parse.specs.Steps.Nesting.{resume, unread, Resumes}
 use Rattle.pw_parse.proofs.Nesting.{outermost, too_deep, front_fault, front_head, front_whole}
 use Rattle.pw_parse.proofs.Shorter.{front_shorter}
 use Rattle.pw_parse.proofs.statement.+statement.Goals as goal

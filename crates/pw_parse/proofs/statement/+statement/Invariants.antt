@@ -1,7 +1,7 @@
 -- The statement that is still to be read, inside the heads that were read, is the whole.
 use Rattle.std.proofs.Common.{◌≡◌, ◌≤◌, length}
 use Rattle.pw_grammar.specs.Reading.Statements.{statement}
-use Rattle.pw_parse.specs.Nesting.{unread}
+use Rattle.pw_parse.specs.Steps.Nesting.{unread}
 use Rattle.pw_parse.proofs.statement.+statement.Given as goal
 
 abbrev pub decreases-statement : goal.decreases-statement

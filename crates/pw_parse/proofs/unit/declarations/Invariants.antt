@@ -5,7 +5,7 @@ use Rattle.pw_grammar.specs.Reading.Statements.{statement}
 use Rattle.pw_grammar.specs.Reading.Declarations.{declaration, declarations}
 use Rattle.pw_parse.proofs.unit.declarations.Given as goal
 
-abbrev pub invariant-loop-turn : goal.invariant-loop-turn
-invariant-loop-turn l =
+abbrev pub invariant-loop-iteration : goal.invariant-loop-iteration
+invariant-loop-iteration l =
     declarations (declaration (expression l.depth) (statement l.depth) l.depth) l.depth [] l.fn.cursor
-    ≡ declarations (declaration (expression l.depth) (statement l.depth) l.depth) (l.depth - l._turn) l.found l.cursor
+    ≡ declarations (declaration (expression l.depth) (statement l.depth) l.depth) (l.depth - l._iteration) l.found l.cursor

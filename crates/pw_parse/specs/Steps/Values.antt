@@ -1,0 +1,14 @@
+-- The value that a constant carries.
+use Rattle.std.specs.Prelude.{ℕ, Bool}
+use Rattle.pw_grammar.specs.Expressions.{value_in, is_unsigned}
+use Rattle.pw_grammar.specs.Reading.Steps.{Parser, take, ◌>>=◌, pure}
+
+-- takes a token, and answers the value of the constant that it is, and whether it is unsigned
+abbrev pub value : Parser (ℕ × Bool)
+value = do
+  t ← take
+  pure (value_in t.kind, is_unsigned t.kind)
+
+-- takes a token, and answers the value of the constant that it is
+abbrev pub number : Parser ℕ
+number = take >>= (λ t. pure (value_in t.kind))
