@@ -17,5 +17,4 @@ mod first_forms;
 #[cfg(test)]
 mod fronts;
 #[cfg(test)]
-#[cfg(test)]
 mod units;
