@@ -23,10 +23,10 @@ fn every_load_extends_its_number(rt: HostRuntime) -> Result<(), Fail> {
         // ld a0, 0(t0): all eight
         (0x0002_b503, 0x8887_8685_8483_8281_u64),
     ];
-    for (word, a0) in table {
-        let (end, after, _) = step(rt.alloc(), word, hart(DATA, 0, 0, 0, 2))?;
+    for (word, a0) in &table {
+        let (end, after, _) = step(rt.alloc(), *word, hart(DATA, 0, 0, 0, 2))?;
         assert_eq!(rt; end, None, "{word:#010x}");
-        assert_eq!(rt; after.x[10], a0, "{word:#010x}");
+        assert_eq!(rt; after.x[10], *a0, "{word:#010x}");
     }
     Ok(())
 }
@@ -44,11 +44,11 @@ fn every_store_writes_its_lowest_bytes(rt: HostRuntime) -> Result<(), Fail> {
         // sd t1, 0(t0): all eight
         (0x0062_b023, 0x1122_3344_5566_7788),
     ];
-    for (word, data) in table {
+    for (word, data) in &table {
         let before = hart(DATA, 0x1122_3344_5566_7788, 0, 0, 2);
-        let (end, _, left) = step(rt.alloc(), word, before)?;
+        let (end, _, left) = step(rt.alloc(), *word, before)?;
         assert_eq!(rt; end, None, "{word:#010x}");
-        assert_eq!(rt; left, data, "{word:#010x}");
+        assert_eq!(rt; left, *data, "{word:#010x}");
     }
     Ok(())
 }

@@ -1,7 +1,7 @@
 //! What each computational instruction leaves in a0: rows of an instruction word, t0, t1 and a0. The values come from an
 //! independent model of the machine.
 
-use crate::machine::{AT, hart, step};
+use crate::machine::{NEXT, hart, step};
 use std::alloc::Global;
 use std::process::Abort;
 use std::test::Fail;
@@ -22,7 +22,7 @@ fn expect(rt: &impl Abort, alloc: Global, table: &[(u32, i64, i64, i64)]) -> Res
             *a0,
             "{word:#010x} of {t0} and {t1}"
         );
-        assert_eq!(rt; after.pc, AT + 4);
+        assert_eq!(rt; after.pc, NEXT);
         assert_eq!(rt; after.steps, 2);
     }
     Ok(())

@@ -51,7 +51,7 @@ fn a_misaligned_target_traps_before_a_step_is_taken(rt: HostRuntime) -> Result<(
         // jalr ra, 0(t0): the trap comes before the want of a step
         (0x0002_80e7, [0x500_0003, 0, 0, 0], trap(0, 0x500_0002)),
         // beq zero, zero, 6: taken, to an address that is even only
-        (0x0000_0363, [0, 0, 0, 0], trap(0, AT + 6)),
+        (0x0000_0363, [0, 0, 0, 0], trap(0, 0x100_0016)),
     ];
     expect(&rt, rt.alloc(), &table)
 }
@@ -94,11 +94,11 @@ fn what_cannot_be_carried_out_traps(rt: HostRuntime) -> Result<(), Fail> {
         // no instruction: SYSTEM with another number
         (0x0020_0073, [0, 0, 0, 0], trap(2, 0x0020_0073)),
         // ld a0, 1(t0): a misaligned load
-        (0x0012_b503, [DATA, 0, 0, 0], trap(4, DATA + 1)),
+        (0x0012_b503, [DATA, 0, 0, 0], trap(4, 0x200_0001)),
         // ld a0, 0(t0): no region there
         (0x0002_b503, [0, 0, 0, 0], trap(5, 0)),
         // sw t0, 2(t0): a misaligned store
-        (0x0052_a123, [DATA, 0, 0, 0], trap(6, DATA + 2)),
+        (0x0052_a123, [DATA, 0, 0, 0], trap(6, 0x200_0002)),
         // sw t0, 0(t0): a store into text
         (0x0052_a023, [0x100_0000, 0, 0, 0], trap(7, 0x100_0000)),
     ];
@@ -127,7 +127,7 @@ fn an_environment_call_goes_by_its_number(rt: HostRuntime) -> Result<(), Fail> {
 #[test]
 fn a_refused_fetch_traps_with_the_address(rt: HostRuntime) -> Result<(), Fail> {
     // no multiple of 4; no region; no executable region
-    for pc in [AT + 2, 0, DATA] {
+    for pc in [0x100_0012, 0, DATA] {
         let mut before = hart(0, 0, 0, 0, 0);
         before.pc = pc;
         let (end, after, _) = step(rt.alloc(), 0, before)?;

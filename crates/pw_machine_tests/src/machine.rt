@@ -8,9 +8,15 @@ use std::alloc::Global;
 use std::test::Fail;
 
 /// Where the text stands.
-const TEXT: u64 = 0x0100_0000;
+pub(crate) const TEXT: u64 = 0x0100_0000;
 /// Where the instruction stands that is tried, after four others.
 pub(crate) const AT: u64 = TEXT + 16;
+/// The address of the instruction after it.
+pub(crate) const NEXT: u64 = AT + 4;
+/// A target two instructions after it.
+pub(crate) const FORWARD: u64 = AT + 8;
+/// A target two instructions before it.
+pub(crate) const BACK: u64 = AT - 8;
 /// Where the data stand.
 pub(crate) const DATA: u64 = 0x0200_0000;
 
