@@ -50,7 +50,7 @@ same_shape : (rs : List MappedRegion) (at : ℕ) (new : List ℕ) (k : ℕ) (d :
 same_shape rs at new k d in_it =
     let size = length-written rs at new in
     sym (get_or-map shape_of (written rs at new) k d (shape_of d) (omega arith))
-        ∙ ap (λ shapes. get_or shapes k (shape_of d)) (shapes_written rs at new) ∙ get_or-map shape_of rs k d (shape_of d) in_it
+    ∙ ap (λ shapes. get_or shapes k (shape_of d)) (shapes_written rs at new) ∙ get_or-map shape_of rs k d (shape_of d) in_it
 
 apart_by_shape : (a b c d : MappedRegion) → shape_of a ≡ shape_of c → shape_of b ≡ shape_of d → are_apart c d ≡ true → are_apart a b ≡ true
 apart_by_shape a b c d ac bd apart =

@@ -31,7 +31,7 @@ seen_there : (xs : List FlatRegion) (at n i : ℕ) (region : FlatRegion) → IsF
     → region_at (map region_of xs) at n ≡ Some (region_of region)
 seen_there xs at n i region first is =
     seen_first (map region_of xs) at n i (region_of region) (seen_as xs at n i region first)
-        ∙ ap Some (get_or-map region_of xs i region (region_of region) first.0 ∙ ap region_of (sym is))
+    ∙ ap Some (get_or-map region_of xs i region (region_of region) first.0 ∙ ap region_of (sym is))
 
 wrote_there : (xs : List FlatRegion) (at n i : ℕ) (new : List ℕ) (region : FlatRegion) → IsFirstOf xs at n i region
     → region ≡ get_or xs i region → length new ≡ n
@@ -39,7 +39,7 @@ wrote_there : (xs : List FlatRegion) (at n i : ℕ) (new : List ℕ) (region : F
 wrote_there xs at n i new region first is fits =
     let here : IsFirst (map region_of xs) at (length new) i (region_of region) = rw fits (seen_as xs at n i region first) in
     wrote_first (map region_of xs) at i new (region_of region) here
-        ∙ ap (λ r. set (map region_of xs) i (with_bytes r at new)) (get_or-map region_of xs i region (region_of region) first.0 ∙ ap region_of (sym is))
+    ∙ ap (λ r. set (map region_of xs) i (with_bytes r at new)) (get_or-map region_of xs i region (region_of region) first.0 ∙ ap region_of (sym is))
 
 position_inside : {X : Type 0} (p : X → Bool) (xs : List X) (i : ℕ) → position p xs ≡ Some i → i < length xs
 position_inside p xs i found = inside_from (position_or_len p xs) (length xs) i (ltb (position_or_len p xs) (length xs)) refl found
@@ -87,4 +87,4 @@ pub wrote_items : (memory : FlatMemory) (at n i : ℕ) (old new : FlatRegion) (b
     → map region_of (set memory.regions.items i new) ≡ written (map region_of memory.regions.items) at bytes
 wrote_items memory at n i old new bytes found is fits change =
     map-set region_of memory.regions.items i new ∙ ap (λ r. set (map region_of memory.regions.items) i r) change
-        ∙ sym (found.wrote old bytes is fits)
+    ∙ sym (found.wrote old bytes is fits)

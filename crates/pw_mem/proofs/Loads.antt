@@ -33,7 +33,7 @@ loaded_after m n a w u v true h wrote =
     let readable = readable_of wrote.region a w u wrote.region.read refl (rw found at h) in
     let there : region_at (written m.regions a (le_bytes w v)) a w ≡ Some (with_bytes wrote.region a (le_bytes w v)) =
     ap (region_at (written m.regions a (le_bytes w v)) a) (sym size) ∙ region_at-written m.regions a (le_bytes w v)
-        ∙ ap (option_map (λ r. with_bytes r a (le_bytes w v))) wrote.found in
+    ∙ ap (option_map (λ r. with_bytes r a (le_bytes w v))) wrote.found in
     let bytes : bytes_at (with_bytes wrote.region a (le_bytes w v)) a w ≡ le_bytes w v =
     ap (bytes_at (with_bytes wrote.region a (le_bytes w v)) a) (sym size) ∙ bytes_at-with_bytes wrote.region a (le_bytes w v) held in
     rw (wrote.is, there, readable, bytes, le-low_bytes w v) refl
