@@ -1,9 +1,10 @@
 -- The terminal symbols of the grammar, and what the operators among them mean.
-use Rattle.std.specs.Prelude.{ℕ, Bool, List, [], ◌∷◌, slice_index_or, Option, Some, None}
+use Rattle.std.specs.Prelude.{ℕ, Bool, List, [], ◌∷◌, map, codes, slice_index_or, Option, Some, None}
 use denote.Enum.Bare.{sameb}
 use Rattle.pw_grammar.specs.contracts.sort.Sort.{the_type}
 use Rattle.pw_grammar.specs.declared.sort.Sort.{Sort}
 use Rattle.pw_grammar.specs.declared.sort.Sort.TheVariants as s
+use Rattle.pw_lex.specs.Bytes.{Text}
 use Rattle.pw_lex.specs.declared.token.Token.{Token}
 use Rattle.pw_lex.specs.declared.token.TokenKind.{TokenKind}
 use Rattle.pw_lex.specs.declared.token.TokenKind.TheVariants as t
@@ -12,25 +13,86 @@ use Rattle.pw_tree.specs.declared.operator.Un.TheVariants as un
 use Rattle.pw_tree.specs.declared.operator.Bin.{Bin}
 use Rattle.pw_tree.specs.declared.operator.Bin.TheVariants as bin
 
--- the symbols of the keywords, in the order of their list in pw_lex (C17, 6.4.1)
-abbrev pub keyword_symbols : List Sort
-keyword_symbols =
-    s.Long ∷ s.Unsigned ∷ s.Void ∷
-    s.Fn0 ∷ s.Fn1 ∷ s.Fn2 ∷ s.Fn3 ∷ s.Fn4 ∷ s.Fn5 ∷ s.Fn6 ∷
-    s.Extern ∷ s.Static ∷
-    s.If ∷ s.Else ∷ s.While ∷ s.Do ∷ s.For ∷
-    s.Return ∷ s.Break ∷ s.Continue ∷
-    s.Input ∷ s.Output ∷
+-- the texts of terminal symbols, each with its symbol
+abbrev pub Words : Type 0
+Words = List (Text × Sort)
+
+-- the keywords, in the order of pw_lex's list (C17, 6.4.1)
+abbrev pub keyword_words : Words
+keyword_words =
+    (codes "long", s.Long) ∷
+    (codes "unsigned", s.Unsigned) ∷
+    (codes "void", s.Void) ∷
+    (codes "fn0", s.Fn0) ∷
+    (codes "fn1", s.Fn1) ∷
+    (codes "fn2", s.Fn2) ∷
+    (codes "fn3", s.Fn3) ∷
+    (codes "fn4", s.Fn4) ∷
+    (codes "fn5", s.Fn5) ∷
+    (codes "fn6", s.Fn6) ∷
+    (codes "extern", s.Extern) ∷
+    (codes "static", s.Static) ∷
+    (codes "if", s.If) ∷
+    (codes "else", s.Else) ∷
+    (codes "while", s.While) ∷
+    (codes "do", s.Do) ∷
+    (codes "for", s.For) ∷
+    (codes "return", s.Return) ∷
+    (codes "break", s.Break) ∷
+    (codes "continue", s.Continue) ∷
+    (codes "__in", s.Input) ∷
+    (codes "__out", s.Output) ∷
     []
 
--- the symbols of the punctuators that the grammar has a place for, in the order of their list in pw_lex (C17, 6.4.6)
-abbrev pub punctuator_symbols : List Sort
-punctuator_symbols =
-    s.LeftParen ∷ s.RightParen ∷ s.LeftBrace ∷ s.RightBrace ∷ s.LeftBracket ∷ s.RightBracket ∷ s.Semicolon ∷ s.Comma ∷
-    s.Assign ∷ s.Plus ∷ s.Minus ∷ s.Star ∷ s.Slash ∷ s.Percent ∷
-    s.Less ∷ s.Greater ∷ s.LessEqual ∷ s.GreaterEqual ∷ s.Equal ∷ s.NotEqual ∷ s.ShiftLeft ∷ s.ShiftRight ∷
-    s.And ∷ s.Or ∷ s.Xor ∷ s.Tilde ∷ s.Bang ∷ s.AndAnd ∷ s.OrOr ∷ s.Question ∷ s.Colon ∷
+-- the punctuators that the grammar has a place for, in the order of pw_lex's list (C17, 6.4.6)
+abbrev pub punctuator_words : Words
+punctuator_words =
+    (codes "(", s.LeftParen) ∷
+    (codes ")", s.RightParen) ∷
+    (codes "{", s.LeftBrace) ∷
+    (codes "}", s.RightBrace) ∷
+    (codes "[", s.LeftBracket) ∷
+    (codes "]", s.RightBracket) ∷
+    (codes ";", s.Semicolon) ∷
+    (codes ",", s.Comma) ∷
+    (codes "=", s.Assign) ∷
+    (codes "+", s.Plus) ∷
+    (codes "-", s.Minus) ∷
+    (codes "*", s.Star) ∷
+    (codes "/", s.Slash) ∷
+    (codes "%", s.Percent) ∷
+    (codes "<", s.Less) ∷
+    (codes ">", s.Greater) ∷
+    (codes "<=", s.LessEqual) ∷
+    (codes ">=", s.GreaterEqual) ∷
+    (codes "==", s.Equal) ∷
+    (codes "!=", s.NotEqual) ∷
+    (codes "<<", s.ShiftLeft) ∷
+    (codes ">>", s.ShiftRight) ∷
+    (codes "&", s.And) ∷
+    (codes "|", s.Or) ∷
+    (codes "^", s.Xor) ∷
+    (codes "~", s.Tilde) ∷
+    (codes "!", s.Bang) ∷
+    (codes "&&", s.AndAnd) ∷
+    (codes "||", s.OrOr) ∷
+    (codes "?", s.Question) ∷
+    (codes ":", s.Colon) ∷
     []
+
+-- the texts of a list, and its symbols
+abbrev pub texts : Words → List Text
+texts words = map (λ word. word.0) words
+
+abbrev pub symbols : Words → List Sort
+symbols words = map (λ word. word.1) words
+
+-- the symbols of the keywords, and of the punctuators, by number
+abbrev pub keyword_symbols : List Sort
+keyword_symbols = symbols keyword_words
+
+abbrev pub punctuator_symbols : List Sort
+punctuator_symbols = symbols punctuator_words
 
 -- the symbol of this number, or `Other` where the list has none
 abbrev pub numbered : List Sort → ℕ → Sort

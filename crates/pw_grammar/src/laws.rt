@@ -1,6 +1,13 @@
 //! Laws of the grammar, each the contract of a function.
-ghost use Rattle.pw_grammar.specs.Laws.{HasReading, NotBoth, OneTree, OneFault, TreesAreRead, TreesAreWritten, UnitsAreNoLonger};
+ghost use Rattle.pw_grammar.specs.Laws.{KeywordsByText, PunctuatorsByText, HasReading, NotBoth, OneTree, OneFault, TreesAreRead, TreesAreWritten, UnitsAreNoLonger};
 ghost use Rattle.pw_grammar.specs.Reading.Whole.{ReadingTells};
+
+/// A keyword and a punctuator, which a token gives by its number, have the symbol that stands beside their text.
+#[tactic(auto, unfolding(pw_lex::specs::Spellings::keywords, pw_lex::specs::Spellings::punctuators))]
+pub fn symbols_stand_beside_their_texts()
+    ensures keywords { KeywordsByText }
+    ensures punctuators { PunctuatorsByText }
+{}
 
 /// A list of tokens has a tree or a first fault, and never both; and it has one tree, or one first fault, at most.
 pub fn a_list_has_a_tree_or_a_first_fault()

@@ -2,7 +2,7 @@
 -- numbers.
 use Rattle.std.specs.Prelude.{◌≡◌, ℕ, suc, ◌+◌, ◌^◌, ◌<◌, ◌≤◌, Bool, true, false, ◌||◌, if◌then◌else◌, List, [], ◌∷◌, length, Option, Some, None, ⊤, nat_eq, bytes_eq, find, slice_get, option_map, option_and_then}
 use Rattle.std.specs.List.{list_any}
-use Rattle.pw_base.specs.Limits.{parameters}
+use Rattle.pw_base.specs.Limits.{parameters, function_tokens}
 use Rattle.pw_tree.specs.declared.operator.Un.{Un}
 use Rattle.pw_tree.specs.declared.operator.Un.TheVariants.{Neg, Plus, Not, Bang}
 use Rattle.pw_tree.specs.declared.operator.Bin.{Bin}
@@ -231,8 +231,9 @@ unfoldable mutual
 
 -- ---- all
 
--- The expression is well typed in a function of the unit whose locals have these classes, and of which these are known.
-pub record IsWellTypedExpression (unit : TypedUnit) (classes : List Class) (known : List ℕ) (e : TypedExpression) : Type 0 where
+-- An expression by itself is well typed, in a function of the unit whose locals have these classes. Which locals are known at its
+-- place is a matter of the statements round it.
+pub record IsWellTypedExpression (unit : TypedUnit) (classes : List Class) (e : TypedExpression) : Type 0 where
   pub parts : Throughout (HasFittingParts unit classes) e
-  pub reads : Throughout (ReadsKnown known) e
   pub numbers : Throughout HasSmallNumbers e
+  pub few : expressions_in e ≤ function_tokens

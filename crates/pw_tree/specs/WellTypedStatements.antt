@@ -93,13 +93,13 @@ pub record StatementFits (unit : TypedUnit) (result : Class) (classes : List Cla
 -- ---- the locals that are read
 
 -- those known behind a statement of a list, or behind the first part of a `for`: one more where it sets or declares a local
-abbrev pub known_behind : TypedStatement → List ℕ → List ℕ
-known_behind (set_local i e) known = i ∷ known
-known_behind s known = known
+abbrev pub known_after : TypedStatement → List ℕ → List ℕ
+known_after (set_local i e) known = i ∷ known
+known_after s known = known
 
-abbrev pub known_behind_maybe : OptionalTypedStatement → List ℕ → List ℕ
-known_behind_maybe absent known = known
-known_behind_maybe (present s) known = known_behind s known
+abbrev pub known_after_maybe : OptionalTypedStatement → List ℕ → List ℕ
+known_after_maybe absent known = known
+known_after_maybe (present s) known = known_after s known
 
 abbrev pub ExpressionReads : List ℕ → TypedExpression → Type 0
 ExpressionReads known e = Throughout (ReadsKnown known) e
@@ -118,16 +118,16 @@ unfoldable mutual
   StatementReads known (do_loop body c) = StatementReads known body × ExpressionReads known c
   StatementReads known (for_loop first c last body) =
       MaybeReads known first
-      × IfPresent (ExpressionReads (known_behind_maybe first known)) c
-      × MaybeReads (known_behind_maybe first known) last
-      × StatementReads (known_behind_maybe first known) body
+      × IfPresent (ExpressionReads (known_after_maybe first known)) c
+      × MaybeReads (known_after_maybe first known) last
+      × StatementReads (known_after_maybe first known) body
   StatementReads known (returns e) = IfPresent (ExpressionReads known) e
   StatementReads known breaks = ⊤
   StatementReads known continues = ⊤
 
   pub StatementsRead : List ℕ → TypedStatements → Type 0
   StatementsRead known nil = ⊤
-  StatementsRead known (cons s ss) = StatementReads known s × StatementsRead (known_behind s known) ss
+  StatementsRead known (cons s ss) = StatementReads known s × StatementsRead (known_after s known) ss
 
   pub MaybeReads : List ℕ → OptionalTypedStatement → Type 0
   MaybeReads known absent = ⊤
@@ -162,29 +162,29 @@ unfoldable mutual
 -- ---- the parts of a `for`
 
 -- an expression, an assignment, or the declaration of a local
-abbrev pub IsSimple : TypedStatement → Type 0
-IsSimple (evaluate e) = ⊤
-IsSimple (set_local i e) = ⊤
-IsSimple (set_variable x e) = ⊤
-IsSimple (set_element a size line i e) = ⊤
-IsSimple s = ⊥
+abbrev pub IsSimpleTyped : TypedStatement → Type 0
+IsSimpleTyped (evaluate e) = ⊤
+IsSimpleTyped (set_local i e) = ⊤
+IsSimpleTyped (set_variable x e) = ⊤
+IsSimpleTyped (set_element a size line i e) = ⊤
+IsSimpleTyped s = ⊥
 
 -- the same, and a local that it sets has a value
-abbrev pub IsSimpleLast : TypedStatement → Type 0
-IsSimpleLast (set_local i None) = ⊥
-IsSimpleLast s = IsSimple s
+abbrev pub IsSimpleTypedLast : TypedStatement → Type 0
+IsSimpleTypedLast (set_local i None) = ⊥
+IsSimpleTypedLast s = IsSimpleTyped s
 
-abbrev pub IsFirstPart : OptionalTypedStatement → Type 0
-IsFirstPart absent = ⊤
-IsFirstPart (present s) = IsSimple s
+abbrev pub IsTypedFirstPart : OptionalTypedStatement → Type 0
+IsTypedFirstPart absent = ⊤
+IsTypedFirstPart (present s) = IsSimpleTyped s
 
-abbrev pub IsLastPart : OptionalTypedStatement → Type 0
-IsLastPart absent = ⊤
-IsLastPart (present s) = IsSimpleLast s
+abbrev pub IsTypedLastPart : OptionalTypedStatement → Type 0
+IsTypedLastPart absent = ⊤
+IsTypedLastPart (present s) = IsSimpleTypedLast s
 
 -- the first and the last part of a `for` are simple
 abbrev pub HasSimpleParts : TypedStatement → Type 0
-HasSimpleParts (for_loop first c last body) = IsFirstPart first × IsLastPart last
+HasSimpleParts (for_loop first c last body) = IsTypedFirstPart first × IsTypedLastPart last
 HasSimpleParts s = ⊤
 
 -- ---- numbers

@@ -16,7 +16,7 @@ use Rattle.pw_tree.specs.Types.{IsValueType}
 use Rattle.pw_tree.specs.Units.{TypedUnit}
 use Rattle.pw_tree.specs.Proper.{IsNoDeclaration, IsNoElseDeclaration, IsSimple, IsLastPart, IsProper, AreProper, IsMaybeProper}
 use Rattle.pw_tree.specs.WellTypedExpressions.{Class, number, class_of, class, IsValue, IsValueClass, HasFittingParts, IsKnown, Throughout}
-use Rattle.pw_tree.specs.WellTypedStatements.{IfPresent, Everywhere, EverywhereIn, EverywhereIf, LocalFits, ReturnFits, IsCondition, StatementFits, known_behind, known_behind_maybe, ExpressionReads, StatementReads, StatementsRead, MaybeReads}
+use Rattle.pw_tree.specs.WellTypedStatements.{IfPresent, Everywhere, EverywhereIn, EverywhereIf, LocalFits, ReturnFits, IsCondition, StatementFits, known_after, known_after_maybe, ExpressionReads, StatementReads, StatementsRead, MaybeReads}
 use Rattle.pw_types.specs.declared.role.Role.{Role}
 use Rattle.pw_types.specs.declared.role.Role.TheVariants.{Statement as AsStatement, Value, Assigned}
 use Rattle.pw_types.specs.declared.names.Local.{Local}
@@ -163,7 +163,7 @@ module _ (unit : TypedUnit) (used : List ℕ) (classes : List Class) where
     files = p.files;
   }
 
-  more_known : (known : List ℕ) (t : TypedStatement) (scope : Scope) → Place unit used classes known scope → Place unit used classes (known_behind t known) scope
+  more_known : (known : List ℕ) (t : TypedStatement) (scope : Scope) → Place unit used classes known scope → Place unit used classes (known_after t known) scope
   more_known known (command.set_local i e) scope p = one_more_known known i scope p
   more_known known (command.evaluate e) scope p = p
   more_known known (command.set_variable x e) scope p = p
@@ -239,7 +239,7 @@ module _ (unit : TypedUnit) (used : List ℕ) (classes : List Class) where
 
   -- a declaration leaves its local visible, and known
   behind_place : (x : Setting) (known : List ℕ) (b : Block) (s : Statement) → Place unit used classes known b.scope →
-      HaveClasses classes b.count (types_in s) → Place unit used classes (known_behind (typed_statement x b s) known) (behind s b).scope
+      HaveClasses classes b.count (types_in s) → Place unit used classes (known_after (typed_statement x b s) known) (behind s b).scope
   unfolding HaveClasses types_in typed_statement
   behind_place x known b (local at ty name e) p h = declared_place known b name ty p h.0
   behind_place x known b (empty at) p h = p
@@ -256,7 +256,7 @@ module _ (unit : TypedUnit) (used : List ℕ) (classes : List Class) where
 
   maybe_place : (x : Setting) (known : List ℕ) (b : Block) (s : OptionalStatement) → Place unit used classes known b.scope →
       HaveClasses classes b.count (types_in_maybe s) →
-      Place unit used classes (known_behind_maybe (optional_typed_statement x b s) known) (behind_maybe s b).scope
+      Place unit used classes (known_after_maybe (optional_typed_statement x b s) known) (behind_maybe s b).scope
   unfolding types_in typed_statement
   maybe_place x known b absent p h = p
   maybe_place x known b (present s) p h = behind_place x known b s p h
@@ -485,7 +485,7 @@ module _ (unit : TypedUnit) (used : List ℕ) (classes : List Class) where
     flows x b (for_loop at first c last s) known p k u q h =
         let b1 : Block = behind_maybe first (inner b) in
         let b2 : Block = behind_maybe last b1 in
-        let known1 : List ℕ = known_behind_maybe (optional_typed_statement (head x) (inner b) first) known in
+        let known1 : List ℕ = known_after_maybe (optional_typed_statement (head x) (inner b) first) known in
         let us1 : List ℕ = uses_by_maybe (inner b) first in
         let us2 : List ℕ = uses_of_option b1.scope c in
         let us3 : List ℕ = uses_by_maybe b1 last in
@@ -528,7 +528,7 @@ module _ (unit : TypedUnit) (used : List ℕ) (classes : List Class) where
     all_flow x b (cons s ss) known p c u q h =
         let here = have_left classes b.count (types_in s) (types_in_all ss) c in
         let r = flows x b s known p here (among_left used (uses_by b s) (uses_by_all (behind s b) ss) u) q.0 h.0 in
-        let t = all_flow x (behind s b) ss (known_behind (typed_statement x b s) known) (behind_place unit used classes x known b s p here)
+        let t = all_flow x (behind s b) ss (known_after (typed_statement x b s) known) (behind_place unit used classes x known b s p here)
         (have_right classes b.count (behind s b).count (types_in s) (types_in_all ss) (omega (arith, count_behind b s, types_count s)) c)
         (among_right used (uses_by b s) (uses_by_all (behind s b) ss) u) q.1 h.1 in
         record { fits = (r.fits, t.fits); reads = (r.reads, t.reads) }

@@ -61,13 +61,13 @@ mutual
 -- ---- the parts of a `for`
 
 set_simple : {x : Setting} {scope : Scope} {at : Span} {name : List ℕ} {i : Option Expression} {e : Expression} {t : TypedStatement} →
-    SoundSet x scope at name i e t → typed.IsSimpleLast t
+    SoundSet x scope at name i e t → typed.IsSimpleTypedLast t
 set_simple (set_to_local name l e is typed_as few) = tt
 set_simple (set_to_variable name f ty e is kind typed_as few) = tt
 set_simple (set_to_element name f ty size i e is kind index numeric value few) = tt
 
 set_simple_first : {x : Setting} {scope : Scope} {at : Span} {name : List ℕ} {i : Option Expression} {e : Expression} {t : TypedStatement} →
-    SoundSet x scope at name i e t → typed.IsSimple t
+    SoundSet x scope at name i e t → typed.IsSimpleTyped t
 set_simple_first (set_to_local name l e is typed_as few) = tt
 set_simple_first (set_to_variable name f ty e is kind typed_as few) = tt
 set_simple_first (set_to_element name f ty size i e is kind index numeric value few) = tt
@@ -79,7 +79,7 @@ set_parts (set_to_local name l e is typed_as few) = tt
 set_parts (set_to_variable name f ty e is kind typed_as few) = tt
 set_parts (set_to_element name f ty size i e is kind index numeric value few) = tt
 
-simple_last : (x : Setting) (b : Block) (s : Statement) → IsSimple s → IsSound x b s → typed.IsSimpleLast (typed_statement x b s)
+simple_last : (x : Setting) (b : Block) (s : Statement) → IsSimple s → IsSound x b s → typed.IsSimpleTypedLast (typed_statement x b s)
 unfolding IsSound typed_statement
 simple_last x b (set at name i e) p h = set_simple h
 simple_last x b (evaluate at e) p h = tt
@@ -94,7 +94,7 @@ simple_last x b (returns at e) p h = absurd p
 simple_last x b (breaks at) p h = absurd p
 simple_last x b (continues at) p h = absurd p
 
-simple_first : (x : Setting) (b : Block) (s : Statement) → IsSimpleOrDeclaration s → IsSound x b s → typed.IsSimple (typed_statement x b s)
+simple_first : (x : Setting) (b : Block) (s : Statement) → IsSimpleOrDeclaration s → IsSound x b s → typed.IsSimpleTyped (typed_statement x b s)
 unfolding IsSound typed_statement
 simple_first x b (local at ty name e) p h = tt
 simple_first x b (set at name i e) p h = set_simple_first h
@@ -109,12 +109,12 @@ simple_first x b (returns at e) p h = absurd p
 simple_first x b (breaks at) p h = absurd p
 simple_first x b (continues at) p h = absurd p
 
-first_part : (x : Setting) (b : Block) (s : OptionalStatement) → IsFirstPart s → IsMaybeSound x b s → typed.IsFirstPart (optional_typed_statement x b s)
+first_part : (x : Setting) (b : Block) (s : OptionalStatement) → IsFirstPart s → IsMaybeSound x b s → typed.IsTypedFirstPart (optional_typed_statement x b s)
 unfolding IsSound typed_statement
 first_part x b absent p h = tt
 first_part x b (present s) p h = simple_first x b s p h
 
-last_part : (x : Setting) (b : Block) (s : OptionalStatement) → IsLastPart s → IsMaybeSound x b s → typed.IsLastPart (optional_typed_statement x b s)
+last_part : (x : Setting) (b : Block) (s : OptionalStatement) → IsLastPart s → IsMaybeSound x b s → typed.IsTypedLastPart (optional_typed_statement x b s)
 unfolding IsSound typed_statement
 last_part x b absent p h = tt
 last_part x b (present s) p h = simple_last x b s p h
