@@ -1,12 +1,12 @@
 -- The laws of levels, and the way upwards by parents.
-use Rattle.std.proofs.Common.{◌≡◌, ℕ, zero, suc, ◌+◌, ◌-◌, ◌<◌, ◌≤◌, get_or, List, [], ◌∷◌, ◌++◌, length, Option, Some, None, refl, subst, sym, ap, arith, ◌∙◌}
+use Rattle.std.proofs.Common.{◌≡◌, ℕ, zero, suc, ◌+◌, ◌-◌, ◌<◌, ◌≤◌, get_or, List, [], ◌∷◌, ◌++◌, length, length-append, Option, Some, None, refl, subst, sym, ap, arith, ◌∙◌}
 use Rattle.std.specs.Prelude.{reverse}
 use mathlib.Core.List.{reverse_aux}
-use Rattle.std.proofs.lemmas.List.{get_or_default}
+use Rattle.std.proofs.lemmas.List.{get_or_default, length-reverse}
 use Rattle.pw_close.specs.declared.graph.Graph.{Graph}
 use Rattle.pw_close.specs.declared.graph.Levels.{Levels}
 use Rattle.pw_close.specs.Closure.{IsLevel, level_of, parent_of, AreLevels}
-use Rattle.pw_close.specs.Paths.{GoesUp, IsPath, HaveParents}
+use Rattle.pw_close.specs.Paths.{GoesUp, IsPath, HaveParents, LeadsTo}
 use Rattle.pw_close.specs.Laws.{KeptByWays, KeptHaveLevels, LevelsAreKept, ParentsAreLower}
 use Rattle.pw_close.specs.Graphs.{IsKept}
 use Rattle.pw_close.proofs.Closing.{way_kept, kept_way}
@@ -99,17 +99,16 @@ parent_read levels n p x low is e = is ∙ (get_or_default levels.parent.items n
 
 -- ---- the loop
 
--- the path climbs as far as a function whose level is what is left
+-- the path climbs i edges, as far as a function whose level is what is left
 abbrev pub Climbing : Levels → ℕ → ℕ → ℕ → ℕ → List ℕ → Type 0
-Climbing levels n level i at path = Climbs levels n at path × (level_of levels at ≡ Some (level - i))
+Climbing levels n level i at path = Climbs levels n at path × (level_of levels at ≡ Some (level - i)) × (length path ≡ suc i)
 
 pub first_climb : (levels : Levels) (n level : ℕ) (ys xs : List ℕ) → ys ≡ [] → xs ≡ ys ++ n ∷ [] → level_of levels n ≡ Some level →
     Climbing levels n level 0 n xs
 first_climb levels n level ys xs none is e =
-    let all : level ≡ level - 0 = omega arith in (
-      subst (Climbs levels n n) (sym (is ∙ ap (λ zs. zs ++ n ∷ []) none)) (climbs_none levels n),
-      subst (λ k. level_of levels n ≡ Some k) all e,
-    )
+    let all : level ≡ level - 0 = omega arith in
+    let one : xs ≡ n ∷ [] = is ∙ ap (λ zs. zs ++ n ∷ []) none in
+    (subst (Climbs levels n n) (sym one) (climbs_none levels n), subst (λ k. level_of levels n ≡ Some k) all e, ap length one)
 
 pub more_climb : (levels : Levels) (n level i at q : ℕ) (x : Option ℕ) (path new : List ℕ) → HaveParents levels →
     Climbing levels n level i at path → i < level → x ≡ get_or levels.parent.items at x → x ≡ Some q → new ≡ path ++ q ∷ [] →
@@ -117,13 +116,21 @@ pub more_climb : (levels : Levels) (n level i at q : ℕ) (x : Option ℕ) (path
 more_climb levels n level i at q x path new h c low is some e =
     let range = parent_in_range levels at (level - i) h c.1 in
     let up = next_up levels at level i h c.1 low in
-    let same : up.0 ≡ q = some_is (sym (parent_read levels at up.0 x range is up.1) ∙ some) in (
+    let same : up.0 ≡ q = some_is (sym (parent_read levels at up.0 x range is up.1) ∙ some) in
+    let longer : length new ≡ length path + 1 = ap length e ∙ length-append path (q ∷ []) in (
       subst (Climbs levels n q) (sym e) (climbs_more levels n at q path c.0 (subst (λ p. parent_of levels at ≡ Some p) same up.1)),
       subst (λ p. level_of levels p ≡ Some (level - (i + 1))) same up.2,
+      (let l = c.2 in omega (arith, l, longer)),
     )
 
-pub last_climb : (levels : Levels) (n level i at : ℕ) (path : List ℕ) → Climbing levels n level i at path → level ≤ i →
-    IsPath levels n (reverse path)
-last_climb levels n level i at path c end =
+pub last_climb : (levels : Levels) (n level i at : ℕ) (path new : List ℕ) → level_of levels n ≡ Some level →
+    Climbing levels n level i at path → level ≤ i → i ≤ level → new ≡ reverse path → LeadsTo levels n new
+last_climb levels n level i at path new is c end within e =
     let none : level - i ≡ 0 = omega arith in
-    path_found levels n at path c.0 (subst (λ k. level_of levels at ≡ Some k) none c.1)
+    let same : length new ≡ length path = ap length e ∙ length-reverse path in
+    record {
+      level = level;
+      level_is = is;
+      length_is = (let l = c.2 in omega (arith, l, same, end, within));
+      is = subst (IsPath levels n) (sym e) (path_found levels n at path c.0 (subst (λ k. level_of levels at ≡ Some k) none c.1));
+    }

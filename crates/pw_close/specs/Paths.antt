@@ -20,8 +20,15 @@ pub record HaveParents (levels : Levels) : Type 0 where
   pub parents_all : length levels.parent.items ≡ length levels.level.items
   pub parent : (n k : ℕ) → level_of levels n ≡ Some (suc k) → (p : ℕ) × (parent_of levels n ≡ Some p) × (level_of levels p ≡ Some k)
 
--- the path, or that the function is not kept
+-- A path to a function of level k has k + 1 functions.
+pub record LeadsTo (levels : Levels) (n : ℕ) (path : List ℕ) : Type 0 where
+  pub level : ℕ
+  pub level_is : level_of levels n ≡ Some level
+  pub length_is : length path ≡ suc level
+  pub is : IsPath levels n path
+
+-- the path to a kept function, or that the function is not kept
 abbrev pub FindsPath : Levels → ℕ → Result (Option (Vec ℕ Global)) NoMemory → Type 0
-FindsPath levels n (Ok (Some path)) = IsPath levels n path.items
+FindsPath levels n (Ok (Some path)) = LeadsTo levels n path.items
 FindsPath levels n (Ok None) = level_of levels n ≡ None
 FindsPath levels n (Err e) = ⊤

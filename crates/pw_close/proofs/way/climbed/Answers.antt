@@ -1,7 +1,6 @@
 -- One parent more.
 use Rattle.std.proofs.Common.{rules, refl, subst, sym}
 use Rattle.std.specs.Prelude.{IsSome}
-use Rattle.pw_close.specs.Paths.{IsPath}
 use Rattle.pw_close.proofs.Ways.{first_climb, more_climb, last_climb, next_up, parent_in_range, parent_read}
 use Rattle.pw_close.proofs.way.climbed.Goals as goal
 
@@ -24,4 +23,4 @@ loop-edge-preserved c =
 
 pub returns : goal.returns
 returns c =
-    subst (IsPath c.args.levels.now c.args.n) (sym c.reverse.ensures.items) (last_climb _ _ _ _ _ _ c.loop-edge.invariant c.loop-edge-test.false)
+    last_climb _ _ _ _ _ _ _ c.requires.level c.loop-edge.invariant c.loop-edge-test.false c.loop-edge.auto._edge-end c.reverse.ensures.items
