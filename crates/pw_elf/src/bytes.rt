@@ -1,5 +1,5 @@
 //! Single bytes and the identification bytes at an offset.
-ghost use Rattle.std.specs.Prelude.{◌≡◌, ◌+◌, ◌≤◌, ◌<◌, ◌++◌, length, MatchOption, OnOk};
+ghost use Rattle.std.specs.Prelude.{◌≡◌, ◌+◌, ◌≤◌, ◌<◌, ◌++◌, length, MatchOption, OnOk, OnErr};
 ghost use Rattle.std.specs.Option.{option_map};
 ghost use Rattle.pw_base.specs.Field.{field, field_at};
 ghost use Rattle.pw_base.specs.Structs.{bytes_at};
@@ -24,6 +24,7 @@ pub(crate) fn u8_at(bytes: &[u8], off: u64) -> Option<u8>
 /// Appends the byte.
 pub(crate) fn put_u8(to: &mut Vec<u8>, n: u8) -> Result<(), NoMemory>
     ensures ok { OnOk result (to.new.items ≡ to.old.items ++ field 1 n) }
+    ensures err { OnErr result (to.new.items ≡ to.old.items) }
 {
     to.extend_from_slice(&[n])?;
     Ok(())

@@ -1,5 +1,5 @@
 //! An entry of the dynamic section (gABI, "Dynamic Section").
-ghost use Rattle.std.specs.Prelude.{◌≡◌, ◌+◌, ◌≤◌, ◌<◌, ◌++◌, length, MatchOption, OnOk};
+ghost use Rattle.std.specs.Prelude.{◌≡◌, ◌+◌, ◌≤◌, ◌<◌, ◌++◌, length, take, MatchOption, OnOk, OnErr};
 ghost use Rattle.std.specs.Option.{option_map};
 ghost use Rattle.pw_base.specs.Structs as plain;
 ghost use Rattle.pw_elf.specs.Views.{dynamic_of};
@@ -32,10 +32,11 @@ pub fn dynamic_at(bytes: &[u8], off: u64) -> Option<Dynamic>
     Some(Dynamic { tag, val })
 }
 
-/// Appends the struct; where memory is refused, a front of it may stand there.
+/// Appends the struct; where memory is refused, what was there stays, and some of the struct may stand after it.
 #[tactic(auto, unfolding(pw_base::specs::Structs::dynamic_bytes))]
 pub fn put_dynamic(to: &mut Vec<u8>, value: &Dynamic) -> Result<(), NoMemory>
-    ensures { OnOk result (to.new.items ≡ to.old.items ++ plain.dynamic_bytes (dynamic_of value.now)) }
+    ensures ok { OnOk result (to.new.items ≡ to.old.items ++ plain.dynamic_bytes (dynamic_of value.now)) }
+    ensures err { OnErr result (take (length to.old.items) to.new.items ≡ to.old.items) }
 {
     put_u64(to, value.tag.cast_unsigned())?;
     put_u64(to, value.val)?;

@@ -1,5 +1,5 @@
 //! The file header (gABI, "ELF Header").
-ghost use Rattle.std.specs.Prelude.{◌≡◌, ◌+◌, ◌≤◌, ◌<◌, ◌++◌, length, MatchOption, OnOk};
+ghost use Rattle.std.specs.Prelude.{◌≡◌, ◌+◌, ◌≤◌, ◌<◌, ◌++◌, length, take, MatchOption, OnOk, OnErr};
 ghost use Rattle.std.specs.Option.{option_map};
 ghost use Rattle.pw_base.specs.Structs as plain;
 ghost use Rattle.pw_elf.specs.Views.{header_of};
@@ -84,10 +84,11 @@ pub fn header_at(bytes: &[u8], off: u64) -> Option<Header>
     })
 }
 
-/// Appends the struct; where memory is refused, a front of it may stand there.
+/// Appends the struct; where memory is refused, what was there stays, and some of the struct may stand after it.
 #[tactic(auto, unfolding(pw_base::specs::Structs::header_bytes))]
 pub fn put_header(to: &mut Vec<u8>, value: &Header) -> Result<(), NoMemory>
-    ensures { OnOk result (to.new.items ≡ to.old.items ++ plain.header_bytes (header_of value.now)) }
+    ensures ok { OnOk result (to.new.items ≡ to.old.items ++ plain.header_bytes (header_of value.now)) }
+    ensures err { OnErr result (take (length to.old.items) to.new.items ≡ to.old.items) }
 {
     to.extend_from_slice(&value.ident)?;
     put_u16(to, value.kind)?;

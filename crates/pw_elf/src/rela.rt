@@ -1,5 +1,5 @@
 //! A relocation with an addend (gABI, "Relocation").
-ghost use Rattle.std.specs.Prelude.{◌≡◌, ◌+◌, ◌≤◌, ◌<◌, ◌++◌, length, MatchOption, OnOk};
+ghost use Rattle.std.specs.Prelude.{◌≡◌, ◌+◌, ◌≤◌, ◌<◌, ◌++◌, length, take, MatchOption, OnOk, OnErr};
 ghost use Rattle.std.specs.Option.{option_map};
 ghost use Rattle.pw_base.specs.Structs as plain;
 ghost use Rattle.pw_elf.specs.Views.{rela_of};
@@ -39,10 +39,11 @@ pub fn rela_at(bytes: &[u8], off: u64) -> Option<Rela>
     })
 }
 
-/// Appends the struct; where memory is refused, a front of it may stand there.
+/// Appends the struct; where memory is refused, what was there stays, and some of the struct may stand after it.
 #[tactic(auto, unfolding(pw_base::specs::Structs::rela_bytes))]
 pub fn put_rela(to: &mut Vec<u8>, value: &Rela) -> Result<(), NoMemory>
-    ensures { OnOk result (to.new.items ≡ to.old.items ++ plain.rela_bytes (rela_of value.now)) }
+    ensures ok { OnOk result (to.new.items ≡ to.old.items ++ plain.rela_bytes (rela_of value.now)) }
+    ensures err { OnErr result (take (length to.old.items) to.new.items ≡ to.old.items) }
 {
     put_u64(to, value.offset)?;
     put_u64(to, value.info)?;

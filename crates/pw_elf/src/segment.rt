@@ -1,5 +1,5 @@
 //! A program header (gABI, "Program Header").
-ghost use Rattle.std.specs.Prelude.{◌≡◌, ◌+◌, ◌≤◌, ◌<◌, ◌++◌, length, MatchOption, OnOk};
+ghost use Rattle.std.specs.Prelude.{◌≡◌, ◌+◌, ◌≤◌, ◌<◌, ◌++◌, length, take, MatchOption, OnOk, OnErr};
 ghost use Rattle.std.specs.Option.{option_map};
 ghost use Rattle.pw_base.specs.Structs as plain;
 ghost use Rattle.pw_elf.specs.Views.{segment_of};
@@ -59,10 +59,11 @@ pub fn segment_at(bytes: &[u8], off: u64) -> Option<Segment>
     })
 }
 
-/// Appends the struct; where memory is refused, a front of it may stand there.
+/// Appends the struct; where memory is refused, what was there stays, and some of the struct may stand after it.
 #[tactic(auto, unfolding(pw_base::specs::Structs::segment_bytes))]
 pub fn put_segment(to: &mut Vec<u8>, value: &Segment) -> Result<(), NoMemory>
-    ensures { OnOk result (to.new.items ≡ to.old.items ++ plain.segment_bytes (segment_of value.now)) }
+    ensures ok { OnOk result (to.new.items ≡ to.old.items ++ plain.segment_bytes (segment_of value.now)) }
+    ensures err { OnErr result (take (length to.old.items) to.new.items ≡ to.old.items) }
 {
     put_u32(to, value.kind)?;
     put_u32(to, value.flags)?;

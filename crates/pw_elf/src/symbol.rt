@@ -1,5 +1,5 @@
 //! A symbol (gABI, "Symbol Table").
-ghost use Rattle.std.specs.Prelude.{◌≡◌, ◌+◌, ◌≤◌, ◌<◌, ◌++◌, length, MatchOption, OnOk};
+ghost use Rattle.std.specs.Prelude.{◌≡◌, ◌+◌, ◌≤◌, ◌<◌, ◌++◌, length, take, MatchOption, OnOk, OnErr};
 ghost use Rattle.std.specs.Option.{option_map};
 ghost use Rattle.pw_base.specs.Structs as plain;
 ghost use Rattle.pw_elf.specs.Views.{symbol_of};
@@ -52,10 +52,11 @@ pub fn symbol_at(bytes: &[u8], off: u64) -> Option<Sym>
     })
 }
 
-/// Appends the struct; where memory is refused, a front of it may stand there.
+/// Appends the struct; where memory is refused, what was there stays, and some of the struct may stand after it.
 #[tactic(auto, unfolding(pw_base::specs::Structs::symbol_bytes))]
 pub fn put_symbol(to: &mut Vec<u8>, value: &Sym) -> Result<(), NoMemory>
-    ensures { OnOk result (to.new.items ≡ to.old.items ++ plain.symbol_bytes (symbol_of value.now)) }
+    ensures ok { OnOk result (to.new.items ≡ to.old.items ++ plain.symbol_bytes (symbol_of value.now)) }
+    ensures err { OnErr result (take (length to.old.items) to.new.items ≡ to.old.items) }
 {
     put_u32(to, value.name)?;
     put_u8(to, value.info)?;
