@@ -1,6 +1,6 @@
 //! Does what the words ask for.
 ghost use Rattle.std.specs.Prelude.{◌≡◌};
-ghost use Rattle.pw_cmd.specs.Comes.{outside, Comes};
+ghost use Rattle.pw_cmd.specs.Comes.{Outside, Comes};
 ghost use Rattle.pw_cmd.specs.Words.{texts};
 
 use crate::answer::{Outcome, Stop};
@@ -21,8 +21,8 @@ pub fn perform<S: Store, I: Source, O: Sink, M: Memory>(
     mem: &mut M,
 ) -> Result<Outcome, Stop>
     ensures { Comes (texts words.now)
-        (outside (S.state store.old) (I.state input.old) (O.state out.old) (M.mem mem.old) (M.fetches mem.old) (M.told mem.old))
-        (outside (S.state store.new) (I.state input.new) (O.state out.new) (M.mem mem.new) (M.fetches mem.new) (M.told mem.new))
+        (record { store = S.state store.old; input = I.state input.old; out = O.state out.old; mem = M.mem mem.old; fetches = M.fetches mem.old; told = M.told mem.old })
+        (record { store = S.state store.new; input = I.state input.new; out = O.state out.new; mem = M.mem mem.new; fetches = M.fetches mem.new; told = M.told mem.new })
         result }
 {
     let Command::One(file) = command_of(alloc, words)?;
