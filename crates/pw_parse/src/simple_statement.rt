@@ -1,4 +1,6 @@
 //! Statements that hold expressions alone: locals, assignments, and expressions by themselves.
+#![tactic(auto, unfolding(pw_grammar::specs::Reading::Statements::test))]
+
 ghost use Rattle.std.specs.Prelude.{◌≡◌, Some};
 ghost use Rattle.pw_grammar.specs.Reading.Steps.{Reads};
 ghost use Rattle.pw_grammar.specs.Reading.Expressions as expressions;
@@ -147,7 +149,6 @@ pub(crate) fn evaluated(
 }
 
 /// `( e )`
-#[tactic(auto, unfolding(pw_grammar::specs::Reading::Statements::test))]
 pub(crate) fn test(
     alloc: Global,
     cursor: &mut Cursor<'_>,
