@@ -26,7 +26,7 @@ fn graph(alloc: Global, row: &Row) -> Result<Graph, AllocError> {
         edges.push(targets.to_vec(alloc)?)?;
     }
     Ok(Graph {
-        funs: row.edges.len() as u32,
+        funs: u32::try_from(row.edges.len()).unwrap_or(0),
         edges,
         roots: row.roots.to_vec(alloc)?,
     })
@@ -52,9 +52,9 @@ pub(crate) fn agree(rt: &impl Abort, alloc: Global, row: &Row) -> Result<(), Fai
     }
     kept_functions_have_levels();
     for (n, want) in row.paths.iter().enumerate() {
-        assert!(rt; n < levels.level.len(), "{why}");
+        assert!(rt; n < levels.level.len() && n < 100, "{why}");
         match path(alloc, &levels, n as u32)? {
-            Some(found) => assert_eq!(rt; found.as_slice(), *want, "{why}"),
+            Some(found) => assert!(rt; found.as_slice() == *want, "{why}"),
             None => assert!(rt; want.is_empty(), "{why}"),
         }
     }
