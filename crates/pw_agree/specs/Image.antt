@@ -2,6 +2,8 @@
 use Rattle.std.specs.Prelude.{ℕ, ◌+◌, ◌-◌, ◌*◌, ◌/◌, ◌^◌, ◌≤◌, Bool, true, false, not, List, [], ◌∷◌, ◌++◌, take, find, sum_by, flat_map, codes, bytes_eq, All, Option, if◌then◌else◌}
 use Rattle.std.specs.List.{prefix_len}
 use Rattle.pw_base.specs.Bytes.{le_bytes}
+use Rattle.pw_base.specs.Limits.{module_span, text_offset, data_offset}
+use Rattle.pw_base.specs.Limits as limits
 use Rattle.pw_first.specs.declared.writer.Writer.{Writer}
 use Rattle.pw_code.specs.Items.{size}
 use Rattle.pw_code.specs.Scheme.{function_items, words, entry_items, entry_words, HasSmallNumbers}
@@ -11,16 +13,16 @@ use Rattle.pw_mem.specs.Words.{text_bytes}
 
 -- where the text, the data and the stack stand, and how many bytes the stack has
 abbrev pub text_start : ℕ
-text_start = 0x5000000
+text_start = module_span + text_offset
 
 abbrev pub data_start : ℕ
-data_start = 0x6000000
+data_start = module_span + data_offset
 
 abbrev pub stack_start : ℕ
-stack_start = 0x100000000
+stack_start = limits.stack_start
 
 abbrev pub stack_len : ℕ
-stack_len = 0x200000
+stack_len = limits.stack_bytes
 
 -- the number of words of a function
 abbrev pub function_size : Writer → ℕ
