@@ -1,0 +1,2 @@
+pub mod IllTyped
+pub mod WellTyped
