@@ -67,8 +67,14 @@ simple_fine at ts (assign x q a) h = part_by_form (statement-Set at ts _ None _)
 simple_fine at ts (assign_element x o i c q a) h =
     let later = small_right (spelled i) (c ∷ q ∷ spelled a) h.1.1 in
     part_by_form (statement-Set at ts _ (Some _) _)
-    (record { simple = tt; fine = record { proper = tt; plain = λ _. tt;
-      numbers = (numbers (suc (suc at)) i (small_left (spelled i) (c ∷ q ∷ spelled a) h.1.1), numbers (suc (suc (suc (suc at) + length (spelled i)))) a later.1.1) } })
+    (record {
+      simple = tt;
+      fine = record {
+        proper = tt;
+        plain = λ _. tt;
+        numbers = (numbers (suc (suc at)) i (small_left (spelled i) (c ∷ q ∷ spelled a) h.1.1), numbers (suc (suc (suc (suc at) + length (spelled i)))) a later.1.1);
+      };
+    })
 simple_fine at ts (phrase.evaluate a) h = part_by_form (statement-Eval at ts _)
     (record { simple = tt; fine = record { proper = tt; plain = λ _. tt; numbers = numbers at a h } })
 
@@ -135,28 +141,40 @@ mutual
       let later = small_right (spelled a) (c ∷ spelled_statement y) h.1.1 in
       let f = statement_fine false (after_test at a) y is.4 later.1 in
       by_form (statement-If at (spelled_statement (if_only t o a c y)) _ _ None)
-      (record { proper = (f.plain refl, tt, f.proper, tt); plain = λ _. tt;
-        numbers = (numbers (suc (suc at)) a (small_left (spelled a) (c ∷ spelled_statement y) h.1.1), f.numbers, tt) })
+      (record {
+        proper = (f.plain refl, tt, f.proper, tt);
+        plain = λ _. tt;
+        numbers = (numbers (suc (suc at)) a (small_left (spelled a) (c ∷ spelled_statement y) h.1.1), f.numbers, tt);
+      })
   statement_fine declares at (phrase.if_else t o a c y e n) is h =
       let later = small_right (spelled a) (c ∷ (spelled_statement y ++ e ∷ spelled_statement n)) h.1.1 in
       let last = small_right (spelled_statement y) (e ∷ spelled_statement n) later.1 in
       let f = statement_fine false (after_test at a) y is.4 (small_left (spelled_statement y) (e ∷ spelled_statement n) later.1) in
       let g = statement_fine false (after_part (after_test at a) y) n is.7 last.1 in
       by_form (statement-If at (spelled_statement (phrase.if_else t o a c y e n)) _ _ (Some _))
-      (record { proper = (f.plain refl, g.plain refl, f.proper, g.proper); plain = λ _. tt;
-        numbers = (numbers (suc (suc at)) a (small_left (spelled a) (c ∷ (spelled_statement y ++ e ∷ spelled_statement n)) h.1.1), f.numbers, g.numbers) })
+      (record {
+        proper = (f.plain refl, g.plain refl, f.proper, g.proper);
+        plain = λ _. tt;
+        numbers = (numbers (suc (suc at)) a (small_left (spelled a) (c ∷ (spelled_statement y ++ e ∷ spelled_statement n)) h.1.1), f.numbers, g.numbers);
+      })
   statement_fine declares at (while_do t o a c y) is h =
       let later = small_right (spelled a) (c ∷ spelled_statement y) h.1.1 in
       let f = statement_fine false (after_test at a) y is.4 later.1 in
       by_form (statement-While at (spelled_statement (while_do t o a c y)) _ _)
-      (record { proper = (f.plain refl, f.proper); plain = λ _. tt;
-        numbers = (numbers (suc (suc at)) a (small_left (spelled a) (c ∷ spelled_statement y) h.1.1), f.numbers) })
+      (record {
+        proper = (f.plain refl, f.proper);
+        plain = λ _. tt;
+        numbers = (numbers (suc (suc at)) a (small_left (spelled a) (c ∷ spelled_statement y) h.1.1), f.numbers);
+      })
   statement_fine declares at (do_while t y w o a c e) is h =
       let later = small_right (spelled_statement y) (w ∷ o ∷ (spelled a ++ c ∷ e ∷ [])) h.1 in
       let f = statement_fine false (suc at) y is.1 (small_left (spelled_statement y) (w ∷ o ∷ (spelled a ++ c ∷ e ∷ [])) h.1) in
       by_form (statement-Do at (spelled_statement (do_while t y w o a c e)) _ _)
-      (record { proper = (f.plain refl, f.proper); plain = λ _. tt;
-        numbers = (f.numbers, numbers (suc (after_part (suc at) y)) a (small_left (spelled a) (c ∷ e ∷ []) later.1.1)) })
+      (record {
+        proper = (f.plain refl, f.proper);
+        plain = λ _. tt;
+        numbers = (f.numbers, numbers (suc (after_part (suc at) y)) a (small_left (spelled a) (c ∷ e ∷ []) later.1.1));
+      })
   statement_fine declares at (for_do t o start a e step c y) is h =
       let second = small_right (spelled_start start) (spelled_maybe a ++ e ∷ (spelled_step step ++ c ∷ spelled_statement y)) h.1.1 in
       let third = small_right (spelled_maybe a) (e ∷ (spelled_step step ++ c ∷ spelled_statement y)) second in
@@ -166,9 +184,17 @@ mutual
       (small_left (spelled_step step) (c ∷ spelled_statement y) third.1) in
       let k = statement_fine false (after_head at start a step) y is.7 last.1 in
       by_form (statement-For at (spelled_statement (for_do t o start a e step c y)) _ _ _ _)
-      (record { proper = (f.first, g.last, k.plain refl, f.proper, k.proper); plain = λ _. tt;
-        numbers = (f.numbers, maybe_numbers (suc (suc at) + length (spelled_start start)) a
-            (small_left (spelled_maybe a) (e ∷ (spelled_step step ++ c ∷ spelled_statement y)) second), g.numbers, k.numbers) })
+      (record {
+        proper = (f.first, g.last, k.plain refl, f.proper, k.proper);
+        plain = λ _. tt;
+        numbers = (
+          f.numbers,
+          maybe_numbers (suc (suc at) + length (spelled_start start)) a
+              (small_left (spelled_maybe a) (e ∷ (spelled_step step ++ c ∷ spelled_statement y)) second),
+          g.numbers,
+          k.numbers,
+        );
+      })
   statement_fine declares at (leave t a e) is h =
       by_form (statement-Return at (spelled_statement (leave t a e)) _)
       (record { proper = tt; plain = λ _. tt; numbers = maybe_numbers (suc at) a (small_left (spelled_maybe a) (e ∷ []) h.1) })

@@ -36,18 +36,20 @@ more_elements_small : (at : ℕ) (xs : MoreElements) → AreSmall (spelled_more_
 unfolding spelled_more_elements more_elements_of
 more_elements_small at phrase.end h = tt
 more_elements_small at (comma t) h = tt
-more_elements_small at (phrase.more t x xs) h =
-    (element_small (suc at) x (small_left (spelled_element x) (spelled_more_elements xs) h.1),
-    more_elements_small (suc at + length (spelled_element x)) xs (small_right (spelled_element x) (spelled_more_elements xs) h.1))
+more_elements_small at (phrase.more t x xs) h = (
+  element_small (suc at) x (small_left (spelled_element x) (spelled_more_elements xs) h.1),
+  more_elements_small (suc at + length (spelled_element x)) xs (small_right (spelled_element x) (spelled_more_elements xs) h.1),
+)
 
 elements_small : (at : ℕ) (v : VariableDerivation) → AreSmall (spelled_variable v) → HaveElementNumbers (elements_of at v)
 elements_small at scalar h = tt
 elements_small at (scalar_set q x) h = (element_small (at + 1) x h.1, tt)
 elements_small at (array o n c) h = tt
 elements_small at (array_set o n c q b x xs e) h =
-    let later = small_right (spelled_element x) (spelled_more_elements xs ++ e ∷ []) h.1.1.1.1.1 in
-    (element_small (at + 5) x (small_left (spelled_element x) (spelled_more_elements xs ++ e ∷ []) h.1.1.1.1.1),
-    more_elements_small (at + 5 + length (spelled_element x)) xs (small_left (spelled_more_elements xs) (e ∷ []) later))
+    let later = small_right (spelled_element x) (spelled_more_elements xs ++ e ∷ []) h.1.1.1.1.1 in (
+      element_small (at + 5) x (small_left (spelled_element x) (spelled_more_elements xs ++ e ∷ []) h.1.1.1.1.1),
+      more_elements_small (at + 5 + length (spelled_element x)) xs (small_left (spelled_more_elements xs) (e ∷ []) later),
+    )
 
 -- ---- declarations
 
@@ -114,9 +116,10 @@ declarations_proper : (at : ℕ) (cs : UnitDerivation) → IsUnit cs → AreSmal
     AllByRecursion IsProperDeclaration (map declaration_of (trees_of_declarations at cs))
 unfolding IsUnit spelled_unit trees_of_declarations
 declarations_proper at [] is h timely = tt
-declarations_proper at (c ∷ cs) is h timely =
-    (declaration_proper at c is.0 (small_left (spelled_declaration c) (spelled_unit cs) h) (timely_here c cs timely),
-    declarations_proper (at + length (spelled_declaration c)) cs is.1 (small_right (spelled_declaration c) (spelled_unit cs) h) (timely_later c cs timely))
+declarations_proper at (c ∷ cs) is h timely = (
+  declaration_proper at c is.0 (small_left (spelled_declaration c) (spelled_unit cs) h) (timely_here c cs timely),
+  declarations_proper (at + length (spelled_declaration c)) cs is.1 (small_right (spelled_declaration c) (spelled_unit cs) h) (timely_later c cs timely),
+)
 
 -- ---- no fault
 
@@ -135,13 +138,16 @@ late_within (c ∷ cs) t (inr later) =
 timely : (tokens : List Token) (unit : Unit) (d : Derives tokens unit) → IsFaultless tokens → AreTimely d.phrase
 timely tokens unit d faultless t late =
     let within : t < length tokens = omega (arith, late_within d.phrase t late, ap length d.spells) in
-    faultless (TooLong t) (within, record {
-      phrase = d.phrase;
-      is = d.is;
-      rest = drop (suc t) tokens;
-      spells = d.spells ∙ sym (take-append-drop (suc t) tokens);
-      late = late;
-    })
+    faultless (TooLong t) (
+      within,
+      record {
+        phrase = d.phrase;
+        is = d.is;
+        rest = drop (suc t) tokens;
+        spells = d.spells ∙ sym (take-append-drop (suc t) tokens);
+        late = late;
+      },
+    )
 
 lines_small : (tokens : List Token) → AreSmall tokens → AllByRecursion (λ line. line < 2 ^ 32) (lines_of tokens)
 lines_small [] h = tt

@@ -34,14 +34,18 @@ mutual
       subst HasNumbers (sym (node-Output at _ k _)) (h.0.line, numbers (suc (suc at)) a (small_left (spelled a) (c ∷ []) h.1.1))
   numbers at (call f o xs c) h =
       let later = small_right (spelled f) (o ∷ (spelled_arguments xs ++ c ∷ [])) h in
-      subst HasNumbers (sym (node-Call at _ o _ _))
-      (later.0.line, numbers at f (small_left (spelled f) (o ∷ (spelled_arguments xs ++ c ∷ [])) h),
-      argument_numbers (suc (at + length (spelled f))) xs (small_left (spelled_arguments xs) (c ∷ []) later.1))
+      subst HasNumbers (sym (node-Call at _ o _ _)) (
+        later.0.line,
+        numbers at f (small_left (spelled f) (o ∷ (spelled_arguments xs ++ c ∷ [])) h),
+        argument_numbers (suc (at + length (spelled f))) xs (small_left (spelled_arguments xs) (c ∷ []) later.1),
+      )
   numbers at (index a o i c) h =
       let later = small_right (spelled a) (o ∷ (spelled i ++ c ∷ [])) h in
-      subst HasNumbers (sym (node-Index at _ o _ _))
-      (later.0.line, numbers at a (small_left (spelled a) (o ∷ (spelled i ++ c ∷ [])) h),
-      numbers (suc (at + length (spelled a))) i (small_left (spelled i) (c ∷ []) later.1))
+      subst HasNumbers (sym (node-Index at _ o _ _)) (
+        later.0.line,
+        numbers at a (small_left (spelled a) (o ∷ (spelled i ++ c ∷ [])) h),
+        numbers (suc (at + length (spelled a))) i (small_left (spelled i) (c ∷ []) later.1),
+      )
   numbers at (prefixed t a) h = subst HasNumbers (sym (node-Unary at _ t _ _)) (h.0.line, numbers (suc at) a h.1)
   numbers at (binary a t b) h =
       let later = small_right (spelled a) (t ∷ spelled b) h in
@@ -50,10 +54,12 @@ mutual
   numbers at (choice c q a m b) h =
       let later = small_right (spelled c) (q ∷ (spelled a ++ m ∷ spelled b)) h in
       let last = small_right (spelled a) (m ∷ spelled b) later.1 in
-      subst HasNumbers (sym (node-Cond at _ q _ _ _))
-      (later.0.line, numbers at c (small_left (spelled c) (q ∷ (spelled a ++ m ∷ spelled b)) h),
-      numbers (suc (at + length (spelled c))) a (small_left (spelled a) (m ∷ spelled b) later.1),
-      numbers (suc (suc (at + length (spelled c)) + length (spelled a))) b last.1)
+      subst HasNumbers (sym (node-Cond at _ q _ _ _)) (
+        later.0.line,
+        numbers at c (small_left (spelled c) (q ∷ (spelled a ++ m ∷ spelled b)) h),
+        numbers (suc (at + length (spelled c))) a (small_left (spelled a) (m ∷ spelled b) later.1),
+        numbers (suc (suc (at + length (spelled c)) + length (spelled a))) b last.1,
+      )
 
   argument_numbers : (at : ℕ) (xs : Arguments) → AreSmall (spelled_arguments xs) → HaveNumbers (expressions_of (argument_trees at xs))
   argument_numbers at nothing h = tt
@@ -62,9 +68,10 @@ mutual
 
   more_numbers : (at : ℕ) (xs : More) → AreSmall (spelled_more xs) → HaveNumbers (expressions_of (more_argument_trees at xs))
   more_numbers at end h = tt
-  more_numbers at (more t a xs) h =
-      (numbers (suc at) a (small_left (spelled a) (spelled_more xs) h.1),
-      more_numbers (suc at + length (spelled a)) xs (small_right (spelled a) (spelled_more xs) h.1))
+  more_numbers at (more t a xs) h = (
+    numbers (suc at) a (small_left (spelled a) (spelled_more xs) h.1),
+    more_numbers (suc at + length (spelled a)) xs (small_right (spelled a) (spelled_more xs) h.1),
+  )
 
 pub maybe_numbers : (at : ℕ) (a : Option ExpressionDerivation) → AreSmall (spelled_maybe a) → HasOptionNumbers (option_map expression_of (tree_of_maybe at a))
 maybe_numbers at None h = tt

@@ -290,12 +290,12 @@ module _ (w : Whole) (elements : ℕ) (d : Declaration) (files : List File) (goo
       AreFound b (declared_by d files) (entries ++ first_of d ∷ [])
   found_added b entries found stand does name f there defined kind = elim (cases_Bool (bytes_eq d.name name)) [
     | inl same ↦ is_now_found b (entries ++ first_of d ∷ []) name f (is_now name f same there) (λ x y. record {
-        entry = first_of d;
-        there = subst (λ n. file_named n (entries ++ first_of d ∷ []) ≡ Some (first_of d)) (bytes_same d.name name same)
-            (find_last d.name entries (first_of d) (lacks entries stand does) ∙ ap (λ b. cond b (Some (first_of d)) None) (bytes_itself d.name));
-        kind = sym now_kind;
-        linkage = sym now_linkage;
-      }) defined kind
+      entry = first_of d;
+      there = subst (λ n. file_named n (entries ++ first_of d ∷ []) ≡ Some (first_of d)) (bytes_same d.name name same)
+          (find_last d.name entries (first_of d) (lacks entries stand does) ∙ ap (λ b. cond b (Some (first_of d)) None) (bytes_itself d.name));
+      kind = sym now_kind;
+      linkage = sym now_linkage;
+    }) defined kind
     | inr other ↦ later (found name f (is_old name f other there) defined kind)
   ]
     where

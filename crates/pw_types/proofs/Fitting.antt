@@ -138,12 +138,15 @@ module _ (unit : TypedUnit) (classes : List Class) (known used : List ℕ) (scop
       type = pointed;
     }
     parts_fit (sound_element at base name f ty size i t is kind sound numeric) u = (
-      (record {
-        ty = ty;
-        variable = files.variable f ty (Some size) (own_file scope name f is) kind
-            (word_used scope used base name f is (among_left used (uses scope (word base name)) (uses scope i) u));
-        class_is = refl;
-      }, number_class (type_of t) numeric),
+      (
+        record {
+          ty = ty;
+          variable = files.variable f ty (Some size) (own_file scope name f is) kind
+              (word_used scope used base name f is (among_left used (uses scope (word base name)) (uses scope i) u));
+          class_is = refl;
+        },
+        number_class (type_of t) numeric,
+      ),
       parts_fit sound (among_right used (uses scope (word base name)) (uses scope i) u),
     )
     parts_fit (sound_unary at op ty e t sound value is) u =
@@ -153,8 +156,7 @@ module _ (unit : TypedUnit) (classes : List Class) (known used : List ℕ) (scop
         ((c.result, c.operands), parts_fit left (among_left used (uses scope l) (uses scope r) u), parts_fit right (among_right used (uses scope l) (uses scope r) u))
     parts_fit (sound_conditional at ty c a b t v w test first second value value' value'' is) u =
         let k = choice_classes (type_of v) (type_of w) ty is in
-        let others = among_right used (uses scope c) (uses scope a ++ uses scope b) u in
-        (
+        let others = among_right used (uses scope c) (uses scope a ++ uses scope b) u in (
           (value_class (type_of t) value, k.value, k.left, k.right),
           parts_fit test (among_left used (uses scope c) (uses scope a ++ uses scope b) u),
           parts_fit first (among_left used (uses scope a) (uses scope b) others),

@@ -90,9 +90,10 @@ module _ (unit : TypedUnit) (used : List ℕ) (scope : Scope) (fit : FilesFit un
       (back_empty (broken_by rules.Unknown item.last (name_in item.kind) (is_unknown_name scope item.kind)) _ own) in
       let less : n < size = within size n (or_right _ _ wrong) in
       let later = elements_fit size (suc n) items less (back_empty (faults_of_element scope ty size n item) _ none) small.1
-      (among_right used (uses_of_element scope item.kind) (uses_of_elements scope items) u) in
-      (omega (arith, later.0),
-      (one_element item.kind small.0 (or_left _ _ wrong) (among_left used (uses_of_element scope item.kind) (uses_of_elements scope items) u), later.1))
+      (among_right used (uses_of_element scope item.kind) (uses_of_elements scope items) u) in (
+        omega (arith, later.0),
+        (one_element item.kind small.0 (or_left _ _ wrong) (among_left used (uses_of_element scope item.kind) (uses_of_elements scope items) u), later.1),
+      )
 
 same_room : (size : Option ℕ) → declarations.room size ≡ room size
 same_room None = refl

@@ -119,7 +119,6 @@ base_is_array false s n p q h = cc
 
 module _ (scope : Scope) (role : Role) (at : Span) (name : List ℕ) (kept : NoOwn scope role (word at name))
     (base : is_base role ≡ true → array_of scope (word at name) ≡ None) where
-
   function_by : (f : File) (sig : Sig) (o : Option Ty) → meaning scope name ≡ declared f → f.kind ≡ Function sig → pointer_to sig ≡ o →
       SoundOf scope role (word at name)
   unfolding typed meaning
@@ -237,7 +236,6 @@ is_array_name scope (output at e) a h = cc
 -- ---- forms, over what their parts are
 
 module _ (scope : Scope) (role : Role) (at : Span) where
-
   unary_by : (op : Un) (e : Expression) → NoOwn scope role (unary at op e) → SoundOf scope Value e → SoundOf scope role (unary at op e)
   unfolding typed
   unary_by op e kept p =

@@ -67,8 +67,14 @@ mutual
   types_count (while_loop at c s) = types_count s
   types_count (do_loop at s c) = types_count s
   types_count (for_loop at first c last s) =
-      omega (arith, length-append (types_in_maybe first) (types_in_maybe last ++ types_in s), length-append (types_in_maybe last) (types_in s),
-      maybe_types_count first, maybe_types_count last, types_count s)
+      omega (
+        arith,
+        length-append (types_in_maybe first) (types_in_maybe last ++ types_in s),
+        length-append (types_in_maybe last) (types_in s),
+        maybe_types_count first,
+        maybe_types_count last,
+        types_count s,
+      )
   types_count (returns at e) = refl
   types_count (breaks at) = refl
   types_count (continues at) = refl
@@ -109,7 +115,7 @@ classes_from pre [] n e = tt
 classes_from pre (ty ∷ tys) n e = (
   subst (λ k. slice_get (map class_of (pre ++ ty ∷ tys)) k ≡ Some (class_of ty)) (sym e) (class_at pre tys ty),
   subst (λ l. HaveClasses (map class_of l) (suc n) tys) (append_assoc pre (ty ∷ []) tys)
-  (classes_from (pre ++ ty ∷ []) tys (suc n) (omega (arith, length-append pre (ty ∷ [])))),
+      (classes_from (pre ++ ty ∷ []) tys (suc n) (omega (arith, length-append pre (ty ∷ [])))),
 )
 
 -- ---- behind a statement
@@ -397,13 +403,18 @@ module _ (unit : TypedUnit) (used : List ℕ) (classes : List Class) where
         let later = among_right used (uses_of_name scope name) (uses scope i ++ uses scope e) u in
         record {
           fits = record {
-            classes_fit = (record {
-              ty = ty;
-              variable = p.files.variable f ty (Some size) (own_file scope name f is) kind (variable_used scope used name f is first);
-              class_is = converted_class _ ty value.fits;
-            }, number_class _ numeric);
-            parts = (parts Value i index (among_left used (uses scope i) (uses scope e) later),
-                parts (Assigned (Some ty)) e value (among_right used (uses scope i) (uses scope e) later));
+            classes_fit = (
+              record {
+                ty = ty;
+                variable = p.files.variable f ty (Some size) (own_file scope name f is) kind (variable_used scope used name f is first);
+                class_is = converted_class _ ty value.fits;
+              },
+              number_class _ numeric,
+            );
+            parts = (
+              parts Value i index (among_left used (uses scope i) (uses scope e) later),
+              parts (Assigned (Some ty)) e value (among_right used (uses scope i) (uses scope e) later),
+            );
           };
           reads = (reads Value i index, reads (Assigned (Some ty)) e value);
         }
@@ -437,28 +448,38 @@ module _ (unit : TypedUnit) (used : List ℕ) (classes : List Class) where
         (have_right classes b.count (behind a b).count (types_in a) (types_in_maybe d) (omega (arith, count_behind b a, types_count a)) k)
         (among_right used (uses_by b a) (uses_by_maybe (behind a b) d) later) q.3 h.2 in
         record {
-          fits = (record {
-            classes_fit = value_class _ h.0.typed_as.fits;
-            parts = parts known b.scope p Value c h.0.typed_as (among_left used (uses b.scope c) (uses_by b a ++ uses_by_maybe (behind a b) d) u);
-          }, r.fits, t.fits);
+          fits = (
+            record {
+              classes_fit = value_class _ h.0.typed_as.fits;
+              parts = parts known b.scope p Value c h.0.typed_as (among_left used (uses b.scope c) (uses_by b a ++ uses_by_maybe (behind a b) d) u);
+            },
+            r.fits,
+            t.fits,
+          );
           reads = (reads known b.scope p Value c h.0.typed_as, r.reads, t.reads);
         }
     flows x b (while_loop at c s) known p k u q h =
         let r = flows (body x) b s known p k (among_right used (uses b.scope c) (uses_by b s) u) q.1 h.1 in
         record {
-          fits = (record {
-            classes_fit = value_class _ h.0.typed_as.fits;
-            parts = parts known b.scope p Value c h.0.typed_as (among_left used (uses b.scope c) (uses_by b s) u);
-          }, r.fits);
+          fits = (
+            record {
+              classes_fit = value_class _ h.0.typed_as.fits;
+              parts = parts known b.scope p Value c h.0.typed_as (among_left used (uses b.scope c) (uses_by b s) u);
+            },
+            r.fits,
+          );
           reads = (reads known b.scope p Value c h.0.typed_as, r.reads);
         }
     flows x b (do_loop at s c) known p k u q h =
         let r = flows (body x) b s known p k (among_left used (uses_by b s) (uses b.scope c) u) q.1 h.0 in
         record {
-          fits = (record {
-            classes_fit = value_class _ h.1.typed_as.fits;
-            parts = parts known b.scope p Value c h.1.typed_as (among_right used (uses_by b s) (uses b.scope c) u);
-          }, r.fits);
+          fits = (
+            record {
+              classes_fit = value_class _ h.1.typed_as.fits;
+              parts = parts known b.scope p Value c h.1.typed_as (among_right used (uses_by b s) (uses b.scope c) u);
+            },
+            r.fits,
+          );
           reads = (r.reads, reads known b.scope p Value c h.1.typed_as);
         }
     flows x b (for_loop at first c last s) known p k u q h =
@@ -485,10 +506,15 @@ module _ (unit : TypedUnit) (used : List ℕ) (classes : List Class) where
         (among_left used us3 us4 v3) (last_proper last q.1) h.2 in
         let r4 = flows (body x) b2 s known1 place2 k3 (among_right used us3 us4 v3) q.4 h.3 in
         record {
-          fits = (record {
-            classes_fit = option_condition known1 b1.scope place1 c h.1;
-            parts = option_parts known1 b1.scope place1 Value c h.1 (among_left used us2 (us3 ++ us4) v2);
-          }, r1.fits, r3.fits, r4.fits);
+          fits = (
+            record {
+              classes_fit = option_condition known1 b1.scope place1 c h.1;
+              parts = option_parts known1 b1.scope place1 Value c h.1 (among_left used us2 (us3 ++ us4) v2);
+            },
+            r1.fits,
+            r3.fits,
+            r4.fits,
+          );
           reads = (r1.reads, option_reads known1 b1.scope place1 Value c h.1, r3.reads, r4.reads);
         }
     flows x b (returns at e) known p c u q h = return_flows known b.scope p x.result e h u

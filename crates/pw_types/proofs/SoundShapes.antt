@@ -270,9 +270,13 @@ mutual
   few_held x b (while_loop at c s) h = omega (arith, h.0.few, few_held (body x) b s h.1)
   few_held x b (do_loop at s c) h = omega (arith, h.1.few, few_held (body x) b s h.0)
   few_held x b (for_loop at first c last s) h =
-      omega (arith, maybe_few_held (head x) (inner b) first h.0, option_few (behind_maybe first (inner b)).scope Value c h.1,
-      maybe_few_held (head x) (behind_maybe first (inner b)) last h.2,
-      few_held (body x) (behind_maybe last (behind_maybe first (inner b))) s h.3)
+      omega (
+        arith,
+        maybe_few_held (head x) (inner b) first h.0,
+        option_few (behind_maybe first (inner b)).scope Value c h.1,
+        maybe_few_held (head x) (behind_maybe first (inner b)) last h.2,
+        few_held (body x) (behind_maybe last (behind_maybe first (inner b))) s h.3,
+      )
   few_held x b (returns at e) h = return_few x.result b.scope e h
   few_held x b (breaks at) h = omega arith
   few_held x b (continues at) h = omega arith
@@ -353,8 +357,13 @@ mutual
   counted x b (block at ss) low high l p h =
       omega (arith, all_counted (part x) (inner b) ss _ _ (omega arith) (omega (arith, p.0.some)) refl p.1 h)
   counted x b (local at ty name e) low high l p h =
-      omega (arith, name_behind at ty, p.1, option_counted b.scope (Assigned (Some ty)) e _ _ h.value p.2,
-      option_within e _ _ (omega (arith, p.1)) p.2)
+      omega (
+        arith,
+        name_behind at ty,
+        p.1,
+        option_counted b.scope (Assigned (Some ty)) e _ _ h.value p.2,
+        option_within e _ _ (omega (arith, p.1)) p.2,
+      )
   counted x b (set at name i e) low high l p h = omega (arith, set_counted p.1 h)
   counted x b (evaluate at e) low high l p h =
       let w = placed_within e p.1 in
@@ -362,9 +371,15 @@ mutual
   counted x b (if_else at c a d) low high l p h =
       let v = placed_within c p.1 in
       let w = statement_within false a p.2 in
-      omega (arith, expression_counted _ _ h.0.typed_as.sound p.1, v.from, counted (part x) b a _ _ (omega arith) p.2 h.1, w.from,
-      maybe_counted (part x) (behind a b) d _ _ (omega arith) p.3 h.2,
-      maybe_within false d _ _ (omega (arith, w.to)) p.3)
+      omega (
+        arith,
+        expression_counted _ _ h.0.typed_as.sound p.1,
+        v.from,
+        counted (part x) b a _ _ (omega arith) p.2 h.1,
+        w.from,
+        maybe_counted (part x) (behind a b) d _ _ (omega arith) p.3 h.2,
+        maybe_within false d _ _ (omega (arith, w.to)) p.3,
+      )
   counted x b (while_loop at c s) low high l p h =
       let v = placed_within c p.1 in
       let w = statement_within false s p.2 in

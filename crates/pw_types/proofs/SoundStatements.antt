@@ -290,20 +290,23 @@ mutual
   statement_sound x b (set at name i e) none = sound_set x b.scope at name i e none
   statement_sound x b (evaluate at e) none = is_whole b.scope AsStatement e refl none
   statement_sound x b (if_else at c a d) none =
-      let later = back_empty _ _ none in
-      (is_whole b.scope Value c refl (front_empty _ _ none), statement_sound (part x) b a (front_empty _ _ later),
-      maybe_sound (part x) (behind a b) d (back_empty _ _ later))
+      let later = back_empty _ _ none in (
+        is_whole b.scope Value c refl (front_empty _ _ none),
+        statement_sound (part x) b a (front_empty _ _ later),
+        maybe_sound (part x) (behind a b) d (back_empty _ _ later),
+      )
   statement_sound x b (while_loop at c s) none =
       (is_whole b.scope Value c refl (front_empty _ _ none), statement_sound (body x) b s (back_empty _ _ none))
   statement_sound x b (do_loop at s c) none =
       (statement_sound (body x) b s (front_empty _ _ none), is_whole b.scope Value c refl (back_empty _ _ none))
   statement_sound x b (for_loop at first c last s) none =
       let second = back_empty _ _ none in
-      let third = back_empty _ _ second in
-      (maybe_sound (head x) (inner b) first (front_empty _ _ none),
-      is_option_whole (behind_maybe first (inner b)).scope Value c refl (front_empty _ _ second),
-      maybe_sound (head x) (behind_maybe first (inner b)) last (front_empty _ _ third),
-      statement_sound (body x) (behind_maybe last (behind_maybe first (inner b))) s (back_empty _ _ third))
+      let third = back_empty _ _ second in (
+        maybe_sound (head x) (inner b) first (front_empty _ _ none),
+        is_option_whole (behind_maybe first (inner b)).scope Value c refl (front_empty _ _ second),
+        maybe_sound (head x) (behind_maybe first (inner b)) last (front_empty _ _ third),
+        statement_sound (body x) (behind_maybe last (behind_maybe first (inner b))) s (back_empty _ _ third),
+      )
   statement_sound x b (returns at e) none = sound_return x b.scope at e none
   statement_sound x b (breaks at) none = not_not _ (not_broken _ at.last (is_outside_loop x) none)
   statement_sound x b (continues at) none = not_not _ (not_broken _ at.last (is_outside_loop x) none)

@@ -66,9 +66,11 @@ module _ (unit : TypedUnit) (used : List ℕ) (w : Whole) (lines : AreSmallLines
       AllByRecursion (IsWellTypedFunction unit) (typed_functions_of w (declared_by d files) d f)
   functions_by files elements d (definition result params body) is fit good text proper placed order u =
       let none = subst (λ f. faults_of_form w.lines (file_scope w (declared_by d files)) f ≡ []) is good.form in
-      let params_none = subst (λ f. faults_of_parameters (is_definition_of_function f) [] (parameters_in f) ≡ []) is good.params in
-      (function_well_typed unit used w (declared_by d files) d result params body fit u none params_none text (subst IsFormProper is proper.proper)
-      (subst (IsShort d) is proper.short) proper.line (subst HasFormNumbers is proper.numbers) placed.1 order lines, tt)
+      let params_none = subst (λ f. faults_of_parameters (is_definition_of_function f) [] (parameters_in f) ≡ []) is good.params in (
+        function_well_typed unit used w (declared_by d files) d result params body fit u none params_none text (subst IsFormProper is proper.proper)
+            (subst (IsShort d) is proper.short) proper.line (subst HasFormNumbers is proper.numbers) placed.1 order lines,
+        tt,
+      )
   functions_by files elements d (prototype result params) is fit good text proper placed order u = tt
   functions_by files elements d (variable ty size items) is fit good text proper placed order u = tt
 
