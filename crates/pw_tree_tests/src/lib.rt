@@ -1,5 +1,6 @@
 //! What is a well-typed unit and what is not: units that were written out, each held against the definition by a law.
 #![tactic(auto)]
+
 ghost use Rattle.pw_tree_tests.specs.IllTyped.{NumberCalled, BreakAsLastPart, NumberForPointer, ParameterWithoutLocal, ReadTooEarly, ExternalByNumber, VariableCalled, TooManyPhrases};
 ghost use Rattle.pw_tree_tests.specs.WellTyped.{CountdownIsWellTyped};
 
