@@ -12,7 +12,7 @@ use Rattle.pw_lex.specs.Bytes.{Text}
 use Rattle.pw_lex.specs.Number.{limit}
 use Rattle.pw_lex.specs.Character.{is_plain, escaped, IsCharacter, plain, escape}
 use Rattle.pw_lex.specs.Fault.{Piece, white, line_comment, block_comment, token, bytes_of, StandsBefore}
-use Rattle.pw_lex.specs.Text.{HasTokens, Stand, is_newline, spelled, tokens_behind}
+use Rattle.pw_lex.specs.Text.{HasTokens, Stand, is_newline, spelled, tokens_after}
 use Rattle.pw_lex.specs.Token.{IsToken}
 use Rattle.pw_grammar.specs.Expressions.{value_in}
 use Rattle.pw_grammar.specs.Laws.{HasTree, IsSmallToken}
@@ -64,7 +64,7 @@ value_small bytes (Punct number) is = omega arith
 -- ---- tokens
 
 tokens_small : (before : Text) (pieces : List Piece) (rest : Text) → Stand pieces rest → length before + length (spelled pieces) < 2 ^ 32 →
-    AllByRecursion IsSmallToken (tokens_behind before pieces)
+    AllByRecursion IsSmallToken (tokens_after before pieces)
 tokens_small before [] rest stand short = tt
 tokens_small before (white byte ∷ pieces) rest stand short =
     tokens_small (before ++ bytes_of (white byte)) pieces rest stand.1
@@ -76,12 +76,13 @@ tokens_small before (block_comment body ∷ pieces) rest stand short =
     tokens_small (before ++ bytes_of (block_comment body)) pieces rest stand.1
     (omega (arith, length-append before (bytes_of (block_comment body)), length-append (bytes_of (block_comment body)) (spelled pieces)))
 tokens_small before (token bytes kind ∷ pieces) rest stand short =
-    let all = length-append bytes (spelled pieces) in
-    (record {
-      line = omega (arith, count_by-le-length is_newline before, token_ends bytes kind stand.0.token, all);
-      value = value_small bytes kind stand.0.token;
-    },
-    tokens_small (before ++ bytes) pieces rest stand.1 (omega (arith, length-append before bytes, all)))
+    let all = length-append bytes (spelled pieces) in (
+      record {
+        line = omega (arith, count_by-le-length is_newline before, token_ends bytes kind stand.0.token, all);
+        value = value_small bytes kind stand.0.token;
+      },
+      tokens_small (before ++ bytes) pieces rest stand.1 (omega (arith, length-append before bytes, all)),
+    )
 
 small_tokens : (text : Text) (tokens : List Token) → HasTokens text tokens → length text < 2 ^ 32 → AllByRecursion IsSmallToken tokens
 small_tokens text tokens has short =
