@@ -3,3 +3,4 @@ pub mod OneReading
 pub mod OneFault
 pub mod Weights
 pub mod Written
+pub mod WellTyped

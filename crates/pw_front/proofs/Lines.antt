@@ -28,7 +28,7 @@ not_white (Keyword number) is = cc
 not_white (Punct number) is = cc
 
 -- the first byte of a token ends no line
-token_ends : (bytes : Text) (kind : TokenKind) → IsToken bytes kind → 1 + count_by is_newline bytes ≤ length bytes
+pub token_ends : (bytes : Text) (kind : TokenKind) → IsToken bytes kind → 1 + count_by is_newline bytes ≤ length bytes
 token_ends [] kind is = absurd (token_begins [] kind is)
 token_ends (byte ∷ bytes) kind is =
     elim (cases_Bool (is_newline byte)) [

@@ -3,6 +3,7 @@ ghost use Rattle.std.specs.Prelude.{◌≡◌, ◌≢◌, ◌<◌, ◌≤◌, �
 ghost use Rattle.pw_grammar.specs.Faults.{IsFirstFault};
 ghost use Rattle.pw_lex.specs.Text.{HasTokens, HasFault, place_of};
 ghost use Rattle.pw_tree.specs.Units.{unit_of};
+ghost use Rattle.pw_tree.specs.WellTypedUnits.{IsWellTyped};
 ghost use Rattle.pw_front.specs.Units.{IsUnitOf, IsTypedUnitOf, FaultOf};
 ghost use Rattle.pw_front.specs.Weights.{weight};
 
@@ -76,6 +77,7 @@ pub fn front(alloc: Global, text: &[u8]) -> Result<TUnit, FrontError>
     requires { length text.now < 2 ^ 32 }
     ensures unit { IfOk result (IsTypedUnitOf text.now) }
     ensures fault { IfErr result (FaultOf text.now) }
+    ensures well_typed { IfOk result (λ unit. IsWellTyped (unit_of unit)) }
     ensures small { IfOk result (λ unit. sum_by weight (unit_of unit).functions ≤ length text.now) }
 {
     let unit = read(alloc, text)?;

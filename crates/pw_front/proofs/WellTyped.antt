@@ -1,0 +1,102 @@
+-- The typed unit of a text without faults is well typed: lines and constants of the text are small, so its unit is one that was read.
+use Rattle.std.proofs.Common.{◌≡◌, ℕ, ◌+◌, ◌-◌, ◌^◌, ◌<◌, ◌≤◌, Bool, true, false, ◌||◌, if◌then◌else◌, List, [], ◌∷◌, ◌++◌, length, count_by, Option, Some, None, subst, sym, arith, length-append, nat_eq}
+use Rattle.std.specs.List.{AllByRecursion}
+use Rattle.std.proofs.lemmas.Bool.Decides.{nat_tests}
+use Rattle.std.proofs.lemmas.List.Sums.{count_by-le-length}
+use Rattle.pw_lex.specs.declared.number.Radix.{Radix}
+use Rattle.pw_lex.specs.declared.number.Radix.TheVariants.{Decimal, Hexadecimal}
+use Rattle.pw_lex.specs.declared.token.Token.{Token}
+use Rattle.pw_lex.specs.declared.token.TokenKind.{TokenKind}
+use Rattle.pw_lex.specs.declared.token.TokenKind.TheVariants.{Word, Number, Char, Keyword, Punct}
+use Rattle.pw_lex.specs.Bytes.{Text}
+use Rattle.pw_lex.specs.Number.{limit}
+use Rattle.pw_lex.specs.Character.{is_plain, escaped, IsCharacter, plain, escape}
+use Rattle.pw_lex.specs.Fault.{Piece, white, line_comment, block_comment, token, bytes_of, StandsBefore}
+use Rattle.pw_lex.specs.Text.{HasTokens, Stand, is_newline, spelled, tokens_after}
+use Rattle.pw_lex.specs.Token.{IsToken}
+use Rattle.pw_grammar.specs.Expressions.{value_in}
+use Rattle.pw_grammar.specs.Laws.{HasTree, IsSmallToken}
+use Rattle.pw_grammar.proofs.ReadUnits.{trees_are_read}
+use Rattle.pw_tree.specs.Proper.{IsRead}
+use Rattle.pw_tree.specs.WellTypedUnits.{IsWellTyped}
+use Rattle.pw_tree.specs.Declarations.{untyped_unit_of}
+use Rattle.pw_tree.specs.Units.{TypedUnit, unit_of}
+use Rattle.pw_tree.specs.declared.decl.Unit.{Unit}
+use Rattle.pw_tree.specs.declared.tunit.TUnit.{TUnit}
+use Rattle.pw_types.proofs.WellTyped.{units_without_faults_are_well_typed}
+use Rattle.pw_front.specs.Units.{IsUnitOf, IsTypedUnitOf}
+use Rattle.pw_front.proofs.Lines.{token_ends, tokens_within}
+
+-- ---- constants
+
+limit_small : (radix : Radix) (has_u : Bool) → limit radix has_u < 2 ^ 64
+limit_small Decimal false = omega arith
+limit_small Decimal true = omega arith
+limit_small Hexadecimal has_u = omega arith
+
+plain_small : (byte : ℕ) → is_plain byte ≡ true → byte ≤ 126
+plain_small byte h = grind (arith, nat_tests)
+
+chosen_small : (b : Bool) (x value : ℕ) (o : Option ℕ) → (if b then Some x else o) ≡ Some value → (b ≡ true → x < 256) → (o ≡ Some value → value < 256) → value < 256
+chosen_small true x value o h small other = let e : x ≡ value = cc in let s : x < 256 = small refl in omega arith
+chosen_small false x value o h small other = other h
+
+itself_small : (byte : ℕ) → (nat_eq byte 92 || nat_eq byte 39 || nat_eq byte 34) ≡ true → byte < 256
+itself_small byte h = grind (arith, nat_tests)
+
+escaped_small : (byte value : ℕ) → escaped byte ≡ Some value → value < 256
+escaped_small byte value h =
+    chosen_small (nat_eq byte 110) 10 value _ h (λ _. omega arith) (λ h. chosen_small (nat_eq byte 116) 9 value _ h (λ _. omega arith)
+    (λ h. chosen_small (nat_eq byte 114) 13 value _ h (λ _. omega arith) (λ h. chosen_small (nat_eq byte 48) 0 value _ h (λ _. omega arith)
+    (λ h. chosen_small (nat_eq byte 92 || nat_eq byte 39 || nat_eq byte 34) byte value None h (itself_small byte) (λ h. cc)))))
+
+character_small : (bytes : Text) (value : ℕ) → IsCharacter bytes value → value < 256
+character_small _ _ (plain byte h) = omega (arith, plain_small byte h)
+character_small _ _ (escape byte value h) = escaped_small byte value h
+
+value_small : (bytes : Text) (kind : TokenKind) → IsToken bytes kind → value_in kind < 2 ^ 64
+value_small bytes (Word name) is = omega arith
+value_small bytes (Number value unsigned) is = omega (arith, is.fits, limit_small is.radix is.has_u)
+value_small bytes (Char value) is = omega (arith, character_small bytes value is)
+value_small bytes (Keyword number) is = omega arith
+value_small bytes (Punct number) is = omega arith
+
+-- ---- tokens
+
+tokens_small : (before : Text) (pieces : List Piece) (rest : Text) → Stand pieces rest → length before + length (spelled pieces) < 2 ^ 32 →
+    AllByRecursion IsSmallToken (tokens_after before pieces)
+tokens_small before [] rest stand short = tt
+tokens_small before (white byte ∷ pieces) rest stand short =
+    tokens_small (before ++ bytes_of (white byte)) pieces rest stand.1
+    (omega (arith, length-append before (bytes_of (white byte)), length-append (bytes_of (white byte)) (spelled pieces)))
+tokens_small before (line_comment body ∷ pieces) rest stand short =
+    tokens_small (before ++ bytes_of (line_comment body)) pieces rest stand.1
+    (omega (arith, length-append before (bytes_of (line_comment body)), length-append (bytes_of (line_comment body)) (spelled pieces)))
+tokens_small before (block_comment body ∷ pieces) rest stand short =
+    tokens_small (before ++ bytes_of (block_comment body)) pieces rest stand.1
+    (omega (arith, length-append before (bytes_of (block_comment body)), length-append (bytes_of (block_comment body)) (spelled pieces)))
+tokens_small before (token bytes kind ∷ pieces) rest stand short =
+    let all = length-append bytes (spelled pieces) in (
+      record {
+        line = omega (arith, count_by-le-length is_newline before, token_ends bytes kind stand.0.token, all);
+        value = value_small bytes kind stand.0.token;
+      },
+      tokens_small (before ++ bytes) pieces rest stand.1 (omega (arith, length-append before bytes, all)),
+    )
+
+small_tokens : (text : Text) (tokens : List Token) → HasTokens text tokens → length text < 2 ^ 32 → AllByRecursion IsSmallToken tokens
+small_tokens text tokens has short =
+    subst (AllByRecursion IsSmallToken) (sym has.tokens_are)
+    (tokens_small [] has.pieces [] has.stand (subst (λ t. 0 + length t < 2 ^ 32) has.text_is (omega arith)))
+
+-- ---- units
+
+pub unit_is_read : (text : Text) (unit : Unit) → length text < 2 ^ 32 → IsUnitOf text unit → IsRead (untyped_unit_of unit)
+unit_is_read text unit short is =
+    trees_are_read is.tokens unit (record { derives = is.derives; no_fault = is.no_fault })
+    (omega (arith, short, tokens_within text is.tokens is.has_tokens)) (small_tokens text is.tokens is.has_tokens short)
+
+pub unit_is_well_typed : (text : Text) (typed : TUnit) → length text < 2 ^ 32 → IsTypedUnitOf text typed → IsWellTyped (unit_of typed)
+unit_is_well_typed text typed short is =
+    subst IsWellTyped (sym is.is_typed.is)
+    (units_without_faults_are_well_typed (untyped_unit_of is.unit) (unit_is_read text is.unit short is.is_unit) is.is_typed.no_fault)
