@@ -1,5 +1,5 @@
 -- The typed unit of a text without faults is well typed: lines and constants of the text are small, so its unit is one that was read.
-use Rattle.std.proofs.Common.{◌≡◌, ℕ, ◌+◌, ◌-◌, ◌^◌, ◌<◌, ◌≤◌, Bool, true, false, ◌||◌, if◌then◌else◌, List, [], ◌∷◌, ◌++◌, length, count_by, Option, Some, None, subst, sym, arith, length-append, nat_eq}
+use Rattle.std.proofs.Common.{refl, ◌≡◌, ℕ, ◌+◌, ◌^◌, ◌<◌, ◌≤◌, Bool, true, false, ◌||◌, if◌then◌else◌, List, [], ◌∷◌, ◌++◌, length, Option, Some, None, subst, sym, arith, length-append, nat_eq}
 use Rattle.std.specs.List.{AllByRecursion}
 use Rattle.std.proofs.lemmas.Bool.Decides.{nat_tests}
 use Rattle.std.proofs.lemmas.List.Sums.{count_by-le-length}
@@ -11,16 +11,16 @@ use Rattle.pw_lex.specs.declared.token.TokenKind.TheVariants.{Word, Number, Char
 use Rattle.pw_lex.specs.Bytes.{Text}
 use Rattle.pw_lex.specs.Number.{limit}
 use Rattle.pw_lex.specs.Character.{is_plain, escaped, IsCharacter, plain, escape}
-use Rattle.pw_lex.specs.Fault.{Piece, white, line_comment, block_comment, token, bytes_of, StandsBefore}
+use Rattle.pw_lex.specs.Fault.{Piece, white, line_comment, block_comment, token, bytes_of}
 use Rattle.pw_lex.specs.Text.{HasTokens, Stand, is_newline, spelled, tokens_after}
 use Rattle.pw_lex.specs.Token.{IsToken}
 use Rattle.pw_grammar.specs.Expressions.{value_in}
-use Rattle.pw_grammar.specs.Laws.{HasTree, IsSmallToken}
+use Rattle.pw_grammar.specs.Laws.{IsSmallToken}
 use Rattle.pw_grammar.proofs.ReadUnits.{trees_are_read}
 use Rattle.pw_tree.specs.Proper.{IsRead}
 use Rattle.pw_tree.specs.WellTypedUnits.{IsWellTyped}
 use Rattle.pw_tree.specs.Declarations.{untyped_unit_of}
-use Rattle.pw_tree.specs.Units.{TypedUnit, unit_of}
+use Rattle.pw_tree.specs.Units.{unit_of}
 use Rattle.pw_tree.specs.declared.decl.Unit.{Unit}
 use Rattle.pw_tree.specs.declared.tunit.TUnit.{TUnit}
 use Rattle.pw_types.proofs.WellTyped.{units_without_faults_are_well_typed}
