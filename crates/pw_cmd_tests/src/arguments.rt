@@ -74,26 +74,96 @@ fn program(
     Ok((status, out, msg))
 }
 
+/// A command line, and what comes of it.
+struct CommandLine {
+    /// The arguments, the program's name first.
+    arguments: &'static [&'static [u8]],
+    /// The calls of the messages that fail, counted from 1.
+    fails: &'static [u64],
+    /// The status.
+    status: u8,
+    /// The output, and the messages.
+    out: &'static [u8],
+    msg: &'static [u8],
+}
+
+/// Command lines with a name that is no text, with too few arguments, and with arguments that are no text.
+const LINES: [CommandLine; 8] = [
+    CommandLine {
+        arguments: &[b"pw", b"one", b"main.c"],
+        fails: &[],
+        status: 0,
+        out: b"a",
+        msg: ENDED,
+    },
+    CommandLine {
+        arguments: &[b"\xff\xfe", b"one", b"main.c"],
+        fails: &[],
+        status: 0,
+        out: b"a",
+        msg: ENDED,
+    },
+    CommandLine {
+        arguments: &[b"", b"one", b"main.c"],
+        fails: &[],
+        status: 0,
+        out: b"a",
+        msg: ENDED,
+    },
+    CommandLine {
+        arguments: &[],
+        fails: &[],
+        status: 2,
+        out: b"",
+        msg: USAGE,
+    },
+    CommandLine {
+        arguments: &[b"pw"],
+        fails: &[],
+        status: 2,
+        out: b"",
+        msg: USAGE,
+    },
+    CommandLine {
+        arguments: &[b"pw", b"one", b"\xffmain.c"],
+        fails: &[],
+        status: 2,
+        out: b"",
+        msg: USAGE,
+    },
+    CommandLine {
+        arguments: &[b"pw", b"one", b"main.c", b"\xc3"],
+        fails: &[],
+        status: 2,
+        out: b"",
+        msg: USAGE,
+    },
+    CommandLine {
+        arguments: &[b"pw", b"\xff"],
+        fails: &[4],
+        status: 7,
+        out: b"",
+        msg: b"usa",
+    },
+];
+
 #[test]
 fn each_command_line_has_its_status(rt: HostRuntime) -> Result<(), Fail> {
-    let many: [&[u8]; 1000] = [b"one"; 1000];
-    let rows: [(&[&[u8]], &[u64], u8, &[u8], &[u8]); 9] = [
-        (&[b"pw", b"one", b"main.c"], &[], 0, b"a", ENDED),
-        (&[b"\xff\xfe", b"one", b"main.c"], &[], 0, b"a", ENDED),
-        (&[b"", b"one", b"main.c"], &[], 0, b"a", ENDED),
-        (&[], &[], 2, b"", USAGE),
-        (&[b"pw"], &[], 2, b"", USAGE),
-        (&[b"pw", b"one", b"\xffmain.c"], &[], 2, b"", USAGE),
-        (&[b"pw", b"one", b"main.c", b"\xc3"], &[], 2, b"", USAGE),
-        (&many, &[], 2, b"", USAGE),
-        (&[b"pw", b"\xff"], &[4], 7, b"", b"usa"),
-    ];
-    for (arguments, fails, status, out, msg) in rows {
-        let seen = program(rt.alloc(), arguments, fails)?;
-        assert_eq!(rt; seen.0, status);
-        assert_eq!(rt; seen.1.written(), out);
-        assert_eq!(rt; seen.2.written(), msg);
+    for line in &LINES {
+        let (status, out, msg) = program(rt.alloc(), line.arguments, line.fails)?;
+        assert!(rt; status == line.status);
+        assert!(rt; out.written() == line.out);
+        assert!(rt; msg.written() == line.msg);
     }
+    Ok(())
+}
+
+#[test]
+fn a_thousand_arguments_are_no_command(rt: HostRuntime) -> Result<(), Fail> {
+    let many: [&[u8]; 1000] = [b"one"; 1000];
+    let (status, _, msg) = program(rt.alloc(), &many, &[])?;
+    assert!(rt; status == 2);
+    assert!(rt; msg.written() == USAGE);
     Ok(())
 }
 
