@@ -1,88 +1,142 @@
--- The image of a program of the first form: where its parts stand in memory, and what bytes they have.
-use Rattle.std.specs.Prelude.{ℕ, ◌+◌, ◌-◌, ◌*◌, ◌/◌, ◌^◌, ◌≤◌, Bool, true, false, not, List, [], ◌∷◌, ◌++◌, take, find, sum_by, flat_map, codes, bytes_eq, All, Option, if◌then◌else◌}
-use Rattle.std.specs.List.{prefix_len}
+-- The image of a project: the bytes of its text, data and stack in memory.
+use Rattle.std.specs.Prelude.{ℕ, suc, ◌+◌, ◌-◌, ◌*◌, ◌/◌, ℤ, pos, ◌-ℤ◌, true, false, if◌then◌else◌, List, [], ◌∷◌, ◌++◌, length, map, flat_map, nat_eq}
+use Rattle.std.specs.Option.{option_map_or}
 use Rattle.pw_base.specs.Bytes.{le_bytes}
-use Rattle.pw_base.specs.Limits.{module_span, text_offset, data_offset}
-use Rattle.pw_base.specs.Limits as limits
-use Rattle.pw_first.specs.declared.writer.Writer.{Writer}
-use Rattle.pw_code.specs.Items.{size}
-use Rattle.pw_code.specs.Scheme.{function_items, words, entry_items, entry_words, HasSmallNumbers}
+use Rattle.pw_base.specs.Limits.{stack_start, stack_bytes}
+use Rattle.pw_isa.specs.declared.instruction.Inst.{Inst}
+use Rattle.pw_isa.specs.declared.instruction.Inst.TheVariants.{Auipc, Ld, Addi}
+use Rattle.pw_isa.specs.Encoding.{word_of}
+use Rattle.pw_tree.specs.declared.ty.Ref.{Ref}
+use Rattle.pw_tree.specs.declared.ty.Ref.TheVariants.{Global, LocalFun, LocalVar}
+use Rattle.pw_tree.specs.declared.tunit.TVar.{TVar}
+use Rattle.pw_tree.specs.declared.tunit.Init.{Init}
+use Rattle.pw_tree.specs.declared.tunit.Init.TheVariants.{Num, Fun}
+use Rattle.pw_tree.specs.Units.{Function, TypedUnit}
+use Rattle.pw_tree.specs.Names.{Project, Definition, definition_of, resolved}
 use Rattle.pw_mem.specs.Regions.{MappedRegion}
 use Rattle.pw_mem.specs.Memory.{Mem, zeros}
 use Rattle.pw_mem.specs.Words.{text_bytes}
+use Rattle.pw_code.specs.Items.{Part, instruction, address}
+use Rattle.pw_code.specs.LoadImmediate.{upper, lower}
+use Rattle.pw_code.specs.FunctionCode.{function_code, function_words}
+use Rattle.pw_code.specs.Objects.{is_initialised, is_uninitialised, filled}
+use Rattle.pw_agree.specs.Kept.{Keep}
+use Rattle.pw_agree.specs.Placing.{units_of, text_of, data_of, code_before_functions, slots_of, entity_address, target_address, function_address, variables_of_unit, variables_of_units, elements_of}
 
--- where the text, the data and the stack stand, and how many bytes the stack has
-abbrev pub text_start : ℕ
-text_start = module_span + text_offset
+-- ---- text
 
-abbrev pub data_start : ℕ
-data_start = module_span + data_offset
+-- How far an address is from a place.
+abbrev pub distance : (place to : ℕ) → ℤ
+distance place to = pos to -ℤ pos place
 
-abbrev pub stack_start : ℕ
-stack_start = limits.stack_start
+-- The second instruction of an `address`: it loads what the slot of an external name holds, or adds (psABI, "PC-Relative
+-- Symbol Addresses").
+abbrev pub with_lower : (rd : ℕ) → Ref → ℤ → Inst
+with_lower rd (Global name) low = Ld rd rd low
+with_lower rd (LocalFun i) low = Addi rd rd low
+with_lower rd (LocalVar i) low = Addi rd rd low
 
-abbrev pub stack_len : ℕ
-stack_len = limits.stack_bytes
+-- The words of code that stands at a place, given the address of each target.
+unfoldable pub words_at : (Ref → ℕ) → (place : ℕ) → List Part → List ℕ
+words_at target place [] = []
+words_at target place (instruction i ∷ code) = word_of i ∷ words_at target (place + 4) code
+words_at target place (address rd to ∷ code) =
+    word_of (Auipc rd (upper (distance place (target to))))
+    ∷ word_of (with_lower rd to (lower (distance place (target to)))) ∷ words_at target (place + 8) code
 
--- the number of words of a function
-abbrev pub function_size : Writer → ℕ
-function_size f = size (function_items f)
+-- The words of a function in the image: those of its code, or as many zeros.
+abbrev pub function_image : Project → Keep → Definition → Function → List ℕ
+function_image project keep d f =
+    if keep d
+    then words_at (target_address project d.in_module d.in_unit) (function_address project d) (function_code f)
+    else zeros (function_words f)
 
--- the number of words of all, the entry first
-abbrev pub all_words : List Writer → ℕ
-all_words funs = size entry_items + sum_by function_size funs
+-- The words of the functions of a unit from number i on, and of the units of a module from number u on.
+unfoldable pub functions_image : Project → Keep → (m u i : ℕ) → List Function → List ℕ
+functions_image project keep m u i [] = []
+functions_image project keep m u i (f ∷ fs) =
+    function_image project keep (record { in_module = m; in_unit = u; number = i }) f ++ functions_image project keep m u (suc i) fs
 
--- where function number `i`, from 0, stands: each right behind the last
-abbrev pub start_of : List Writer → ℕ → ℕ
-start_of funs i = text_start + 4 * all_words (take i funs)
+unfoldable pub units_image : Project → Keep → (m u : ℕ) → List TypedUnit → List ℕ
+units_image project keep m u [] = []
+units_image project keep m u (unit ∷ units) =
+    functions_image project keep m u 0 unit.functions ++ units_image project keep m (suc u) units
 
--- the function that keeps its code beside the entry is `main`
-abbrev pub is_kept : Writer → Bool
-is_kept f = bytes_eq f.name (codes "main")
+-- The words of a module's text. The entry is always kept; it stands in no unit, and names `main` alone.
+abbrev pub text_image : Project → Keep → ℕ → List ℕ
+text_image project keep m =
+    words_at (target_address project m 0) (text_of m) (code_before_functions m) ++ units_image project keep m 0 (units_of project m)
 
--- `main`, where there is one, and where it stands
-abbrev pub main_writer : List Writer → Option Writer
-main_writer funs = find is_kept funs
+-- ---- data
 
-abbrev pub main_address : List Writer → ℕ
-main_address funs = start_of funs (prefix_len (λ f. not (is_kept f)) funs)
+-- A slot holds the address of what its name means.
+abbrev pub slots_image : Project → ℕ → List ℕ
+slots_image project m = map (λ name. entity_address project (definition_of project name)) (slots_of project m)
 
--- a function's words in the image: its own where it is kept, else as many zeros
-abbrev pub image_words : Writer → List ℕ
-image_words f = if is_kept f then words (function_items f) else zeros (function_size f)
+-- An element of an initialiser holds its number, or the address of its function.
+abbrev pub element_image : Project → (m u : ℕ) → Init → ℕ
+element_image project m u (Num value) = value
+element_image project m u (Fun name) = entity_address project (resolved project m u name)
 
--- the words of the text: the entry's, then each function's
-abbrev pub text_words : List Writer → List ℕ
-text_words funs = entry_words text_start data_start ++ flat_map image_words funs
+-- The elements of a variable, all of them.
+abbrev pub variable_image : Project → (m u : ℕ) → TVar → List ℕ
+variable_image project m u x = map (element_image project m u) (option_map_or (λ values. values) (filled x).init [])
 
--- the bytes of the text region: those of its words, and zeros up to a multiple of 8
-abbrev pub text_len : List Writer → ℕ
-text_len funs = (4 * all_words funs + 7) / 8 * 8
+-- The elements of the initialised variables of a module, from unit u on.
+unfoldable pub variables_image : Project → (m u : ℕ) → List TypedUnit → List ℕ
+variables_image project m u [] = []
+variables_image project m u (unit ∷ units) =
+    flat_map (variable_image project m u) (variables_of_unit is_initialised unit) ++ variables_image project m (suc u) units
 
-abbrev pub all_text : List Writer → List ℕ
-all_text funs = text_bytes (text_words funs) ++ zeros (text_len funs - 4 * all_words funs)
+-- The doublewords of a module's data: the slots, the initialised variables, and zeros for the others.
+abbrev pub data_image : Project → ℕ → List ℕ
+data_image project m =
+    slots_image project m ++ variables_image project m 0 (units_of project m)
+    ++ zeros (elements_of (variables_of_units is_uninitialised (units_of project m)))
 
--- the three regions, with the bytes of the data and of the stack: the text may be read and executed, the others read and written
-abbrev pub text_region : List Writer → MappedRegion
-text_region funs = record { start = text_start; bytes = all_text funs; read = true; write = false; execute = true }
+-- ---- regions
 
-abbrev pub data_region : List ℕ → MappedRegion
-data_region bytes = record { start = data_start; bytes = bytes; read = true; write = true; execute = false }
+-- The bytes of doublewords.
+abbrev pub doubleword_bytes : List ℕ → List ℕ
+doubleword_bytes values = flat_map (le_bytes 8) values
 
-abbrev pub stack_region : List ℕ → MappedRegion
-stack_region bytes = record { start = stack_start; bytes = bytes; read = true; write = true; execute = false }
+-- A text's bytes are those of its words, and zeros up to a multiple of 8; it may be read and executed.
+abbrev pub whole_doublewords : List ℕ → List ℕ
+whole_doublewords bytes = bytes ++ zeros ((length bytes + 7) / 8 * 8 - length bytes)
 
-abbrev pub image_with : List Writer → (data_bytes stack : List ℕ) → Mem
-image_with funs data_bytes stack = record {
-  regions = text_region funs ∷ data_region data_bytes ∷ stack_region stack ∷ [];
-  sealed = true;
+abbrev pub text_region : Project → Keep → ℕ → MappedRegion
+text_region project keep m = record {
+  start = text_of m;
+  bytes = whole_doublewords (text_bytes (text_image project keep m));
+  read = true;
+  write = false;
+  execute = true;
 }
 
--- the image: the data are the slot of `main`, which holds its address, and the stack is zero
-abbrev pub image : List Writer → Mem
-image funs = image_with funs (le_bytes 8 (main_address funs)) (zeros stack_len)
+-- Data may be read and written.
+abbrev pub data_region : Project → ℕ → MappedRegion
+data_region project m = record {
+  start = data_of m;
+  bytes = doubleword_bytes (data_image project m);
+  read = true;
+  write = true;
+  execute = false;
+}
 
--- the functions can be placed: their numbers have room in immediates, and the text ends before the data
-pub record CanPlace (funs : List Writer) : Type 0 where
-  pub small : All HasSmallNumbers funs
-  pub short : all_words funs ≤ 2 ^ 22
+-- The stack is zero before the run.
+abbrev pub stack_region : MappedRegion
+stack_region = record { start = stack_start; bytes = zeros stack_bytes; read = true; write = true; execute = false }
+
+-- A region without bytes is left out.
+abbrev pub unless_empty : MappedRegion → List MappedRegion
+unless_empty region = if nat_eq (length region.bytes) 0 then [] else region ∷ []
+
+-- The regions of the modules from number m on.
+unfoldable pub module_regions : Project → Keep → (m : ℕ) → List (List TypedUnit) → List MappedRegion
+module_regions project keep m [] = []
+module_regions project keep m (units ∷ modules) =
+    unless_empty (text_region project keep m) ++ unless_empty (data_region project m) ++ module_regions project keep (suc m) modules
+
+-- The image of a project, sealed.
+abbrev pub image : Project → Keep → Mem
+image project keep = record { regions = module_regions project keep 0 project ++ stack_region ∷ []; sealed = true }

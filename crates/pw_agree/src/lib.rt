@@ -1,7 +1,3 @@
-//! What the machine's run of a program's image has to do with the program's source: the image, the meaning, and the
-//! laws that the run is what the source means.
+//! What a project of typed units is in memory: the load order of its modules, which functions are kept, where everything
+//! stands, and the bytes of its image. These are definitions alone; nothing here runs.
 #![tactic(auto)]
-
-mod laws;
-
-pub use laws::{limits_suffice, runs_go_on, runs_of_images_are_meant, text_stays};

@@ -3,7 +3,7 @@ use Rattle.std.proofs.Common.{◌≡◌, ℕ, zero, suc, ◌+◌, ◌^◌, ◌<�
 use Rattle.std.specs.Prelude.{slice_get}
 use Rattle.std.proofs.lemmas.List.{take_at, drop_at, length-append, length-replicate, append-nil}
 use Rattle.pw_base.specs.Field.{field, field_at}
-use Rattle.pw_base.specs.Laid.{Has, Part, gap, up, laid, place}
+use Rattle.pw_base.specs.Laid.{Has, Part, padding, align_up, laid, part_offset}
 use Rattle.pw_base.proofs.Fields.{written_field_is_read}
 
 -- bytes have themselves from their start on
@@ -15,7 +15,7 @@ pub Has-left : (bytes : List ℕ) (off : ℕ) (x y : List ℕ) → Has bytes off
 Has-left bytes off x y h =
     record { before = h.before; after = y ++ h.after; parts = h.parts ∙ ap (λ (t : List ℕ). h.before ++ t) (append_assoc x y h.after); at = h.at }
 
--- and the second, behind the first
+-- and the second, after the first
 pub Has-right : (bytes : List ℕ) (off n : ℕ) (x y : List ℕ) → length x ≡ n → Has bytes off (x ++ y) → Has bytes (off + n) y
 Has-right bytes off n x y len h =
     record {
@@ -50,15 +50,30 @@ Has-inside bytes off part h =
 pub Has-field : (bytes : List ℕ) (off width value : ℕ) → value < 256 ^ width → Has bytes off (field width value) → field_at width bytes off ≡ Some value
 Has-field bytes off width value small h = rw (Has-drop bytes off (field width value) h) (written_field_is_read width value h.after small)
 
+-- two parts that stand one right after the other stand there as one
+pub Has-join : (bytes : List ℕ) (off next n : ℕ) (x y : List ℕ) → length x ≡ n → next ≡ off + n → Has bytes off x → Has bytes next y → Has bytes off (x ++ y)
+Has-join bytes off next n x y len is h g =
+    let at = h.at in
+    let both : length (h.before ++ x) ≡ next = omega (arith, length-append h.before x, at, len, is) in
+    let whole : bytes ≡ (h.before ++ x) ++ h.after = h.parts ∙ sym (append_assoc h.before x h.after) in
+    let after_x : drop next bytes ≡ h.after = ap (λ (b : List ℕ). drop next b) whole ∙ drop_at (h.before ++ x) h.after next both in
+    let tail : h.after ≡ y ++ g.after = sym after_x ∙ Has-drop bytes next y g in
+    record {
+      before = h.before;
+      after = g.after;
+      parts = h.parts ∙ ap (λ (t : List ℕ). h.before ++ (x ++ t)) tail ∙ ap (λ (t : List ℕ). h.before ++ t) (sym (append_assoc x y g.after));
+      at = at;
+    }
+
 -- each of laid parts stands at its place
-pub laid_parts_stand : (off : ℕ) (ps : List Part) (k : ℕ) (p : Part) (bytes : List ℕ) → Has bytes off (laid off ps) → slice_get ps k ≡ Some p → Has bytes (place off ps k) p.content
+pub laid_parts_stand : (off : ℕ) (ps : List Part) (k : ℕ) (p : Part) (bytes : List ℕ) → Has bytes off (laid off ps) → slice_get ps k ≡ Some p → Has bytes (part_offset off ps k) p.content
 laid_parts_stand off [] k p bytes h found = absurd cc
 laid_parts_stand off (q ∷ qs) zero p bytes h found =
     let same : q ≡ p = cc in
-    let zeros = replicate (gap q.align off) 0 in
-    let behind = Has-right bytes off (gap q.align off) zeros (q.content ++ laid (up q.align off + length q.content) qs) (length-replicate {A = ℕ} (gap q.align off) 0) h in
-    subst (λ (r : Part). Has bytes (up q.align off) r.content) same (Has-left bytes (up q.align off) q.content _ behind)
+    let zeros = replicate (padding q.align off) 0 in
+    let later = Has-right bytes off (padding q.align off) zeros (q.content ++ laid (align_up q.align off + length q.content) qs) (length-replicate {A = ℕ} (padding q.align off) 0) h in
+    subst (λ (r : Part). Has bytes (align_up q.align off) r.content) same (Has-left bytes (align_up q.align off) q.content _ later)
 laid_parts_stand off (q ∷ qs) (suc k) p bytes h found =
-    let zeros = replicate (gap q.align off) 0 in
-    let behind = Has-right bytes off (gap q.align off) zeros (q.content ++ laid (up q.align off + length q.content) qs) (length-replicate {A = ℕ} (gap q.align off) 0) h in
-    laid_parts_stand (up q.align off + length q.content) qs k p bytes (Has-right bytes (up q.align off) (length q.content) q.content _ refl behind) found
+    let zeros = replicate (padding q.align off) 0 in
+    let later = Has-right bytes off (padding q.align off) zeros (q.content ++ laid (align_up q.align off + length q.content) qs) (length-replicate {A = ℕ} (padding q.align off) 0) h in
+    laid_parts_stand (align_up q.align off + length q.content) qs k p bytes (Has-right bytes (align_up q.align off) (length q.content) q.content _ refl later) found

@@ -9,11 +9,11 @@ use Rattle.std.proofs.lemmas.Bool.Decides.{nat_tests}
 use Rattle.pw_base.specs.Name.{is_from}
 use Rattle.pw_base.specs.TypeText.{IsSize}
 
--- a number with one digit more has that digit behind its own
+-- a number with one digit more has that digit after its own
 pub decimal_more : (n digit : ℕ) → 1 ≤ n → n < 2 ^ 32 → digit < 10 → decimal (10 * n + digit) ≡ decimal n ++ (48 + digit) ∷ []
 decimal_more n digit some small is_digit =
-    let front : (10 * n + digit) / 10 ≡ n = omega arith in
-    let last : (10 * n + digit) % 10 ≡ digit = omega arith in rw (decimal_step (10 * n + digit) (omega arith) (omega arith), front, last)
+    let leading : (10 * n + digit) / 10 ≡ n = omega arith in
+    let last : (10 * n + digit) % 10 ≡ digit = omega arith in rw (decimal_step (10 * n + digit) (omega arith) (omega arith), leading, last)
 
 -- a number of at most five digits is below 100000
 pub at_most_five : (more n : ℕ) → more < 5 → n < 10 ^ (more + 1) → n < 100000
@@ -59,7 +59,7 @@ digit_at [] i all within = absurd (omega arith)
 digit_at (digit ∷ digits) zero all within = grind (arith, nat_tests)
 digit_at (digit ∷ digits) (suc i) all within = digit_at digits i (grind (arith, nat_tests)) (omega arith)
 
--- the digit at a place, behind the number of those before it
+-- the digit at a place, after the number of those before it
 pub numeral_step : (first : ℕ) (more : List ℕ) (i n digit : ℕ) → length more < 5 → list_all (is_from 48 57) more ≡ true → i < length more → digit ≡ get_or more i 0 - 48
     → (decimal n ≡ first ∷ take i more) × (1 ≤ n) × (n < 10 ^ (i + 1))
     → (decimal (10 * n + digit) ≡ first ∷ take (i + 1) more) × (1 ≤ 10 * n + digit) × (10 * n + digit < 10 ^ (i + 1 + 1))

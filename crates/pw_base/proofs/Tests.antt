@@ -1,4 +1,4 @@
--- The tests of names and of texts of types hold exactly where the facts do.
+-- The tests of names and of type strings hold exactly where the facts do.
 use Rattle.std.proofs.Common.{◌≡◌, ℕ, ◌-◌, ◌≤◌, List, [], ◌∷◌, ◌++◌, length, decimal, refl, ap, ◌∙◌, arith, inl, inr, codes}
 use Rattle.std.specs.Bool.{Decides}
 use Rattle.std.specs.Str.Parse.{digits_value}
@@ -45,7 +45,7 @@ letter_test_is_right bytes = (
       rw same (and_from _ _ ((bytes_eq-Decides bytes (is.letter ∷ [])).1 is.spelled) is.typed),
 )
 
--- what stands between two bytes in front and one behind
+-- what stands between the first two bytes and the last
 between_is : (a b c : ℕ) (inner : List ℕ) → between (a ∷ b ∷ inner ++ c ∷ []) ≡ inner
 between_is a b c inner =
     let len : length (a ∷ b ∷ inner ++ c ∷ []) - 3 ≡ length inner = omega (arith, length-append inner (c ∷ [])) in
@@ -91,7 +91,7 @@ array_test_is_right bytes = (
       rw (letter, inner) (and_from _ _ (and_from _ _ ((bytes_eq-Decides bytes (is.element ∷ codes "[" ++ is.digits ++ codes "]")).1 is.spelled) is.valued) ((size_test_is_right is.digits).1 is.sized)),
 )
 
--- the test of the text of a type
+-- the test of a type string
 pub type_text_test_is_right : (bytes : List ℕ) → Decides (is_type_text bytes) (IsTypeText bytes)
 unfolding is_type_text
 type_text_test_is_right bytes = (
@@ -115,7 +115,7 @@ type_text_test_is_right bytes = (
       ],
 )
 
--- the text of a type has few bytes
+-- a type string has few bytes
 pub type_text_is_short : (bytes : List ℕ) → IsTypeText bytes → (1 ≤ length bytes) × (length bytes ≤ 9)
 type_text_is_short bytes (inl letter) = let e = ap (λ (bs : List ℕ). length bs) letter.spelled in (omega arith, omega arith)
 type_text_is_short bytes (inr (inl function)) =

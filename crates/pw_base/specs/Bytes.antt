@@ -16,10 +16,14 @@ le_bytes (suc n) v = v % 256 ∷ le_bytes n (v / 256)
 abbrev pub le_at : ℕ → List ℕ → ℕ → Option ℕ
 le_at n bytes at = if nat_le (at + n) (length bytes) then Some (le (take n (drop at bytes))) else None
 
+-- each number is a byte's
+abbrev pub AreBytes : List ℕ → Type 0
+AreBytes bytes = AllByRecursion (λ byte. byte < 256) bytes
+
 -- a value below 256 ^ n is what its n bytes say
 abbrev pub BytesGiveValue : Type 0
 BytesGiveValue = (n v : ℕ) → v < 256 ^ n → le (le_bytes n v) ≡ v
 
 -- bytes are those of the value that they say
 abbrev pub ValueGivesBytes : Type 0
-ValueGivesBytes = (bytes : List ℕ) → AllByRecursion (λ b. b < 256) bytes → le_bytes (length bytes) (le bytes) ≡ bytes
+ValueGivesBytes = (bytes : List ℕ) → AreBytes bytes → le_bytes (length bytes) (le bytes) ≡ bytes

@@ -13,9 +13,10 @@ pub record IsLeast (test : ℕ → Bool) (start limit found : ℕ) : Type 0 wher
   pub holds : test found ≡ true
   pub first : (k : ℕ) → start ≤ k → k < found → test k ≡ false
 
--- `least` answers the least, and none only where the test holds nowhere
+-- what `least` finds is the least
 abbrev pub LeastIsLeast : Type 0
 LeastIsLeast = (test : ℕ → Bool) (start count found : ℕ) → least test start count ≡ Some found → IsLeast test start (start + count) found
 
+-- and it finds none only where the test holds nowhere
 abbrev pub NoneIsNowhere : Type 0
 NoneIsNowhere = (test : ℕ → Bool) (start count : ℕ) → least test start count ≡ None → (k : ℕ) → start ≤ k → k < start + count → test k ≡ false

@@ -1,10 +1,11 @@
-pub mod Bytes
-pub mod Field
-pub mod Laid
-pub mod Least
 pub mod Limits
 pub mod LimitsOfCode
 pub mod Name
-pub mod Structs
-pub mod Tests
 pub mod TypeText
+pub mod Tests
+pub mod Bytes
+pub mod Field
+pub mod Laid
+pub mod Structs
+pub mod StructLaws
+pub mod Least

@@ -3,15 +3,15 @@ use Rattle.std.specs.Prelude.{◌≡◌, ◌+◌, ◌<◌, ◌≤◌, ◌^◌, �
 use Rattle.std.specs.Int.{w64, cast_signed, cast_unsigned}
 use Rattle.pw_base.specs.Field.{field, field_at}
 
--- what is read by steps, each of which may pass the end
+-- steps that read, each of which may pass the end: where one does, nothing is read
 infixl 10 ◌>>=◌
 abbrev pub ◌>>=◌ : {A B : Type 0} → Option A → (A → Option B) → Option B
 (Some x) >>= f = f x
 None >>= f = None
 
--- the bytes at an offset, where they are all there
-unfoldable pub bytes_at : ℕ → List ℕ → ℕ → Option (List ℕ)
-bytes_at count bytes off = if nat_le (off + count) (length bytes) then Some (take count (drop off bytes)) else None
+-- so many bytes at an offset, where they are all there
+unfoldable pub slice_at : ℕ → List ℕ → ℕ → Option (List ℕ)
+slice_at count bytes off = if nat_le (off + count) (length bytes) then Some (take count (drop off bytes)) else None
 
 -- the file header (gABI, "ELF Header")
 pub record Header : Type 0 where
@@ -30,12 +30,18 @@ pub record Header : Type 0 where
   pub shnum : ℕ
   pub shstrndx : ℕ
 
+-- how many bytes the file header has
+abbrev pub header_size : ℕ
+header_size = 64
+
+-- the bytes of the file header: its fields, one after another
 unfoldable pub header_bytes : Header → List ℕ
 header_bytes s = s.ident ++ field 2 s.kind ++ field 2 s.machine ++ field 4 s.version ++ field 8 s.entry ++ field 8 s.phoff ++ field 8 s.shoff ++ field 4 s.flags ++ field 2 s.ehsize ++ field 2 s.phentsize ++ field 2 s.phnum ++ field 2 s.shentsize ++ field 2 s.shnum ++ field 2 s.shstrndx
 
+-- the file header at an offset, where all of its bytes are there
 unfoldable pub header_at : List ℕ → ℕ → Option Header
 header_at bytes off = do
-  ident_is ← bytes_at 16 bytes off
+  ident_is ← slice_at 16 bytes off
   kind_is ← field_at 2 bytes (off + 16)
   machine_is ← field_at 2 bytes (off + 18)
   version_is ← field_at 4 bytes (off + 20)
@@ -64,9 +70,15 @@ pub record Section : Type 0 where
   pub addralign : ℕ
   pub entsize : ℕ
 
+-- how many bytes a section header has
+abbrev pub section_size : ℕ
+section_size = 64
+
+-- the bytes of a section header: its fields, one after another
 unfoldable pub section_bytes : Section → List ℕ
 section_bytes s = field 4 s.name ++ field 4 s.kind ++ field 8 s.flags ++ field 8 s.addr ++ field 8 s.offset ++ field 8 s.size ++ field 4 s.link ++ field 4 s.info ++ field 8 s.addralign ++ field 8 s.entsize
 
+-- a section header at an offset, where all of its bytes are there
 unfoldable pub section_at : List ℕ → ℕ → Option Section
 section_at bytes off = do
   name_is ← field_at 4 bytes off
@@ -92,9 +104,15 @@ pub record Segment : Type 0 where
   pub memsz : ℕ
   pub align : ℕ
 
+-- how many bytes a program header has
+abbrev pub segment_size : ℕ
+segment_size = 56
+
+-- the bytes of a program header: its fields, one after another
 unfoldable pub segment_bytes : Segment → List ℕ
 segment_bytes s = field 4 s.kind ++ field 4 s.flags ++ field 8 s.offset ++ field 8 s.vaddr ++ field 8 s.paddr ++ field 8 s.filesz ++ field 8 s.memsz ++ field 8 s.align
 
+-- a program header at an offset, where all of its bytes are there
 unfoldable pub segment_at : List ℕ → ℕ → Option Segment
 segment_at bytes off = do
   kind_is ← field_at 4 bytes off
@@ -116,9 +134,15 @@ pub record Sym : Type 0 where
   pub value : ℕ
   pub size : ℕ
 
+-- how many bytes a symbol has
+abbrev pub symbol_size : ℕ
+symbol_size = 24
+
+-- the bytes of a symbol: its fields, one after another
 unfoldable pub symbol_bytes : Sym → List ℕ
 symbol_bytes s = field 4 s.name ++ field 1 s.info ++ field 1 s.other ++ field 2 s.shndx ++ field 8 s.value ++ field 8 s.size
 
+-- a symbol at an offset, where all of its bytes are there
 unfoldable pub symbol_at : List ℕ → ℕ → Option Sym
 symbol_at bytes off = do
   name_is ← field_at 4 bytes off
@@ -135,9 +159,15 @@ pub record Rela : Type 0 where
   pub info : ℕ
   pub addend : ℤ
 
+-- how many bytes a relocation with an addend has
+abbrev pub rela_size : ℕ
+rela_size = 24
+
+-- the bytes of a relocation with an addend: its fields, one after another
 unfoldable pub rela_bytes : Rela → List ℕ
 rela_bytes s = field 8 s.offset ++ field 8 s.info ++ field 8 (cast_unsigned w64 s.addend)
 
+-- a relocation with an addend at an offset, where all of its bytes are there
 unfoldable pub rela_at : List ℕ → ℕ → Option Rela
 rela_at bytes off = do
   offset_is ← field_at 8 bytes off
@@ -150,9 +180,15 @@ pub record Dynamic : Type 0 where
   pub tag : ℤ
   pub val : ℕ
 
+-- how many bytes an entry of the dynamic section has
+abbrev pub dynamic_size : ℕ
+dynamic_size = 16
+
+-- the bytes of an entry of the dynamic section: its fields, one after another
 unfoldable pub dynamic_bytes : Dynamic → List ℕ
 dynamic_bytes s = field 8 (cast_unsigned w64 s.tag) ++ field 8 s.val
 
+-- an entry of the dynamic section at an offset, where all of its bytes are there
 unfoldable pub dynamic_at : List ℕ → ℕ → Option Dynamic
 dynamic_at bytes off = do
   tag_is ← field_at 8 bytes off

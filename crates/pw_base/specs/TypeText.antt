@@ -1,4 +1,4 @@
--- What the text of a type is, and what reading one answers.
+-- What a type string is, and what reading one answers.
 use Rattle.std.specs.Prelude.{◌≡◌, ℕ, ◌≤◌, Bool, true, ◌||◌, nat_eq, ◌⊎◌, List, [], ◌∷◌, ◌++◌, length, Option, Some, None, Result, Ok, Err, codes, decimal}
 use Rattle.std.specs.List.{list_all}
 use Rattle.pw_base.specs.Limits.{parameters, array_elements}
@@ -43,11 +43,11 @@ pub record IsArrayText (bytes : List ℕ) : Type 0 where
   pub valued : is_value_letter element ≡ true
   pub sized : IsSize digits
 
--- the text of a type: a letter's, a function's or an array's
+-- a type string: a letter's, a function's or an array's
 abbrev pub IsTypeText : List ℕ → Type 0
 IsTypeText bytes = IsLetterText bytes ⊎ IsFunctionText bytes ⊎ IsArrayText bytes
 
--- what may stand where a type's text does: nothing, or the text of a type
+-- what may stand where a type string does: nothing, or a type string
 abbrev pub IsTypeTextOrEmpty : List ℕ → Type 0
 IsTypeTextOrEmpty bytes = (bytes ≡ []) ⊎ IsTypeText bytes
 

@@ -13,7 +13,7 @@ mod type_text;
 
 pub use file_laws::{
     fields_are_read_as_they_are_written, laid_parts_stand_at_their_places,
-    tests_of_texts_are_right, the_least_is_found,
+    structs_are_read_as_they_are_written, tests_of_texts_are_right, the_least_is_found,
 };
 pub use kinds::{Kind, Mode};
 pub use laws::{bytes_of_a_value_give_it_back, value_of_bytes_gives_them_back};

@@ -2,6 +2,7 @@
 ghost use Rattle.std.specs.Prelude.{◌≡◌, IfOk};
 ghost use Rattle.std.specs.List.{list_all, prefix_len};
 ghost use Rattle.pw_base.specs.Name.{ReadsName, IsName, is_name_byte};
+ghost use Rattle.pw_base.specs.Tests.{is_name, ReadsWhere};
 
 use crate::limits::Limits;
 use crate::no_memory::NoMemory;
@@ -87,6 +88,19 @@ impl Name {
         }
     }
 
+    /// The name that these bytes are; `None` exactly where they are none.
+    pub fn from_bytes(alloc: Global, bytes: &[u8]) -> Result<Option<Name>, NoMemory>
+        ensures { ReadsWhere is_name bytes.now result }
+    {
+        match Name::read(alloc, bytes) {
+            Ok(name) => Ok(Some(name)),
+            Err(refusal) => match refusal {
+                NameError::NoMemory => Err(NoMemory),
+                _ => Ok(None),
+            },
+        }
+    }
+
     /// Its bytes.
     pub fn bytes(&self) -> &[u8]
         ensures bytes { result.now ≡ self.now }
@@ -125,6 +139,16 @@ mod tests {
         assert_eq!(rt; refusal(alloc, b"a b"), Some(NameError::BadByte(1)));
         assert_eq!(rt; refusal(alloc, b"a\x80"), Some(NameError::BadByte(1)));
         assert_eq!(rt; refusal(alloc, b""), Some(NameError::Empty));
+        Ok(())
+    }
+
+    #[test]
+    fn bytes_are_a_name_or_none(rt: HostRuntime) -> Result<(), Fail> {
+        match Name::from_bytes(rt.alloc(), b"main.c")? {
+            Some(name) => assert_eq!(rt; name.bytes(), b"main.c".as_slice()),
+            None => assert!(rt; false),
+        }
+        assert!(rt; Name::from_bytes(rt.alloc(), b"a b")?.is_none());
         Ok(())
     }
 

@@ -1,4 +1,4 @@
-//! The text of a type, by which two declarations of one name are compared.
+//! The type string, by which two declarations of one name are compared.
 ghost use Rattle.std.specs.Prelude.{◌≡◌, ◌≤◌, ◌↔◌, ◌&&◌, true, nat_lt, [], ◌∷◌, ◌++◌, length, decimal, IfOk};
 ghost use Rattle.std.specs.List.{list_all};
 ghost use Rattle.pw_base.specs.Name.{is_from};
@@ -13,7 +13,7 @@ use std::marker::Model;
 /// The digits of the greatest size of an array.
 const SIZE_DIGITS: usize = 5;
 
-/// The text of a function's or a variable's type, or none. Contracts see it as the list of its bytes.
+/// The type string of a function or a variable, or none. Contracts see it as the list of its bytes.
 #[derive(Debug, Drop)]
 pub struct TypeText {
     bytes: Vec<u8>,
@@ -95,7 +95,7 @@ fn is_size(digits: &[u8]) -> bool
     }
 }
 
-/// Whether a byte, then an opening byte, bytes between and a closing byte are the text of a type.
+/// Whether a byte, then an opening byte, bytes between and a closing byte are a type string.
 fn is_bracketed_text(first: u8, opening: u8, between: &[u8], closing: u8) -> bool
     ensures { (result ≡ true) ↔ IsTypeText (first ∷ opening ∷ between.now ++ closing ∷ []) }
 {
@@ -106,7 +106,7 @@ fn is_bracketed_text(first: u8, opening: u8, between: &[u8], closing: u8) -> boo
     }
 }
 
-/// Whether these bytes are the text of a type.
+/// Whether these bytes are a type string.
 fn is_type_text(bytes: &[u8]) -> bool
     ensures { (result ≡ true) ↔ IsTypeText bytes.now }
 {
@@ -120,7 +120,7 @@ fn is_type_text(bytes: &[u8]) -> bool
 }
 
 impl TypeText {
-    /// The text that these bytes are, where they are the text of a type or empty, and `None` where they are neither.
+    /// The type string that these bytes are, where they are one or empty, and `None` where they are neither.
     pub fn read(alloc: Global, bytes: &[u8]) -> Result<Option<TypeText>, NoMemory>
         ensures { ReadsTypeText bytes.now result }
     {

@@ -14,11 +14,11 @@ use Rattle.pw_hart.specs.Harts.{registers}
 use Rattle.pw_hart.specs.State as machine
 use Rattle.pw_hart.specs.Run.{run}
 use Rattle.pw_hart.specs.Runs.{state_at, RunsTo, Runs}
-use Rattle.pw_agree.specs.Image.{CanPlace, image, main_writer, all_words, text_start, stack_start, stack_len}
-use Rattle.pw_agree.specs.Start.{start}
-use Rattle.pw_agree.specs.Meaning.{value_of}
-use Rattle.pw_agree.specs.Agreement.{RunsAsMeant}
-use Rattle.pw_agree.proofs.Agree.{runs_of_images_are_meant, limits_suffice}
+use Rattle.pw_first_agree.specs.Image.{CanPlace, image, main_writer, all_words, text_start, stack_start, stack_len}
+use Rattle.pw_first_agree.specs.Start.{start}
+use Rattle.pw_first_agree.specs.Meaning.{value_of}
+use Rattle.pw_first_agree.specs.Agreement.{RunsAsMeant}
+use Rattle.pw_first_agree.proofs.Agree.{runs_of_images_are_meant, limits_suffice}
 use Rattle.pw_build.specs.declared.run.Ended.{Ended}
 use Rattle.pw_build.specs.declared.run.Ended.TheVariants.{Exit, ReadFault, WriteFault}
 use Rattle.pw_build.specs.Executed.{Given, moment, HasMain, IsFresh, HasExecuted, Flushes, Finishes, Executes}
@@ -59,7 +59,7 @@ pub ends_with_main : (funs : List Writer) (main : Writer) (steps : ℕ) (hart la
 ends_with_main funs main steps hart last old new end placed has bound fresh is r =
     sym r.ends ∙ (meant funs main steps hart old r.input placed has bound fresh is).ends
 
--- a run that ended with a value, and the flush behind it
+-- a run that ended with a value, and the flush after it
 pub finishes : (funs : List Writer) (steps value : ℕ) (fresh last : Hart) (old new : Given) (mid : SinkState) (ended : Ended) → IsFresh steps fresh → Runs ((steps + 1) * all_words funs) (moment fresh old) (moment last (record new { out = mid })) (ends.Exit value) → Flushes value mid new.out ended → Executes funs steps old new ended
 finishes funs steps value fresh last old new mid (Exit v) is_fresh runs flushes = record {
   value = value;

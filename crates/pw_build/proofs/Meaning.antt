@@ -12,12 +12,12 @@ use Rattle.pw_hart.specs.declared.ends.End.{End}
 use Rattle.pw_hart.specs.declared.ends.End.TheVariants as ends
 use Rattle.pw_hart.specs.Run.{RunResult, run}
 use Rattle.pw_hart.specs.Runs.{ExecutionState, state_at, HasResult, RunsTo, RunsUpTo, FailsToRead, FailsToWrite}
-use Rattle.pw_agree.specs.Image.{CanPlace, image, main_writer, all_words}
-use Rattle.pw_agree.specs.Start.{start}
-use Rattle.pw_agree.specs.Meaning.{output_of, value_of}
-use Rattle.pw_agree.specs.Agreement.{RunsAsMeant, KeepsText, IsFrontOf}
-use Rattle.pw_agree.proofs.TextStays.{text_stays}
-use Rattle.pw_agree.proofs.CutShort.{front_of_longer}
+use Rattle.pw_first_agree.specs.Image.{CanPlace, image, main_writer, all_words}
+use Rattle.pw_first_agree.specs.Start.{start}
+use Rattle.pw_first_agree.specs.Meaning.{output_of, value_of}
+use Rattle.pw_first_agree.specs.Agreement.{RunsAsMeant, KeepsText, IsFrontOf}
+use Rattle.pw_first_agree.proofs.TextStays.{text_stays}
+use Rattle.pw_first_agree.proofs.CutShort.{front_of_longer}
 use Rattle.pw_build.specs.declared.run.Ended.{Ended}
 use Rattle.pw_build.specs.declared.run.Ended.TheVariants.{Exit, ReadFault, WriteFault}
 use Rattle.pw_build.specs.Executed.{Given, moment, HasMain, IsFresh, HasExecuted, Flushes, Finishes, Executes}
@@ -53,7 +53,7 @@ keeps_text funs steps k fresh old new input is_fresh is l =
     let here = subst (λ s. KeepsText funs (run k s).state.mem) (sym (starts funs steps fresh old input is_fresh is)) stays in
     subst P (ap (λ s. s.mem) l.state) here
 
--- a run that ended with a value, with the flush behind it
+-- a run that ended with a value, with the flush after it
 ended_as_meant : (funs : List Writer) (main : Writer) (steps value : ℕ) (fresh last : Hart) (old new : Given) (mid : SinkState) → CanPlace funs → main_writer funs ≡ Some main → 1 ≤ steps → IsFresh steps fresh → old.mem ≡ image funs → RunsTo ((steps + 1) * all_words funs) (moment fresh old) (moment last (record new { out = mid })) (ends.Exit value) → new.out ≡ flushed_all mid → EndsAsMeant funs old new value
 ended_as_meant funs main steps value fresh last old new mid placed has bound is_fresh is r flushed =
     let m = meant funs main steps fresh old r.input placed has bound is_fresh is in
@@ -79,14 +79,14 @@ broke_off_at funs main steps fresh last old new placed has bound is_fresh is r =
     let n = (steps + 1) * all_words funs in
     let s = state_at (moment fresh old) b.input in
     let below : r.k ≤ n = omega (arith, r.below) in
-    let front = front_of_longer r.k n s below b.ends in
-    let left : (run r.k s).state.input ≡ b.input = all_is_left b.input b.leaves.taken _ front.taken b.leaves.took (front.input ∙ ap (λ rest. front.taken ++ rest) m.reads) in
+    let longer = front_of_longer r.k n s below b.ends in
+    let left : (run r.k s).state.input ≡ b.input = all_is_left b.input b.leaves.taken _ longer.taken b.leaves.took (longer.input ∙ ap (λ rest. longer.taken ++ rest) m.reads) in
     record {
       main = main;
       is_main = has;
-      front = (run r.k s).state.output;
-      more = front.more_output;
-      whole = sym m.writes ∙ front.output;
+      written = (run r.k s).state.output;
+      more = longer.more_output;
+      whole = sym m.writes ∙ longer.output;
       out = subst (λ o. SinkFails o new.out) b.leaves.put r.failure.out;
       input = r.failure.input ∙ takes_nothing _ _ b.input _ left b.leaves;
       fetches = fetches_up_to funs _ r.at.hart.pc _ r.at.told old new (kept_up_to funs s r.k n r.at.hart.pc r.below b.ends (ap (λ u. u.pc) b.leaves.state) m.kept) b.leaves.counts b.leaves.tells r.failure.counts r.failure.tells;
@@ -101,29 +101,29 @@ stopped_at funs main steps fresh last old new placed has bound is_fresh is r =
     let n = (steps + 1) * all_words funs in
     let s = state_at (moment fresh old) b.input in
     let below : r.k ≤ n = omega (arith, r.below) in
-    let front = front_of_longer r.k n s below b.ends in
-    let left : (run r.k s).state.input ≡ b.input = all_is_left b.input b.leaves.taken _ front.taken b.leaves.took (front.input ∙ ap (λ rest. front.taken ++ rest) m.reads) in
+    let longer = front_of_longer r.k n s below b.ends in
+    let left : (run r.k s).state.input ≡ b.input = all_is_left b.input b.leaves.taken _ longer.taken b.leaves.took (longer.input ∙ ap (λ rest. longer.taken ++ rest) m.reads) in
     record {
       main = main;
       is_main = has;
-      front = (run r.k s).state.output;
-      more = front.more_output;
-      whole = sym m.writes ∙ front.output;
+      written = (run r.k s).state.output;
+      more = longer.more_output;
+      whole = sym m.writes ∙ longer.output;
       out = r.failure.out ∙ b.leaves.put;
       input = subst (λ i. SourceFails i new.input) (takes_nothing _ _ b.input _ left b.leaves) r.failure.input;
       fetches = fetches_up_to funs _ r.at.hart.pc _ r.at.told old new (kept_up_to funs s r.k n r.at.hart.pc r.below b.ends (ap (λ u. u.pc) b.leaves.state) m.kept) b.leaves.counts b.leaves.tells r.failure.counts r.failure.tells;
       text = subst (λ k. KeepsText funs k) (sym r.failure.mem) (keeps_text funs steps r.k fresh old _ b.input is_fresh is b.leaves);
     }
 
--- the output failed at the flush behind the last byte
-broke_off_behind : (funs : List Writer) (main : Writer) (steps value : ℕ) (fresh last : Hart) (old new : Given) (mid : SinkState) → CanPlace funs → main_writer funs ≡ Some main → 1 ≤ steps → IsFresh steps fresh → old.mem ≡ image funs → RunsTo ((steps + 1) * all_words funs) (moment fresh old) (moment last (record new { out = mid })) (ends.Exit value) → SinkFails mid new.out → BreaksOffAsMeant funs old new
-broke_off_behind funs main steps value fresh last old new mid placed has bound is_fresh is r fails =
+-- the output failed at the flush after the last byte
+broke_off_at_flush : (funs : List Writer) (main : Writer) (steps value : ℕ) (fresh last : Hart) (old new : Given) (mid : SinkState) → CanPlace funs → main_writer funs ≡ Some main → 1 ≤ steps → IsFresh steps fresh → old.mem ≡ image funs → RunsTo ((steps + 1) * all_words funs) (moment fresh old) (moment last (record new { out = mid })) (ends.Exit value) → SinkFails mid new.out → BreaksOffAsMeant funs old new
+broke_off_at_flush funs main steps value fresh last old new mid placed has bound is_fresh is r fails =
     let m = meant funs main steps fresh old r.input placed has bound is_fresh is in
     let l = r.leaves in
     record {
       main = main;
       is_main = has;
-      front = output_of main;
+      written = output_of main;
       more = [];
       whole = sym (append-nil (output_of main));
       out = subst (λ o. SinkFails o new.out) (l.put ∙ ap (λ bytes. wrote bytes old.out) m.writes) fails;
@@ -141,7 +141,7 @@ is_meant funs steps old new (Exit value) placed has bound is f =
 is_meant funs steps old new ReadFault placed has bound is r = stopped_at funs has.main steps r.fresh r.last old new placed has.is bound r.is_fresh is r.runs
 is_meant funs steps old new WriteFault placed has bound is (inl r) = broke_off_at funs has.main steps r.fresh r.last old new placed has.is bound r.is_fresh is r.runs
 is_meant funs steps old new WriteFault placed has bound is (inr f) =
-    let r = f.runs in broke_off_behind funs has.main steps f.value r.fresh r.last old new f.mid placed has.is bound r.is_fresh is r.runs f.flushes
+    let r = f.runs in broke_off_at_flush funs has.main steps f.value r.fresh r.last old new f.mid placed has.is bound r.is_fresh is r.runs f.flushes
 
 -- what a moment gives beside the processor
 abbrev pub given_at : ExecutionState → Given
@@ -152,7 +152,7 @@ pub only_exit : (funs : List Writer) (steps n : ℕ) (old new : ExecutionState) 
 only_exit funs steps n old new end placed has bound is_fresh is limit r =
     ends_with_main funs has.main steps old.hart new.hart (given_at old) (given_at new) end placed has.is bound is_fresh is (subst (λ k. RunsTo k old new end) limit r)
 
--- a run that ended with a value, and the flush behind it, are as meant
+-- a run that ended with a value, and the flush after it, are as meant
 pub meant_at_exit : (funs : List Writer) (steps n value : ℕ) (old mid : ExecutionState) (out : SinkState) (ended : Ended) → CanPlace funs → HasMain funs → 1 ≤ steps → IsFresh steps old.hart → old.mem ≡ image funs → n ≡ (steps + 1) * all_words funs → RunsTo n old mid (ends.Exit value) → Flushes value mid.out out ended → IsMeant funs (given_at old) (record { mem = mid.mem; fetches = mid.fetches; told = mid.told; input = mid.input; out = out }) ended
 meant_at_exit funs steps n value old mid out ended placed has bound is_fresh is limit r flushes =
     is_meant funs steps (given_at old) _ ended placed has bound is

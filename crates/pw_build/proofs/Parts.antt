@@ -12,7 +12,7 @@ use Rattle.pw_mem.specs.Words.{text_bytes}
 use Rattle.pw_mem.specs.declared.rights.Rights.{Rights}
 use Rattle.std.proofs.lemmas.List.{take_more}
 use Rattle.pw_build.proofs.Sizes.{length-zeros, zeros_none, drop-zeros}
-use Rattle.pw_agree.specs.Image.{text_start, data_start, stack_start, stack_len, data_region, stack_region}
+use Rattle.pw_first_agree.specs.Image.{text_start, data_start, stack_start, stack_len, data_region, stack_region}
 use Rattle.pw_build.specs.Built.{regions_of, memory_of, rounded}
 
 -- what a put that is not refused leaves
@@ -37,9 +37,9 @@ put_first r rs new some fits =
     let w : written (r ∷ rs) r.start new ≡ starting r new ∷ rs = rw h (ap (λ q. q ∷ rs) (with_bytes_at_start r new)) in
     rw (e, h) (ap (λ regions. Ok (record { regions = regions; sealed = false })) w)
 
--- bytes put at the start of the second region, which lies behind the first
+-- bytes put at the start of the second region, which lies after the first
 pub put_second : (q r : MappedRegion) (rs : List MappedRegion) (new : List ℕ) → 0 < length new → length new ≤ length r.bytes → q.start + length q.bytes ≤ r.start → put (record { regions = q ∷ r ∷ rs; sealed = false }) r.start new ≡ Ok (record { regions = q ∷ starting r new ∷ rs; sealed = false })
-put_second q r rs new some fits behind =
+put_second q r rs new some fits past =
     let e : (length new == 0) ≡ false = grind (arith, nat_tests) in
     let n : holds r.start (length new) q ≡ false = grind (arith, nat_tests) in
     let h : holds r.start (length new) r ≡ true = grind (arith, nat_tests) in

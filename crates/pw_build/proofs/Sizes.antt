@@ -5,11 +5,11 @@ use Rattle.std.specs.List.{prefix_len}
 use Rattle.std.proofs.lemmas.List.Sums.{sum_by_more, sum_by_more_le, sum_by-take-le}
 use Rattle.std.proofs.lemmas.List.{drop_more, length-replicate, drop-replicate, replicate-append-replicate}
 use Rattle.pw_first.specs.declared.writer.Writer.{Writer}
-use Rattle.pw_code.specs.Items.{size}
-use Rattle.pw_code.specs.Scheme.{function_items}
-use Rattle.pw_code.proofs.CodeWords.{size-function}
+use Rattle.pw_first_code.specs.Items.{size}
+use Rattle.pw_first_code.specs.Scheme.{function_items}
+use Rattle.pw_first_code.proofs.CodeWords.{size-function}
 use Rattle.pw_mem.specs.Memory.{zeros}
-use Rattle.pw_agree.specs.Image.{CanPlace, all_words, function_size, is_kept, main_writer}
+use Rattle.pw_first_agree.specs.Image.{CanPlace, all_words, function_size, is_kept, main_writer}
 
 -- the words before a function and its own are at most all
 pub words_to : (funs : List Writer) (i : ℕ) (f : Writer) → CanPlace funs → i < length funs → f ≡ get_or funs i f → all_words (take i funs) + function_size f ≤ 2 ^ 22
@@ -64,7 +64,7 @@ pub length-zeros : (n : ℕ) → length (zeros n) ≡ n
 unfolding zeros
 length-zeros n = length-replicate n 0
 
--- zeros behind the first of them
+-- zeros after the first of them
 pub drop-zeros : (k n : ℕ) → drop k (zeros n) ≡ zeros (n - k)
 unfolding zeros
 drop-zeros k n = drop-replicate k n 0

@@ -7,9 +7,9 @@ use Rattle.pw_mem.specs.Fetches.{counted, Told}
 use Rattle.pw_hart.specs.declared.ends.End.TheVariants.{Limit}
 use Rattle.pw_hart.specs.State.{MachineState}
 use Rattle.pw_hart.specs.Run.{run}
-use Rattle.pw_agree.specs.KeptCode.{LiesInKeptCode}
-use Rattle.pw_agree.proofs.CutShort.{StopsAtLimit, limit_path}
-use Rattle.pw_agree.proofs.Reach.{run_along}
+use Rattle.pw_first_agree.specs.KeptCode.{LiesInKeptCode}
+use Rattle.pw_first_agree.proofs.CutShort.{StopsAtLimit, limit_path}
+use Rattle.pw_first_agree.proofs.Reach.{run_along}
 use Rattle.pw_build.specs.Executed.{Given}
 use Rattle.pw_build.specs.Meant.{FetchesKeptCode}
 

@@ -6,12 +6,12 @@ use Rattle.std.proofs.lemmas.List.Concat.{flat_map-cons}
 use Rattle.std.proofs.lemmas.List.Sums.{sum_by-cons}
 use Rattle.pw_base.specs.Bytes.{le_bytes}
 use Rattle.pw_first.specs.declared.writer.Writer.{Writer}
-use Rattle.pw_code.specs.Items.{size}
-use Rattle.pw_code.specs.Scheme.{words, function_items, entry_words, entry_items}
-use Rattle.pw_code.proofs.CodeWords.{length-words_at}
+use Rattle.pw_first_code.specs.Items.{size}
+use Rattle.pw_first_code.specs.Scheme.{words, function_items, entry_words, entry_items}
+use Rattle.pw_first_code.proofs.CodeWords.{length-words_at}
 use Rattle.pw_mem.specs.Memory.{Mem, zeros}
 use Rattle.pw_mem.specs.Words.{text_bytes}
-use Rattle.pw_agree.specs.Image.{CanPlace, image, image_words, text_words, text_start, data_start, all_words, function_size, is_kept, main_writer, main_address, data_region, stack_region, stack_len}
+use Rattle.pw_first_agree.specs.Image.{CanPlace, image, image_words, text_words, text_start, data_start, all_words, function_size, is_kept, main_writer, main_address, data_region, stack_region, stack_len}
 use Rattle.pw_build.specs.declared.memory_image.ImageError.{ImageError}
 use Rattle.pw_build.specs.declared.memory_image.ImageError.TheVariants.{NoMain, NoMemory}
 use Rattle.pw_build.specs.Built.{Held, HoldsImage, HoldsParts, Places, LeavesImage, memory_of, rounded, text_region_of}

@@ -6,7 +6,7 @@ use Rattle.pw_base.specs.Bytes.{le_bytes}
 use Rattle.pw_mem.specs.declared.region.Region.{Region}
 use Rattle.pw_mem.specs.Regions.{MappedRegion}
 use Rattle.pw_mem.specs.Memory.{Mem, zeros}
-use Rattle.pw_agree.specs.Image.{image, main_writer, main_address, text_start, data_start, stack_start, stack_len, data_region, stack_region}
+use Rattle.pw_first_agree.specs.Image.{image, main_writer, main_address, text_start, data_start, stack_start, stack_len, data_region, stack_region}
 use Rattle.pw_build.specs.declared.memory_image.ImageError.{ImageError}
 use Rattle.pw_build.specs.declared.memory_image.ImageError.TheVariants as errors
 
@@ -21,7 +21,7 @@ abbrev pub IsMainAddress : List Writer → Option ℕ → Type 0
 IsMainAddress funs (Some at) = (at ≡ main_address funs) × ((main : Writer) × (main_writer funs ≡ Some main))
 IsMainAddress funs None = main_writer funs ≡ None
 
--- the words are behind the old ones, or memory was refused
+-- the words are after the old ones, or memory was refused
 abbrev pub Appended : (words old new : List ℕ) → Result (Unit {0}) NoMemory → Type 0
 Appended words old new (Ok _) = new ≡ old ++ words
 Appended words old new (Err _) = Unit {0}

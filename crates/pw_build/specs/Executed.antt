@@ -11,7 +11,7 @@ use Rattle.pw_hart.specs.declared.ends.End.TheVariants as ends
 use Rattle.pw_hart.specs.Harts.{registers}
 use Rattle.pw_hart.specs.State.{set}
 use Rattle.pw_hart.specs.Runs.{ExecutionState, Runs}
-use Rattle.pw_agree.specs.Image.{text_start, stack_start, stack_len, all_words, main_writer}
+use Rattle.pw_first_agree.specs.Image.{text_start, stack_start, stack_len, all_words, main_writer}
 use Rattle.pw_build.specs.declared.run.Ended.{Ended}
 use Rattle.pw_build.specs.declared.run.Ended.TheVariants.{Exit, ReadFault, WriteFault}
 
@@ -46,7 +46,7 @@ pub record HasExecuted (funs : List Writer) (steps : ℕ) (old new : Given) (end
   pub last : Hart
   pub runs : Runs ((steps + 1) * all_words funs) (moment fresh old) (moment last new) end
 
--- a flush behind the last byte of a run that ended with a value
+-- a flush after the last byte of a run that ended with a value
 abbrev pub Flushes : ℕ → SinkState → SinkState → Ended → Type 0
 Flushes value old new (Exit v) = (v ≡ value) × (new ≡ flushed_all old)
 Flushes value old new ReadFault = ⊥

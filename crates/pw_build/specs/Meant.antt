@@ -4,10 +4,10 @@ use Rattle.pw_first.specs.declared.writer.Writer.{Writer}
 use Rattle.pw_mem.specs.Fetches.{counted, Told}
 use Rattle.pw_io.specs.Source.{SourceFails}
 use Rattle.pw_io.specs.Sink.{SinkFails, wrote, flushed_all}
-use Rattle.pw_agree.specs.Image.{main_writer}
-use Rattle.pw_agree.specs.Meaning.{output_of, value_of}
-use Rattle.pw_agree.specs.KeptCode.{LiesInKeptCode}
-use Rattle.pw_agree.specs.Agreement.{KeepsText}
+use Rattle.pw_first_agree.specs.Image.{main_writer}
+use Rattle.pw_first_agree.specs.Meaning.{output_of, value_of}
+use Rattle.pw_first_agree.specs.KeptCode.{LiesInKeptCode}
+use Rattle.pw_first_agree.specs.Agreement.{KeepsText}
 use Rattle.pw_build.specs.declared.run.Ended.{Ended}
 use Rattle.pw_build.specs.declared.run.Ended.TheVariants.{Exit, ReadFault, WriteFault}
 use Rattle.pw_build.specs.Executed.{Given}
@@ -33,10 +33,10 @@ pub record EndsAsMeant (funs : List Writer) (old new : Given) (value : ℕ) : Ty
 pub record BreaksOffAsMeant (funs : List Writer) (old new : Given) : Type 0 where
   pub main : Writer
   pub is_main : main_writer funs ≡ Some main
-  pub front : List ℕ
+  pub written : List ℕ
   pub more : List ℕ
-  pub whole : output_of main ≡ front ++ more
-  pub out : SinkFails (wrote front old.out) new.out
+  pub whole : output_of main ≡ written ++ more
+  pub out : SinkFails (wrote written old.out) new.out
   pub input : new.input ≡ old.input
   pub fetches : FetchesKeptCode funs old new
   pub text : KeepsText funs new.mem
@@ -45,10 +45,10 @@ pub record BreaksOffAsMeant (funs : List Writer) (old new : Given) : Type 0 wher
 pub record StopsAsMeant (funs : List Writer) (old new : Given) : Type 0 where
   pub main : Writer
   pub is_main : main_writer funs ≡ Some main
-  pub front : List ℕ
+  pub written : List ℕ
   pub more : List ℕ
-  pub whole : output_of main ≡ front ++ more
-  pub out : new.out ≡ wrote front old.out
+  pub whole : output_of main ≡ written ++ more
+  pub out : new.out ≡ wrote written old.out
   pub input : SourceFails old.input new.input
   pub fetches : FetchesKeptCode funs old new
   pub text : KeepsText funs new.mem

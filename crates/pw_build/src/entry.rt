@@ -1,11 +1,11 @@
 //! Where `main` stands in the text.
 ghost use Rattle.std.specs.Prelude.{◌≡◌, ◌≤◌, length};
-ghost use Rattle.pw_agree.specs.Image.{is_kept, all_words, CanPlace};
+ghost use Rattle.pw_first_agree.specs.Image.{is_kept, all_words, CanPlace};
 ghost use Rattle.pw_build.specs.Built.{IsMainAddress};
 
 use pw_base::Limits;
-use pw_code::function_size;
 use pw_first::Writer;
+use pw_first_code::function_size;
 
 /// The first address of the text.
 pub const TEXT_START: u64 = Limits::MODULE_SPAN + Limits::TEXT_OFFSET;

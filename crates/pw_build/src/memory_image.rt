@@ -1,7 +1,7 @@
 //! Puts the image of a program into a memory.
 ghost use Rattle.std.specs.Prelude.{bit_or, ◌≡◌, ◌<◌, ◌≤◌, ◌^◌, length};
 ghost use Rattle.pw_mem.specs.Map.{mapped};
-ghost use Rattle.pw_agree.specs.Image.{CanPlace};
+ghost use Rattle.pw_first_agree.specs.Image.{CanPlace};
 ghost use Rattle.pw_build.specs.Built.{Held, LeavesImage, Places, regions_of, memory_of};
 
 use crate::entry::{DATA_START, TEXT_START, main_address};

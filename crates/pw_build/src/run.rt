@@ -1,7 +1,7 @@
 //! Runs the image of a program.
 ghost use Rattle.std.specs.Prelude.{◌≡◌, ◌≤◌};
 ghost use Rattle.pw_base.specs.Limits.{given_steps};
-ghost use Rattle.pw_agree.specs.Image.{CanPlace, image};
+ghost use Rattle.pw_first_agree.specs.Image.{CanPlace, image};
 ghost use Rattle.pw_build.specs.Meant.{IsMeant};
 ghost use Rattle.pw_build.specs.Executed.{HasMain, IsFresh, Executes, Flushes};
 
@@ -20,7 +20,7 @@ pub enum Ended {
     Exit(u64),
     /// The input failed.
     ReadFault,
-    /// The output failed, at a byte or at the flush behind the last.
+    /// The output failed, at a byte or at the flush after the last.
     WriteFault,
 }
 
@@ -82,7 +82,7 @@ fn fresh(steps: u64) -> Hart
     }
 }
 
-/// Flushes the output behind the last byte of a run that ended with a value.
+/// Flushes the output after the last byte of a run that ended with a value.
 fn flushed<O: Sink>(out: &mut O, value: u64) -> Ended
     ensures { Flushes value (O.state out.old) (O.state out.new) result }
 {

@@ -1,15 +1,15 @@
 //! The words of the text: those of the entry and of `main`, and zeros in place of every other function.
 ghost use Rattle.std.specs.Prelude.{◌≡◌, ◌<◌, ◌^◌, [], ◌∷◌, length, IfOk};
-ghost use Rattle.pw_agree.specs.Image.{image_words, text_words, CanPlace};
-ghost use Rattle.pw_code.specs.Scheme.{HasSmallNumbers};
+ghost use Rattle.pw_first_agree.specs.Image.{image_words, text_words, CanPlace};
+ghost use Rattle.pw_first_code.specs.Scheme.{HasSmallNumbers};
 ghost use Rattle.pw_build.specs.Built.{Appended};
 ghost use Rattle.pw_mem.specs.Memory.{zeros};
 ghost use Rattle.pw_mem.specs.Words.{text_bytes};
 
 use crate::entry::{DATA_START, TEXT_START, is_main};
 use pw_base::NoMemory;
-use pw_code::{function_size, put_entry, put_function};
 use pw_first::Writer;
+use pw_first_code::{function_size, put_entry, put_function};
 use std::alloc::Global;
 
 /// The bytes of the text of a program.

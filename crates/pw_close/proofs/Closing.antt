@@ -8,7 +8,7 @@ use Rattle.pw_close.specs.declared.graph.Graph.{Graph}
 use Rattle.pw_close.specs.declared.graph.Levels.{Levels}
 use Rattle.pw_close.specs.Graphs.{HasEdge, HasWay, IsKept, root, named, IsGraph}
 use Rattle.pw_close.specs.Closure.{IsLevel, AreLevels}
-use Rattle.pw_close.specs.Steps.{entry, unmarked, MarksRoots, MarksNext}
+use Rattle.pw_close.specs.Steps.Marks.{entry, unmarked, MarksRoots, MarksNext}
 use Rattle.pw_close.proofs.Marks.{some_is, none_is_not}
 
 -- ---- ways

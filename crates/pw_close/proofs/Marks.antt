@@ -5,7 +5,7 @@ use Rattle.std.specs.List.{Contains}
 use Rattle.std.proofs.lemmas.List.{take_more, length-set, get_or_default}
 use Rattle.std.proofs.lemmas.List.Elements.{Contains-append_left, Contains-append_right, Contains-append_cases}
 use Rattle.std.proofs.lemmas.List.Sums.{sum_by-set}
-use Rattle.pw_close.specs.Steps.{entry, unmarked, MarksRoots, MarksRow}
+use Rattle.pw_close.specs.Steps.Marks.{entry, unmarked, MarksRoots, MarksRow}
 
 -- ---- lists
 

@@ -7,7 +7,7 @@ use Rattle.std.proofs.lemmas.Option.{slice_get-get_or}
 use Rattle.pw_close.specs.declared.graph.Graph.{Graph}
 use Rattle.pw_close.specs.declared.graph.Levels.{Levels}
 use Rattle.pw_close.specs.Graphs.{HasEdge}
-use Rattle.pw_close.specs.Steps.{entry, MarksRow, MarksNext, IsFirstBefore}
+use Rattle.pw_close.specs.Steps.Marks.{entry, MarksRow, MarksNext, IsFirstBefore}
 use Rattle.pw_close.proofs.Marks.{same_or_other, some_is, none_is_not}
 
 before_or_from_suc : (m q : ℕ) → (q < m) ⊎ (m ≤ q) → (suc q < suc m) ⊎ (suc m ≤ suc q)

@@ -15,10 +15,11 @@ pub record IsParent (g : Graph) (n k p : ℕ) : Type 0 where
   pub edge : HasEdge g p n
   pub first : (q : ℕ) → IsLevel g q k → HasEdge g q n → p ≤ q
 
--- The level of a function, and its parent.
+-- The level of a function, where it has one.
 abbrev pub level_of : Levels → ℕ → Option ℕ
 level_of levels n = slice_index_or levels.level.items n None
 
+-- The parent of a function, where it has one.
 abbrev pub parent_of : Levels → ℕ → Option ℕ
 parent_of levels n = slice_index_or levels.parent.items n None
 
@@ -26,7 +27,7 @@ parent_of levels n = slice_index_or levels.parent.items n None
 pub record AreLevels (g : Graph) (levels : Levels) : Type 0 where
   pub levels_all : length levels.level.items ≡ g.funs
   pub parents_all : length levels.parent.items ≡ g.funs
-  -- a level is told of kept functions alone, and is theirs
+  -- only kept functions have a level, and it is theirs
   pub level : (n k : ℕ) → level_of levels n ≡ Some k → IsLevel g n k
   -- what has none is not kept
   pub rest : (n : ℕ) → level_of levels n ≡ None → IsKept g n → ⊥

@@ -10,10 +10,11 @@ use Rattle.pw_close.specs.declared.graph.Levels.{Levels}
 abbrev pub KeptByWays : Type 0
 KeptByWays = (g : Graph) (n : ℕ) → ((k : ℕ) (way : HasWay g k n) → IsKept g n) × (IsKept g n → (k : ℕ) × HasWay g k n)
 
--- where levels are told, a function is kept exactly if it has one
+-- a kept function has a level
 abbrev pub KeptHaveLevels : Type 0
 KeptHaveLevels = (g : Graph) (levels : Levels) → AreLevels g levels → (n : ℕ) → IsKept g n → (k : ℕ) × (level_of levels n ≡ Some k)
 
+-- and what has a level is kept
 abbrev pub LevelsAreKept : Type 0
 LevelsAreKept = (g : Graph) (levels : Levels) → AreLevels g levels → (n k : ℕ) → level_of levels n ≡ Some k → IsKept g n
 

@@ -3,7 +3,7 @@ ghost use Rattle.std.specs.Prelude.{◌≡◌, ℕ, ◌+◌, ◌-◌, ◌^◌, �
 ghost use Rattle.std.specs.List.{All};
 ghost use Rattle.pw_close.specs.Graphs.{IsGraph};
 ghost use Rattle.pw_close.specs.Closure.{AreLevels};
-ghost use Rattle.pw_close.specs.Steps.{AreFresh, MarksRoots, MarksRow, MarksNext, entry, unmarked};
+ghost use Rattle.pw_close.specs.Steps.Marks.{AreFresh, MarksRoots, MarksRow, MarksNext, entry, unmarked};
 
 use crate::graph::{Graph, Levels};
 use pw_base::NoMemory;

@@ -1,5 +1,12 @@
+pub mod Composition
+pub mod Lists
+pub mod StageLaws
+pub mod CommandLaws
+pub mod Texts
 pub mod Lines
 pub mod Placed
 pub mod Programs
-pub mod Runs
+pub mod Inversion
+pub mod Began
 pub mod Shows
+pub mod Completes

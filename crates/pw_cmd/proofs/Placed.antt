@@ -11,9 +11,9 @@ use Rattle.pw_tree.specs.Units.{Function, TypedUnit}
 use Rattle.pw_first.specs.declared.writer.Writer.{Writer}
 use Rattle.pw_first.specs.FirstForm.{largest_number, IsConstant, IsOutput, IsWrittenBy, IsReturned, Writes, IsWriter, AreWriters, IsFirstForm}
 use Rattle.pw_front.specs.Weights.{statement_count, weight}
-use Rattle.pw_code.proofs.CodeWords.{size-function}
-use Rattle.pw_code.specs.Scheme.{HasSmallNumbers}
-use Rattle.pw_agree.specs.Image.{CanPlace, function_size}
+use Rattle.pw_first_code.proofs.CodeWords.{size-function}
+use Rattle.pw_first_code.specs.Scheme.{HasSmallNumbers}
+use Rattle.pw_first_agree.specs.Image.{CanPlace, function_size}
 
 -- ---- the statements of a body
 

@@ -2,7 +2,8 @@
 use Rattle.std.proofs.Common.{◌≡◌, ℕ, List, subst, inl}
 use Rattle.pw_io.specs.Sink.{SinkState}
 use Rattle.pw_arguments.specs.Words.{AreWords}
-use Rattle.pw_cmd.specs.Comes.{Outside, Answers}
+use Rattle.pw_cmd.specs.Outside.{Outside}
+use Rattle.pw_cmd.specs.Answers.{Answers}
 use Rattle.pw_cmd.specs.Shows.{Means}
 use Rattle.pw_cmd.specs.Program.{words_end, Ends}
 

@@ -1,9 +1,17 @@
-pub mod Answer
+-- The commands, in the order to read: the words, answers with their status and line, stages, the commands as stages; what the
+-- call that the program is answers, the laws that commands obey, and what a reader may take from a status; and last the
+-- program from its arguments on.
+pub mod Outside
 pub mod Words
+pub mod Faults
+pub mod Answer
+pub mod Says
 pub mod Message
-pub mod Unit
-pub mod Run
-pub mod Comes
+pub mod Stages
+pub mod Primitives
+pub mod Commands
+pub mod Answers
+pub mod Laws
 pub mod Shows
 pub mod Program
 pub mod System

@@ -1,7 +1,7 @@
 -- What is known of a run on the system, whose ports report nothing.
 use Rattle.std.specs.Prelude.{ℕ, None}
 use Rattle.pw_io.specs.Sink.{SinkState}
-use Rattle.pw_cmd.specs.Comes.{Outside}
+use Rattle.pw_cmd.specs.Outside.{Outside}
 use Rattle.pw_cmd.specs.Program.{Exits}
 
 -- The program ended so between some states of the outside, of which the system reports nothing.

@@ -3,10 +3,8 @@ use Rattle.std.specs.Prelude.{◌≡◌, ℕ, List, [], ◌∷◌, map, codes, R
 use Rattle.std.specs.String.{string_bytes}
 use Rattle.std.specs.declared.alloc.Global.{Global}
 use Rattle.pw_base.specs.Name.{IsName}
-use Rattle.pw_cmd.specs.declared.words.Command.{Command}
-use Rattle.pw_cmd.specs.declared.words.Command.TheVariants.{One}
-use Rattle.pw_cmd.specs.declared.answer.Stop.{Stop}
-use Rattle.pw_cmd.specs.declared.answer.Stop.TheVariants.{Usage, NoMemory}
+use Rattle.pw_cmd.specs.declared.words.CommandError.{CommandError}
+use Rattle.pw_cmd.specs.declared.words.CommandError.TheVariants.{NoCommand, NoMemory}
 
 -- the bytes of each word
 abbrev pub texts : List (String Global) → List (List ℕ)
@@ -17,9 +15,8 @@ pub record AsksForOne (words : List (List ℕ)) (file : List ℕ) : Type 0 where
   pub spelled : words ≡ codes "one" ∷ file ∷ []
   pub name : IsName file
 
--- the command of the words, or that they are of none; memory is asked for only where they are of one
-abbrev pub Judges : List (List ℕ) → Result Command Stop → Type 0
-Judges words (Ok (One file)) = AsksForOne words file
-Judges words (Err Usage) = (file : List ℕ) → ¬ AsksForOne words file
+-- the file that the words ask for, or that they are of no command; memory is asked for only where they are of one
+abbrev pub Judges : List (List ℕ) → Result (List ℕ) CommandError → Type 0
+Judges words (Ok file) = AsksForOne words file
+Judges words (Err NoCommand) = (file : List ℕ) → ¬ AsksForOne words file
 Judges words (Err NoMemory) = (file : List ℕ) × AsksForOne words file
-Judges words (Err _) = ⊥

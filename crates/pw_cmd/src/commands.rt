@@ -1,16 +1,16 @@
 //! The call that the program is: words in, a status and the memory out.
-ghost use Rattle.std.specs.Prelude.{◌≡◌};
-ghost use Rattle.pw_cmd.specs.Comes.{outside, Answers};
-ghost use Rattle.pw_cmd.specs.Shows.{Completes, Means, PassesNone, ReadFailedOnly, WriteFailedOnly};
+ghost use Rattle.pw_cmd.specs.Outside.{memory_of, outside};
+ghost use Rattle.pw_cmd.specs.Answers.{Answers};
+ghost use Rattle.pw_cmd.specs.Shows.{CallsInOrder, Completes, LeavesRefused, Means, ReportsFailures};
 ghost use Rattle.pw_cmd.specs.Words.{texts};
 
-use crate::message::tell;
+use crate::message::report;
 use crate::perform::perform;
 use pw_io::{Sink, Source, Store};
 use pw_mem::Memory;
 use std::alloc::Global;
 
-/// Does what the words behind the program's name ask for, says on `msg` how that ended, and answers the status and the
+/// Does what the words after the program's name ask for, says on `msg` how that ended, and answers the status and the
 /// memory.
 pub fn top<S: Store, I: Source, O: Sink, E: Sink, M: Memory>(
     alloc: Global,
@@ -22,32 +22,30 @@ pub fn top<S: Store, I: Source, O: Sink, E: Sink, M: Memory>(
     mem: M,
 ) -> (u8, M)
     ensures answers { Answers (texts words.now)
-        (outside (S.state store.old) (I.state input.old) (O.state out.old) (M.mem mem) (M.fetches mem) (M.told mem))
-        (outside (S.state store.new) (I.state input.new) (O.state out.new) (M.mem result.1) (M.fetches result.1) (M.told result.1))
+        (outside (S.state store.old) (I.state input.old) (O.state out.old) (memory_of (M.mem mem) (M.fetches mem) (M.told mem)))
+        (outside (S.state store.new) (I.state input.new) (O.state out.new) (memory_of (M.mem result.1) (M.fetches result.1) (M.told result.1)))
         (E.state msg.old) (E.state msg.new) result.0 }
     ensures means { Means (texts words.now)
-        (outside (S.state store.old) (I.state input.old) (O.state out.old) (M.mem mem) (M.fetches mem) (M.told mem))
-        (outside (S.state store.new) (I.state input.new) (O.state out.new) (M.mem result.1) (M.fetches result.1) (M.told result.1))
+        (outside (S.state store.old) (I.state input.old) (O.state out.old) (memory_of (M.mem mem) (M.fetches mem) (M.told mem)))
+        (outside (S.state store.new) (I.state input.new) (O.state out.new) (memory_of (M.mem result.1) (M.fetches result.1) (M.told result.1)))
+        (E.state msg.old) (E.state msg.new) result.0 }
+    ensures failures { ReportsFailures (texts words.now)
+        (outside (S.state store.old) (I.state input.old) (O.state out.old) (memory_of (M.mem mem) (M.fetches mem) (M.told mem)))
+        (outside (S.state store.new) (I.state input.new) (O.state out.new) (memory_of (M.mem result.1) (M.fetches result.1) (M.told result.1)))
         (E.state msg.old) (E.state msg.new) result.0 }
     ensures completes { Completes (texts words.now)
-        (outside (S.state store.old) (I.state input.old) (O.state out.old) (M.mem mem) (M.fetches mem) (M.told mem))
-        (outside (S.state store.new) (I.state input.new) (O.state out.new) (M.mem result.1) (M.fetches result.1) (M.told result.1))
+        (outside (S.state store.old) (I.state input.old) (O.state out.old) (memory_of (M.mem mem) (M.fetches mem) (M.told mem)))
+        (outside (S.state store.new) (I.state input.new) (O.state out.new) (memory_of (M.mem result.1) (M.fetches result.1) (M.told result.1)))
         (E.state msg.old) (E.state msg.new) result.0 }
-    ensures read_failed { ReadFailedOnly (texts words.now)
-        (outside (S.state store.old) (I.state input.old) (O.state out.old) (M.mem mem) (M.fetches mem) (M.told mem))
-        (outside (S.state store.new) (I.state input.new) (O.state out.new) (M.mem result.1) (M.fetches result.1) (M.told result.1))
-        result.0 }
-    ensures write_failed { WriteFailedOnly
-        (outside (S.state store.old) (I.state input.old) (O.state out.old) (M.mem mem) (M.fetches mem) (M.told mem))
-        (outside (S.state store.new) (I.state input.new) (O.state out.new) (M.mem result.1) (M.fetches result.1) (M.told result.1))
-        (E.state msg.old) (E.state msg.new) result.0 }
-    ensures passes_none { PassesNone
-        (outside (S.state store.old) (I.state input.old) (O.state out.old) (M.mem mem) (M.fetches mem) (M.told mem))
-        (outside (S.state store.new) (I.state input.new) (O.state out.new) (M.mem result.1) (M.fetches result.1) (M.told result.1))
-        (E.state msg.old) (E.state msg.new) result.0 }
+    ensures refused { LeavesRefused
+        (outside (S.state store.old) (I.state input.old) (O.state out.old) (memory_of (M.mem mem) (M.fetches mem) (M.told mem)))
+        (outside (S.state store.new) (I.state input.new) (O.state out.new) (memory_of (M.mem result.1) (M.fetches result.1) (M.told result.1))) result.0 }
+    ensures calls { CallsInOrder (texts words.now)
+        (outside (S.state store.old) (I.state input.old) (O.state out.old) (memory_of (M.mem mem) (M.fetches mem) (M.told mem)))
+        (outside (S.state store.new) (I.state input.new) (O.state out.new) (memory_of (M.mem result.1) (M.fetches result.1) (M.told result.1))) }
 {
     let mut mem = mem;
     let answer = perform(alloc, words, store, input, out, &mut mem);
-    let status = tell(msg, words, &answer);
+    let status = report(msg, words, &answer);
     (status, mem)
 }

@@ -4,16 +4,19 @@
 
 mod answer;
 mod commands;
+mod fault;
+mod laws;
 mod message;
+mod one;
 mod perform;
-mod pieces;
+mod primitives;
 mod program;
 mod refusal;
-mod running;
+mod says;
 mod system;
-mod unit;
 mod words;
 
 pub use commands::top;
+pub use laws::commands_obey_the_laws;
 pub use program::run;
 pub use system::run_on_system;

@@ -1,17 +1,16 @@
 //! Does what the words ask for.
-ghost use Rattle.std.specs.Prelude.{◌≡◌};
-ghost use Rattle.pw_cmd.specs.Comes.{Outside, Comes};
+ghost use Rattle.pw_cmd.specs.Outside.{memory_of, outside};
+ghost use Rattle.pw_cmd.specs.Commands.{performs};
 ghost use Rattle.pw_cmd.specs.Words.{texts};
 
 use crate::answer::{Outcome, Stop};
-use crate::running::run_program;
-use crate::unit::load_unit;
-use crate::words::{Command, command_of};
+use crate::one::one;
+use crate::primitives::judge;
 use pw_io::{Sink, Source, Store};
 use pw_mem::Memory;
 use std::alloc::Global;
 
-/// Does what the words ask for: `one FILE` reads the unit, puts the image into the memory, and runs it.
+/// Does what the words ask for.
 pub fn perform<S: Store, I: Source, O: Sink, M: Memory>(
     alloc: Global,
     words: &[String],
@@ -20,12 +19,10 @@ pub fn perform<S: Store, I: Source, O: Sink, M: Memory>(
     out: &mut O,
     mem: &mut M,
 ) -> Result<Outcome, Stop>
-    ensures { Comes (texts words.now)
-        (record { store = S.state store.old; input = I.state input.old; out = O.state out.old; mem = M.mem mem.old; fetches = M.fetches mem.old; told = M.told mem.old })
-        (record { store = S.state store.new; input = I.state input.new; out = O.state out.new; mem = M.mem mem.new; fetches = M.fetches mem.new; told = M.told mem.new })
-        result }
+    ensures { performs (texts words.now)
+        (outside (S.state store.old) (I.state input.old) (O.state out.old) (memory_of (M.mem mem.old) (M.fetches mem.old) (M.told mem.old)))
+        (outside (S.state store.new) (I.state input.new) (O.state out.new) (memory_of (M.mem mem.new) (M.fetches mem.new) (M.told mem.new))) result }
 {
-    let Command::One(file) = command_of(alloc, words)?;
-    let funs = load_unit(alloc, store, &file)?;
-    run_program(alloc, funs.as_slice(), mem, input, out)
+    let file = judge(alloc, words)?;
+    one(alloc, &file, store, input, out, mem)
 }

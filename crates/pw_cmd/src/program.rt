@@ -1,11 +1,11 @@
 //! The program as a call: from the arguments of a command line to the exit status.
 ghost use Rattle.pw_arguments.specs.Arguments.{bytes_of};
-ghost use Rattle.pw_cmd.specs.Comes.{outside};
+ghost use Rattle.pw_cmd.specs.Outside.{memory_of, outside};
 ghost use Rattle.pw_cmd.specs.Program.{Ends, Exits};
 
 use crate::answer::Stop;
 use crate::commands::top;
-use crate::message::tell;
+use crate::message::report;
 use pw_arguments::{Arguments, WordsError, read_arguments, words_of};
 use pw_io::{Sink, Source, Store};
 use pw_mem::Memory;
@@ -27,13 +27,13 @@ pub fn run<A: Arguments, S: Store, I: Source, O: Sink, E: Sink, M: Memory>(
     mem: M,
 ) -> (u8, M)
     ensures { Exits (A.list arguments.now)
-        (outside (S.state store.old) (I.state input.old) (O.state out.old) (M.mem mem) (M.fetches mem) (M.told mem))
-        (outside (S.state store.new) (I.state input.new) (O.state out.new) (M.mem result.1) (M.fetches result.1) (M.told result.1))
+        (outside (S.state store.old) (I.state input.old) (O.state out.old) (memory_of (M.mem mem) (M.fetches mem) (M.told mem)))
+        (outside (S.state store.new) (I.state input.new) (O.state out.new) (memory_of (M.mem result.1) (M.fetches result.1) (M.told result.1)))
         (E.state msg.old) (E.state msg.new) result.0 }
 {
     match read_arguments(alloc, arguments) {
         Ok(found) => command(alloc, found.as_slice(), store, input, out, msg, mem),
-        Err(_) => (tell(msg, &[], &Err(Stop::NoMemory)), mem),
+        Err(_) => (report(msg, &[], &Err(Stop::NoMemory)), mem),
     }
 }
 
@@ -48,13 +48,13 @@ fn command<S: Store, I: Source, O: Sink, E: Sink, M: Memory>(
     mem: M,
 ) -> (u8, M)
     ensures { Ends (bytes_of arguments.now)
-        (outside (S.state store.old) (I.state input.old) (O.state out.old) (M.mem mem) (M.fetches mem) (M.told mem))
-        (outside (S.state store.new) (I.state input.new) (O.state out.new) (M.mem result.1) (M.fetches result.1) (M.told result.1))
+        (outside (S.state store.old) (I.state input.old) (O.state out.old) (memory_of (M.mem mem) (M.fetches mem) (M.told mem)))
+        (outside (S.state store.new) (I.state input.new) (O.state out.new) (memory_of (M.mem result.1) (M.fetches result.1) (M.told result.1)))
         (E.state msg.old) (E.state msg.new) result.0 }
 {
     match words_of(alloc, arguments, WORDS_END) {
         Ok(words) => top(alloc, words.as_slice(), store, input, out, msg, mem),
-        Err(WordsError::NoWords) => (tell(msg, &[], &Err(Stop::Usage)), mem),
-        Err(WordsError::NoMemory) => (tell(msg, &[], &Err(Stop::NoMemory)), mem),
+        Err(WordsError::NoWords) => (report(msg, &[], &Err(Stop::Usage)), mem),
+        Err(WordsError::NoMemory) => (report(msg, &[], &Err(Stop::NoMemory)), mem),
     }
 }

@@ -2,39 +2,41 @@
 ghost use Rattle.std.specs.Prelude.{◌≡◌, [], ◌∷◌};
 ghost use Rattle.pw_cmd.specs.Words.{Judges, texts};
 
-use crate::answer::Stop;
 use pw_base::{Name, NameError};
 use std::alloc::Global;
 
-/// What the words ask for.
-#[derive(Debug, Drop)]
-pub enum Command {
-    /// To build the one unit of this file as the program `app`, and to run it.
-    One(Name),
+/// Why the words are of no command.
+#[derive(Clone, Copy)]
+pub enum CommandError {
+    /// They are of none.
+    NoCommand,
+    /// Memory was refused.
+    NoMemory,
 }
 
-/// The command of the words. Refusal: `Usage` exactly where they are not `one FILE` with a name for FILE.
-pub fn command_of(alloc: Global, words: &[String]) -> Result<Command, Stop>
+/// The file that the words ask to build as the one unit of the program `app`, and to run. Refusal: `NoCommand` exactly where
+/// they are not `one FILE` with a name for FILE.
+pub fn asked_file(alloc: Global, words: &[String]) -> Result<Name, CommandError>
     ensures { Judges (texts words.now) result }
 {
     if words.len() != 2 {
-        return Err(Stop::Usage);
+        return Err(CommandError::NoCommand);
     }
     one_of(alloc, words[0].as_bytes(), words[1].as_bytes())
 }
 
-/// The command of two words.
-fn one_of(alloc: Global, command: &[u8], file: &[u8]) -> Result<Command, Stop>
+/// The file of two words.
+fn one_of(alloc: Global, command: &[u8], file: &[u8]) -> Result<Name, CommandError>
     ensures { Judges (command.now ∷ file.now ∷ []) result }
 {
     if command != b"one".as_slice() {
-        return Err(Stop::Usage);
+        return Err(CommandError::NoCommand);
     }
     match Name::read(alloc, file) {
-        Ok(file) => Ok(Command::One(file)),
-        Err(NameError::NoMemory) => Err(Stop::NoMemory),
-        Err(NameError::Empty) => Err(Stop::Usage),
-        Err(NameError::TooLong(_)) => Err(Stop::Usage),
-        Err(NameError::BadByte(_)) => Err(Stop::Usage),
+        Ok(file) => Ok(file),
+        Err(NameError::NoMemory) => Err(CommandError::NoMemory),
+        Err(NameError::Empty) => Err(CommandError::NoCommand),
+        Err(NameError::TooLong(_)) => Err(CommandError::NoCommand),
+        Err(NameError::BadByte(_)) => Err(CommandError::NoCommand),
     }
 }

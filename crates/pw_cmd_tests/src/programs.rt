@@ -181,9 +181,9 @@ fn addresses(alloc: Global, mut mem: FlatMemory) -> Result<Vec<u64>, Fail> {
 }
 
 #[test]
-fn the_memory_tells_the_addresses_of_the_run(rt: HostRuntime) -> Result<(), Fail> {
+fn the_memory_reports_the_addresses_of_the_run(rt: HostRuntime) -> Result<(), Fail> {
     let words = ["one", "main.c"];
-    let told = run(
+    let reported = run(
         rt.alloc(),
         &words,
         TWO_BYTES,
@@ -199,6 +199,6 @@ fn the_memory_tells_the_addresses_of_the_run(rt: HostRuntime) -> Result<(), Fail
     )?;
     let noted = addresses(rt.alloc(), quiet.mem)?;
     assert_eq!(rt; noted.len(), 22);
-    assert_eq!(rt; told.mem.told(), Some(noted.as_slice()));
+    assert_eq!(rt; reported.mem.told(), Some(noted.as_slice()));
     Ok(())
 }

@@ -4,7 +4,7 @@ use pw_mem::FlatMemory;
 use std::alloc::{AllocError, Global};
 use std::test::Fail;
 
-/// A text, and what stands behind `refused: ` in its message.
+/// A text, and what stands after `refused: ` in its message.
 const ROWS: [(&str, &str); 18] = [
     (
         "long main(void) { return 1 + ; }",
@@ -59,7 +59,7 @@ const ROWS: [(&str, &str); 18] = [
     ("long f(void) { return 1; }", "app: no main"),
 ];
 
-/// A text that nests, and what stands behind `refused: main.c: `.
+/// A text that nests, and what stands after `refused: main.c: `.
 #[derive(Clone, Copy)]
 struct Deep {
     head: &'static str,

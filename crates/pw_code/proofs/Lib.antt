@@ -1,3 +1,5 @@
-pub mod CodeWords
-pub mod Appending
-pub mod Near
+pub mod Sizes
+pub mod Immediates
+pub mod Lengths
+pub mod WellTyped
+pub mod Exports

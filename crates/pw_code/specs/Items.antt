@@ -1,41 +1,31 @@
--- Items of code, their sizes, and the words that they are at a place.
-use Rattle.std.specs.Prelude.{◌≡◌, ℕ, ◌+◌, ◌-◌, ◌*◌, ◌^◌, ◌<◌, ℤ, pos, negsuc, ◌+ℤ◌, ◌-ℤ◌, ◌*ℤ◌, ◌≤ℤ◌, ◌<ℤ◌, List, [], ◌∷◌, ◌++◌}
-use Rattle.std.specs.Int.{int_shr}
+-- Code as a list of instructions and references, its size, and the items that spell it.
+use Rattle.std.specs.Prelude.{ℕ, ◌+◌, List, [], ◌∷◌, map}
 use Rattle.pw_isa.specs.declared.instruction.Inst.{Inst}
-use Rattle.pw_isa.specs.declared.instruction.Inst.TheVariants.{Auipc, Ld}
 use Rattle.pw_isa.specs.Encoding.{word_of}
+use Rattle.pw_tree.specs.declared.ty.Ref.{Ref}
+use Rattle.pw_code.specs.declared.item.Item.{Item}
+use Rattle.pw_code.specs.declared.item.Item.TheVariants.{Word, Addr}
 
--- an item: an instruction, or the two that put the address of a named function, which its slot holds, into a register
-pub data Item : Type 0 where
-  word : Inst → Item
-  address : (rd : ℕ) (name : List ℕ) → Item
+-- A part of code: an instruction, or the pair of them that puts the address of a function or a variable into a register.
+pub data Part : Type 0 where
+  instruction : Inst → Part
+  address : (rd : ℕ) → Ref → Part
 
--- the number of words of some items
-abbrev pub size : List Item → ℕ
+-- How many instruction words a part is.
+abbrev pub words_of_part : Part → ℕ
+words_of_part (instruction i) = 1
+words_of_part (address rd to) = 2
+
+-- How many instruction words some code is.
+unfoldable pub size : List Part → ℕ
 size [] = 0
-size (word _ ∷ items) = 1 + size items
-size (address _ _ ∷ items) = 2 + size items
+size (part ∷ code) = words_of_part part + size code
 
--- a distance as a part of 20 bits in units of 4096 and a rest from -2048 to 2047 (psABI, R_RISCV_PCREL_HI20 and _LO12_I)
-abbrev pub hi : ℤ → ℤ
-hi distance = int_shr (distance +ℤ pos 0x800) 12
+-- The item that spells a part.
+abbrev pub item_of : Part → Item
+item_of (instruction i) = Word (word_of i)
+item_of (address rd to) = Addr rd to
 
-abbrev pub lo : ℤ → ℤ
-lo distance = distance -ℤ (pos 4096 *ℤ hi distance)
-
--- the distances that the two parts can say
-pub record IsNear (distance : ℤ) : Type 0 where
-  pub low : negsuc (2 ^ 31 + 0x7ff) ≤ℤ distance
-  pub high : distance <ℤ pos (2 ^ 31 - 0x800)
-
--- how far an address is from a place
-abbrev pub distance : (place to : ℕ) → ℤ
-distance place to = pos to -ℤ pos place
-
--- the words of items that stand at a place, where `slot` says where the slot of a name is
-abbrev pub words_at : (slot : List ℕ → ℕ) → ℕ → List Item → List ℕ
-words_at slot place [] = []
-words_at slot place (word i ∷ items) = word_of i ∷ words_at slot (place + 4) items
-words_at slot place (address rd name ∷ items) =
-    let far = distance place (slot name) in
-    word_of (Auipc rd (hi far)) ∷ word_of (Ld rd rd (lo far)) ∷ words_at slot (place + 8) items
+-- The items that spell some code.
+abbrev pub items : List Part → List Item
+items code = map item_of code

@@ -1,11 +1,12 @@
-//! The code scheme: which instructions a function and a program's entry are made of, as a definition and as calls that
-//! append their words.
+//! The code scheme: which instructions each expression, statement and function of a unit is compiled to, as definitions, and
+//! the data of compiled code: items, functions and objects.
 #![tactic(auto)]
 
-mod address;
-mod entry;
-mod function;
-mod words;
+mod frame;
+mod item;
+pub mod laws;
+mod object;
 
-pub use entry::put_entry;
-pub use function::{function_size, put_function};
+pub use frame::Frame;
+pub use item::Item;
+pub use object::{FunCode, Object};

@@ -1,3 +1,2 @@
-pub mod Tested
-pub mod Counted
 pub mod Writable
+pub mod Steps

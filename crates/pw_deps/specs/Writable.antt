@@ -9,6 +9,6 @@ pub record HasFewItems (t : DepTable) : Type 0 where
   pub counts : HasCounts t
   pub deps : AllByRecursion (λ f. length f.deps < 2 ^ 32) t.funs
 
--- every allowed table is so
+-- every allowed table is one that can be written
 abbrev pub AllowedTablesCanBeWritten : Type 0
 AllowedTablesCanBeWritten = (symbols text : ℕ) (t : DepTable) → IsTableOf symbols text t → HasFewItems t

@@ -39,7 +39,7 @@ fn bad_index(symbols: u32, units: u32, function: &FunRec) -> Option<u32>
     bad_in(symbols, function.deps.as_slice())
 }
 
-/// What is wrong with a function's place in the text, behind its former's end.
+/// What is wrong with a function's place in the text, after its former's end.
 #[tactic(auto, unfolding(pw_module::specs::Reading::range_fault))]
 fn range_fault(text: u64, former: u64, index: u32, function: &FunRec) -> Option<DepError>
     ensures { result ≡ definition.range_fault text former index function.now }

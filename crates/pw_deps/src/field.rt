@@ -1,7 +1,7 @@
-//! Numbers and texts at the front of what is left of a table.
+//! Numbers and strings at the start of what is left of a table.
 ghost use Rattle.std.specs.Prelude.{◌≡◌, ◌≤◌, length, IfOk};
-ghost use Rattle.pw_module.specs.Answer.{Gives};
-ghost use Rattle.pw_module.specs.Reading.{number_at, text_at};
+ghost use Rattle.pw_module.specs.Answer.{ReadsAs};
+ghost use Rattle.pw_module.specs.Reading.{number_at, sized_string_at};
 
 use pw_module::DepError;
 use pw_wire::u32_at;
@@ -18,11 +18,11 @@ pub(crate) struct Frame {
     pub text: u64,
 }
 
-/// The number that stands first, and the bytes behind it.
+/// The number that stands first, and the bytes after it.
 #[tactic(auto, unfolding(pw_module::specs::Reading::number_at))]
 pub(crate) fn number(total: u64, rest: &[u8]) -> Result<(u32, &[u8]), DepError>
     requires { length rest.now ≤ total }
-    ensures value { Gives (λ x. (x.0, x.1.now)) result (number_at total rest.now) }
+    ensures value { ReadsAs (λ x. (x.0, x.1.now)) result (number_at total rest.now) }
     ensures shorter { IfOk result (λ x. length x.1.now ≤ length rest.now) }
 {
     match u32_at(rest, 0) {
@@ -31,11 +31,11 @@ pub(crate) fn number(total: u64, rest: &[u8]) -> Result<(u32, &[u8]), DepError>
     }
 }
 
-/// The text that stands first, its length in front of it, and the bytes behind it.
-#[tactic(auto, unfolding(pw_module::specs::Reading::text_at))]
-pub(crate) fn text(total: u64, rest: &[u8]) -> Result<(&[u8], &[u8]), DepError>
+/// The string that stands first, which its length precedes, and the bytes after it.
+#[tactic(auto, unfolding(pw_module::specs::Reading::sized_string_at))]
+pub(crate) fn sized_string(total: u64, rest: &[u8]) -> Result<(&[u8], &[u8]), DepError>
     requires { length rest.now ≤ total }
-    ensures value { Gives (λ x. (x.0.now, x.1.now)) result (text_at total rest.now) }
+    ensures value { ReadsAs (λ x. (x.0.now, x.1.now)) result (sized_string_at total rest.now) }
     ensures shorter { IfOk result (λ x. length x.1.now ≤ length rest.now) }
 {
     let (count, rest) = number(total, rest)?;
@@ -43,6 +43,6 @@ pub(crate) fn text(total: u64, rest: &[u8]) -> Result<(&[u8], &[u8]), DepError>
     if rest.len() < count {
         return Err(DepError::Short(total - rest.len() as u64));
     }
-    let (text, rest) = rest.split_at(count);
-    Ok((text, rest))
+    let (string, rest) = rest.split_at(count);
+    Ok((string, rest))
 }

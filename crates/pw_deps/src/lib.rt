@@ -1,7 +1,7 @@
 //! The dependency table, read from its bytes and written to them.
 //!
-//! `read` answers the one allowed table whose bytes these are, or the first fault from front to back; `write` gives the bytes
-//! of a table, so that reading gives it back.
+//! `read` answers the one allowed table whose bytes these are, or the first fault from the first byte to the last; `write`
+//! gives the bytes of a table, so that reading gives it back.
 #![tactic(auto)]
 
 mod check;
@@ -10,7 +10,7 @@ mod laws;
 mod reading;
 mod record;
 mod repeat;
-mod words;
+mod type_texts;
 mod writing;
 
 pub use laws::allowed_tables_can_be_written;

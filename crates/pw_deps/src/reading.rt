@@ -1,11 +1,11 @@
 //! The table that bytes are.
 ghost use Rattle.std.specs.Prelude.{◌≡◌, ◌≤◌, length, IfOk, Ok};
 ghost use Rattle.pw_module.specs.declared.dep_table.DepTable.{DepTable};
-ghost use Rattle.pw_module.specs.Answer.{Gives};
+ghost use Rattle.pw_module.specs.Answer.{ReadsAs};
 ghost use Rattle.pw_module.specs.Laws.{ReadsTable};
 ghost use Rattle.pw_module.specs.Reading as definition;
 ghost use Rattle.pw_module.specs.Reading.{table_at};
-ghost use Rattle.pw_deps.specs.Counted.{counts_of};
+ghost use Rattle.pw_deps.specs.Steps.Counted.{counts_of};
 
 use crate::check::end_fault;
 use crate::field::{Frame, number};
@@ -26,11 +26,11 @@ struct Counted {
     types: u32,
 }
 
-/// The four counts, and the bytes behind them.
+/// The four counts, and the bytes after them.
 #[tactic(auto, unfolding(pw_module::specs::Reading::counts_at))]
 fn counts(total: u64, rest: &[u8]) -> Result<(Counted, &[u8]), DepError>
     requires { length rest.now ≤ total }
-    ensures value { Gives (λ x. (counts_of x.0, x.1.now)) result (definition.counts_at total rest.now) }
+    ensures value { ReadsAs (λ x. (counts_of x.0, x.1.now)) result (definition.counts_at total rest.now) }
     ensures shorter { IfOk result (λ x. length x.1.now ≤ length rest.now) }
 {
     let (units, rest) = number(total, rest)?;
@@ -48,7 +48,7 @@ fn counts(total: u64, rest: &[u8]) -> Result<(Counted, &[u8]), DepError>
     ))
 }
 
-/// The functions, which end with the text, and the bytes behind them.
+/// The functions, which end with the text, and the bytes after them.
 #[tactic(auto, unfolding(pw_module::specs::Reading::functions_at))]
 fn all_functions(
     alloc: Global,
@@ -58,7 +58,7 @@ fn all_functions(
     rest: &[u8],
 ) -> Result<(Items<FunRec>, &[u8]), DepError>
     requires { length rest.now ≤ frame.total }
-    ensures value { Gives (λ x. (x.0, x.1.now)) result (definition.functions_at frame.symbols frame.text units frame.total count rest.now) }
+    ensures value { ReadsAs (λ x. (x.0, x.1.now)) result (definition.functions_at frame.symbols frame.text units frame.total count rest.now) }
     ensures shorter { IfOk result (λ x. length x.1.now ≤ length rest.now) }
 {
     let (functions, last, rest) = functions(alloc, frame, units, count, rest)?;
@@ -68,11 +68,11 @@ fn all_functions(
     }
 }
 
-/// What follows the version, as a table, and the bytes behind it.
+/// What follows the version, as a table, and the bytes after it.
 #[tactic(auto, unfolding(pw_module::specs::Reading::records_at))]
 fn records(alloc: Global, frame: Frame, rest: &[u8]) -> Result<(DepTable, &[u8]), DepError>
     requires { length rest.now ≤ frame.total }
-    ensures value { Gives (λ x. (x.0, x.1.now)) result (definition.records_at frame.symbols frame.text frame.total rest.now) }
+    ensures value { ReadsAs (λ x. (x.0, x.1.now)) result (definition.records_at frame.symbols frame.text frame.total rest.now) }
     ensures shorter { IfOk result (λ x. length x.1.now ≤ length rest.now) }
 {
     let (counts, rest) = counts(frame.total, rest)?;
@@ -92,11 +92,11 @@ fn records(alloc: Global, frame: Frame, rest: &[u8]) -> Result<(DepTable, &[u8])
     ))
 }
 
-/// The table whose version stands first, and the bytes behind it.
+/// The table whose version stands first, and the bytes after it.
 #[tactic(auto, unfolding(pw_module::specs::Reading::started, pw_module::specs::Reading::versioned))]
 fn started(alloc: Global, frame: Frame, bytes: &[u8]) -> Result<(DepTable, &[u8]), DepError>
     requires { length bytes.now ≤ frame.total }
-    ensures value { Gives (λ x. (x.0, x.1.now)) result (definition.started frame.symbols frame.text frame.total bytes.now) }
+    ensures value { ReadsAs (λ x. (x.0, x.1.now)) result (definition.started frame.symbols frame.text frame.total bytes.now) }
     ensures shorter { IfOk result (λ x. length x.1.now ≤ length bytes.now) }
 {
     let (version, rest) = number(frame.total, bytes)?;
@@ -109,7 +109,7 @@ fn started(alloc: Global, frame: Frame, bytes: &[u8]) -> Result<(DepTable, &[u8]
 /// The table that all of the bytes are.
 #[tactic(auto, unfolding(pw_module::specs::Reading::table_at))]
 fn whole(alloc: Global, bytes: &[u8], symbols: u32, text: u64) -> Result<DepTable, DepError>
-    ensures { Gives (λ t. t) result (table_at symbols text bytes.now) }
+    ensures { ReadsAs (λ t. t) result (table_at symbols text bytes.now) }
 {
     let total = bytes.len() as u64;
     let (table, rest) = started(
@@ -129,17 +129,18 @@ fn whole(alloc: Global, bytes: &[u8], symbols: u32, text: u64) -> Result<DepTabl
 
 /// The dependency table of version 1 that the bytes are, for a file of so many symbols and so many bytes of text.
 ///
-/// The refusal is the first from front to back: `Short` where a field or a text passes the end; `Version` behind the first
-/// field; behind a unit `BadName`; behind a function `BadIndex`, `Overlap`, `BadRange`, and behind the last one `BadRange`
-/// where it does not end with the text; behind a root `BadIndex`; behind a type `BadIndex`, `BadType`; at the end `Trailing`.
+/// The refusal is the first fault from the first byte to the last: `Short` where a field or a string passes the end; `Version`
+/// after the first field; after a unit `BadName`; after a function `BadIndex`, `Overlap`, `BadRange`, and after the last one
+/// `BadRange` where it does not end with the text; after a root `BadIndex`; after a type `BadIndex`, `BadType`; at the end
+/// `Trailing`.
 /// `NoMemory` may come at any time, and no count takes more memory than the bytes left can fill.
 pub fn read(alloc: Global, bytes: &[u8], symbols: u32, text: u64) -> Result<DepTable, DepError>
     // What is read is an allowed table, and the bytes are its bytes.
     ensures found { IfOk result (λ t. ReadsTable symbols text bytes.now t) }
     // The bytes of an allowed table are read as that table, unless memory runs out.
-    ensures only { (t : DepTable) → ReadsTable symbols text bytes.now t → Gives (λ x. x) result (Ok t) }
+    ensures only { (t : DepTable) → ReadsTable symbols text bytes.now t → ReadsAs (λ x. x) result (Ok t) }
     // Which fault it is.
-    ensures exact { Gives (λ x. x) result (table_at symbols text bytes.now) }
+    ensures exact { ReadsAs (λ x. x) result (table_at symbols text bytes.now) }
 {
     whole(alloc, bytes, symbols, text)
 }

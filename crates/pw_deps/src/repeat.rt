@@ -1,7 +1,7 @@
-//! Several records of a kind, one behind the other.
+//! Several records of a kind, one after another.
 ghost use Rattle.std.specs.Prelude.{◌≡◌, ◌≤◌, [], length, IfOk};
-ghost use Rattle.pw_module.specs.Answer.{Gives};
-ghost use Rattle.pw_module.specs.Reading.{many, place, dep_at, unit_at, function_at, root_at, type_at};
+ghost use Rattle.pw_module.specs.Answer.{ReadsAs};
+ghost use Rattle.pw_module.specs.Reading.{many, remaining, dependency_at, unit_record_at, function_record_at, root_record_at, type_record_at};
 
 use crate::field::Frame;
 use crate::record::{dep, function, root, type_record, unit};
@@ -43,7 +43,7 @@ pub(crate) fn deps(
     rest: &[u8],
 ) -> Result<(Items<u32>, &[u8]), DepError>
     requires { length rest.now ≤ total }
-    ensures value { Gives (λ x. (x.0, place 0 x.1.now)) result (many (dep_at total) 0 count (place 0 rest.now)) }
+    ensures value { ReadsAs (λ x. (x.0, remaining 0 x.1.now)) result (many (dependency_at total) 0 count (remaining 0 rest.now)) }
     ensures shorter { IfOk result (λ x. length x.1.now ≤ length rest.now) }
 {
     let mut numbers = room(alloc, count, rest.len(), NUMBER_BYTES)?;
@@ -64,7 +64,7 @@ pub(crate) fn units(
     rest: &[u8],
 ) -> Result<(Items<Name>, &[u8]), DepError>
     requires { length rest.now ≤ total }
-    ensures value { Gives (λ x. (x.0, place 0 x.1.now)) result (many (unit_at total) 0 count (place 0 rest.now)) }
+    ensures value { ReadsAs (λ x. (x.0, remaining 0 x.1.now)) result (many (unit_record_at total) 0 count (remaining 0 rest.now)) }
     ensures shorter { IfOk result (λ x. length x.1.now ≤ length rest.now) }
 {
     let mut names = room(alloc, count, rest.len(), UNIT_BYTES)?;
@@ -77,7 +77,7 @@ pub(crate) fn units(
     Ok((names, left))
 }
 
-/// The functions, where the last of them ends, and the bytes behind them.
+/// The functions, where the last of them ends, and the bytes after them.
 pub(crate) fn functions(
     alloc: Global,
     frame: Frame,
@@ -86,7 +86,7 @@ pub(crate) fn functions(
     rest: &[u8],
 ) -> Result<(Items<FunRec>, u64, &[u8]), DepError>
     requires { length rest.now ≤ frame.total }
-    ensures value { Gives (λ x. (x.0, place x.1 x.2.now)) result (many (function_at frame.symbols frame.text units frame.total) 0 count (place 0 rest.now)) }
+    ensures value { ReadsAs (λ x. (x.0, remaining x.1 x.2.now)) result (many (function_record_at frame.symbols frame.text units frame.total) 0 count (remaining 0 rest.now)) }
     ensures shorter { IfOk result (λ x. length x.2.now ≤ length rest.now) }
 {
     let mut functions = room(alloc, count, rest.len(), FUNCTION_BYTES)?;
@@ -109,7 +109,7 @@ pub(crate) fn roots(
     rest: &[u8],
 ) -> Result<(Items<RootRec>, &[u8]), DepError>
     requires { length rest.now ≤ frame.total }
-    ensures value { Gives (λ x. (x.0, place 0 x.1.now)) result (many (root_at frame.symbols frame.total) 0 count (place 0 rest.now)) }
+    ensures value { ReadsAs (λ x. (x.0, remaining 0 x.1.now)) result (many (root_record_at frame.symbols frame.total) 0 count (remaining 0 rest.now)) }
     ensures shorter { IfOk result (λ x. length x.1.now ≤ length rest.now) }
 {
     let mut roots = room(alloc, count, rest.len(), ROOT_BYTES)?;
@@ -122,7 +122,7 @@ pub(crate) fn roots(
     Ok((roots, left))
 }
 
-/// The types, the symbol of the last, and the bytes behind them.
+/// The types, the symbol of the last, and the bytes after them.
 pub(crate) fn types(
     alloc: Global,
     frame: Frame,
@@ -130,7 +130,7 @@ pub(crate) fn types(
     rest: &[u8],
 ) -> Result<(Items<TypeRec>, u32, &[u8]), DepError>
     requires { length rest.now ≤ frame.total }
-    ensures value { Gives (λ x. (x.0, place x.1 x.2.now)) result (many (type_at frame.symbols frame.total) 0 count (place 0 rest.now)) }
+    ensures value { ReadsAs (λ x. (x.0, remaining x.1 x.2.now)) result (many (type_record_at frame.symbols frame.total) 0 count (remaining 0 rest.now)) }
     ensures shorter { IfOk result (λ x. length x.2.now ≤ length rest.now) }
 {
     let mut types = room(alloc, count, rest.len(), TYPE_BYTES)?;

@@ -1,2 +1,4 @@
+pub mod ElfNumbers
+pub mod NumbersOfCode
 pub mod Views
 pub mod Strings

@@ -2,7 +2,7 @@
 ghost use Rattle.std.specs.Prelude.{◌≡◌, ◌+◌, ◌≤◌, ◌<◌, ◌++◌, length, MatchOption, OnOk, OnErr};
 ghost use Rattle.std.specs.Option.{option_map};
 ghost use Rattle.pw_base.specs.Field.{field, field_at};
-ghost use Rattle.pw_base.specs.Structs.{bytes_at};
+ghost use Rattle.pw_base.specs.Structs.{slice_at};
 
 use pw_base::NoMemory;
 
@@ -32,7 +32,7 @@ pub(crate) fn put_u8(to: &mut Vec<u8>, n: u8) -> Result<(), NoMemory>
 
 /// The identification bytes at the offset; `None` exactly where they pass the end.
 pub(crate) fn ident_at(bytes: &[u8], off: u64) -> Option<[u8; 16]>
-    ensures value { result ≡ bytes_at 16 bytes.now off }
+    ensures value { result ≡ slice_at 16 bytes.now off }
     ensures bounds { MatchOption result (length bytes.now < off + 16) (λ _. off + 16 ≤ length bytes.now) }
 {
     let end = (off as usize).checked_add(IDENT_SIZE)?;

@@ -3,7 +3,7 @@ ghost use Rattle.std.specs.Prelude.{◌≡◌, IfOk, position, nat_eq};
 ghost use Rattle.std.specs.Option.{option_map};
 ghost use Rattle.pw_elf.specs.Strings as definition;
 
-use pw_base::{Name, NameError, NoMemory};
+use pw_base::{Limits, Name, NoMemory};
 use std::alloc::Global;
 
 /// The bytes up to the next zero byte; `None` where none follows.
@@ -18,20 +18,22 @@ fn until_zero(bytes: &[u8]) -> Option<&[u8]>
     None
 }
 
-/// The name that these bytes are; `None` where they are none.
-fn name(alloc: Global, bytes: &[u8]) -> Result<Option<Name>, NoMemory>
-    ensures { IfOk result (λ name. name ≡ definition.name_of bytes.now) }
+/// The name that stands first, up to the next zero byte; `None` exactly where no zero byte follows or the bytes are no name.
+///
+/// Only as many bytes are looked at as the longest name and its zero byte have.
+fn first_name(alloc: Global, bytes: &[u8]) -> Result<Option<Name>, NoMemory>
+    ensures { IfOk result (λ name. name ≡ definition.name_in (definition.until_zero bytes.now)) }
 {
-    match Name::read(alloc, bytes) {
-        Ok(name) => Ok(Some(name)),
-        Err(refusal) => match refusal {
-            NameError::NoMemory => Err(NoMemory),
-            _ => Ok(None),
-        },
+    let longest = (Limits::NAME_BYTES + 1).min(bytes.len());
+    match until_zero(&bytes[..longest]) {
+        Some(text) => Name::from_bytes(alloc, text),
+        None => Ok(None),
     }
 }
 
 /// The name at the offset, up to the next zero byte; `None` exactly where no zero byte follows or the bytes are no name.
+///
+/// It takes no more time where the zero byte is far away.
 #[tactic(auto, unfolding(crate::specs::Strings::string_at))]
 pub fn string_at(alloc: Global, bytes: &[u8], off: u64) -> Result<Option<Name>, NoMemory>
     ensures { IfOk result (λ name. name ≡ definition.string_at bytes.now off) }
@@ -39,8 +41,5 @@ pub fn string_at(alloc: Global, bytes: &[u8], off: u64) -> Result<Option<Name>, 
     if (bytes.len() as u64) < off {
         return Ok(None);
     }
-    match until_zero(&bytes[off as usize..]) {
-        Some(text) => name(alloc, text),
-        None => Ok(None),
-    }
+    first_name(alloc, &bytes[off as usize..])
 }

@@ -24,61 +24,74 @@ pub(crate) const TABLE: [u8; 155] = [
     0, 0, 49, 91, 50, 93,
 ];
 
-/// What reading the bytes refuses, if anything.
-pub(crate) fn refusal(alloc: Global, bytes: &[u8], symbols: u32, text: u64) -> Option<DepError> {
-    read(alloc, bytes, symbols, text).err()
+/// Whether reading the bytes is refused just so; `None` where they are to be read.
+pub(crate) fn refuses(
+    alloc: Global,
+    bytes: &[u8],
+    symbols: u32,
+    text: u64,
+    expected: Option<DepError>,
+) -> bool {
+    read(alloc, bytes, symbols, text).err() == expected
 }
 
-/// The table with four bytes at an offset changed.
+/// The bytes of a table with four bytes at an offset changed.
 pub(crate) fn field_changed(
     rt: &impl Abort,
     alloc: Global,
+    table: &[u8],
     at: usize,
     value: u32,
 ) -> Result<Vec<u8>, Fail> {
-    assert!(rt; at < TABLE.len());
-    assert!(rt; at + 4 <= TABLE.len());
-    let mut bytes = Vec::from_slice(alloc, &TABLE[..at])?;
+    assert!(rt; at < table.len());
+    assert!(rt; 4 <= table.len() - at);
+    let mut bytes = Vec::from_slice(alloc, &table[..at])?;
     pw_wire::put_u32(&mut bytes, value)?;
-    bytes.extend_from_slice(&TABLE[at + 4..])?;
+    bytes.extend_from_slice(&table[at + 4..])?;
+    Ok(bytes)
+}
+
+/// A changed field of the table of one function: its offset, the value that is put there, and the refusal.
+const CHANGED: [(usize, u32, DepError); 3] = [
+    (0, 3, DepError::Version(3)),
+    (0, 2, DepError::Version(2)),
+    (8, 0xffffffff, DepError::Short(55)),
+];
+
+/// The table of one function with a byte after it.
+fn one_byte_more(alloc: Global) -> Result<Vec<u8>, Fail> {
+    let mut bytes = Vec::from_slice(alloc, ONE_FUNCTION.as_slice())?;
+    bytes.extend_from_slice(&[0])?;
     Ok(bytes)
 }
 
 #[test]
 fn the_table_of_one_function_has_58_bytes(rt: HostRuntime) -> Result<(), Fail> {
     let alloc = rt.alloc();
-    assert_eq!(rt; refusal(alloc, ONE_FUNCTION.as_slice(), 2, 60), None);
-    assert_eq!(rt;
-        refusal(alloc, &ONE_FUNCTION[..57], 2, 60),
-        Some(DepError::Short(55))
+    assert!(rt; refuses(alloc, ONE_FUNCTION.as_slice(), 2, 60, None));
+    assert!(rt; refuses(alloc, &ONE_FUNCTION[..57], 2, 60, Some(DepError::Short(55))));
+    let longer = one_byte_more(alloc)?;
+    assert!(rt;
+        refuses(
+            alloc,
+            longer.as_slice(),
+            2,
+            60,
+            Some(DepError::Trailing(58))
+        )
     );
-    let mut longer = Vec::from_slice(alloc, ONE_FUNCTION.as_slice())?;
-    longer.extend_from_slice(&[0])?;
-    assert_eq!(rt;
-        refusal(alloc, longer.as_slice(), 2, 60),
-        Some(DepError::Trailing(58))
-    );
-    let mut other = Vec::from_slice(alloc, ONE_FUNCTION.as_slice())?;
-    assert!(rt; 12 <= other.len());
-    other[0] = 3;
-    assert_eq!(rt;
-        refusal(alloc, other.as_slice(), 2, 60),
-        Some(DepError::Version(3))
-    );
-    other[0] = 2;
-    assert_eq!(rt;
-        refusal(alloc, other.as_slice(), 2, 60),
-        Some(DepError::Version(2))
-    );
-    other[0] = 1;
-    other[8] = 255;
-    other[9] = 255;
-    other[10] = 255;
-    other[11] = 255;
-    assert_eq!(rt;
-        refusal(alloc, other.as_slice(), 2, 60),
-        Some(DepError::Short(55))
-    );
+    Ok(())
+}
+
+#[test]
+fn the_version_and_a_count_of_one_function_are_judged(rt: HostRuntime) -> Result<(), Fail> {
+    for (at, value, expected) in &CHANGED {
+        let bytes = field_changed(&rt, rt.alloc(), ONE_FUNCTION.as_slice(), *at, *value)?;
+        assert!(rt;
+            refuses(rt.alloc(), bytes.as_slice(), 2, 60, Some(*expected)),
+            "{at}: {value}"
+        );
+    }
     Ok(())
 }
 
@@ -88,70 +101,72 @@ const EMPTY: [u8; 20] = [1, 0, 0, 0, 0, 0, 0, 0, 0, 0, 0, 0, 0, 0, 0, 0, 0, 0, 0
 #[test]
 fn a_table_without_functions_has_no_text(rt: HostRuntime) -> Result<(), Fail> {
     let alloc = rt.alloc();
-    assert_eq!(rt; refusal(alloc, EMPTY.as_slice(), 1, 0), None);
-    assert_eq!(rt;
-        refusal(alloc, EMPTY.as_slice(), 1, 4),
-        Some(DepError::BadRange(0))
-    );
-    assert_eq!(rt; refusal(alloc, &EMPTY[..0], 1, 0), Some(DepError::Short(0)));
+    assert!(rt; refuses(alloc, EMPTY.as_slice(), 1, 0, None));
+    assert!(rt; refuses(alloc, EMPTY.as_slice(), 1, 4, Some(DepError::BadRange(0))));
+    assert!(rt; refuses(alloc, &EMPTY[..0], 1, 0, Some(DepError::Short(0))));
     Ok(())
+}
+
+/// What a row says of a function: its symbol, its unit, where it starts, its bytes, and the symbols on which it depends.
+type FunctionRow = (u32, Option<u32>, u32, u32, &'static [u32]);
+
+/// The functions of the table.
+const FUNCTIONS: [FunctionRow; 3] = [
+    (1, None, 0, 24, &[2]),
+    (2, Some(0), 24, 8, &[3, 4]),
+    (3, Some(1), 32, 12, &[]),
+];
+
+/// Whether a function is that of a row.
+fn is_function(found: &FunRec, row: &FunctionRow) -> bool {
+    found.sym == row.0
+        && found.unit == row.1
+        && found.start == row.2
+        && found.size == row.3
+        && found.deps.as_slice() == row.4
+}
+
+/// Whether the functions are those of the table.
+fn are_its_functions(found: &[FunRec]) -> bool {
+    match found {
+        [first, second, third] => {
+            is_function(first, &FUNCTIONS[0])
+                && is_function(second, &FUNCTIONS[1])
+                && is_function(third, &FUNCTIONS[2])
+        }
+        _ => false,
+    }
 }
 
 #[test]
 fn each_field_of_a_table_is_read(rt: HostRuntime) -> Result<(), Fail> {
+    let roots = [RootRec { var: 4, fun: 2 }, RootRec { var: 5, fun: 3 }];
     match read(rt.alloc(), TABLE.as_slice(), 6, 44) {
-        Ok(table) => told(&rt, &table),
-        Err(_) => {
-            assert!(rt; false);
-            Ok(())
+        Ok(table) => {
+            assert!(rt; table.version == 1);
+            assert!(rt; table.units.len() == 2);
+            assert!(rt; are_its_functions(table.funs.as_slice()));
+            assert!(rt; table.roots.as_slice() == roots.as_slice());
+            assert!(rt; table.types.len() == 3);
         }
+        Err(_) => assert!(rt; false),
     }
+    Ok(())
 }
 
-/// The fields of the table are those that its bytes say.
-fn told(rt: &impl Abort, table: &DepTable) -> Result<(), Fail> {
-    assert_eq!(rt; table.version, 1);
-    assert_eq!(rt; table.units.len(), 2);
-    assert_eq!(rt; table.funs.len(), 3);
-    assert_eq!(rt; table.types.len(), 3);
-    match table.funs.as_slice() {
-        [first, second, third] => {
-            assert_eq!(rt;
-                (first.sym, first.unit, first.start, first.size),
-                (1, None, 0, 24)
-            );
-            assert_eq!(rt;
-                (second.sym, second.unit, second.start, second.size),
-                (2, Some(0), 24, 8)
-            );
-            assert_eq!(rt;
-                (third.sym, third.unit, third.start, third.size),
-                (3, Some(1), 32, 12)
-            );
-            assert_eq!(rt; second.deps.as_slice(), [3, 4].as_slice());
-            assert_eq!(rt; third.deps.len(), 0);
-        }
-        _ => assert!(rt; false),
+/// Whether the table of these bytes is written to the same bytes.
+fn is_written_again(alloc: Global, bytes: &[u8], symbols: u32, text: u64) -> Result<bool, Fail> {
+    pw_deps::allowed_tables_can_be_written();
+    match read(alloc, bytes, symbols, text) {
+        Ok(table) => Ok(write(alloc, &table)?.as_slice() == bytes),
+        Err(_) => Ok(false),
     }
-    let roots = [RootRec { var: 4, fun: 2 }, RootRec { var: 5, fun: 3 }];
-    assert_eq!(rt; table.roots.as_slice(), roots.as_slice());
-    Ok(())
 }
 
 #[test]
 fn a_table_that_is_read_is_written_to_the_same_bytes(rt: HostRuntime) -> Result<(), Fail> {
-    pw_deps::allowed_tables_can_be_written();
-    match read(rt.alloc(), TABLE.as_slice(), 6, 44) {
-        Ok(table) => assert_eq!(rt; write(rt.alloc(), &table)?.as_slice(), TABLE.as_slice()),
-        Err(_) => assert!(rt; false),
-    }
-    match read(rt.alloc(), ONE_FUNCTION.as_slice(), 2, 60) {
-        Ok(table) => assert_eq!(rt;
-            write(rt.alloc(), &table)?.as_slice(),
-            ONE_FUNCTION.as_slice()
-        ),
-        Err(_) => assert!(rt; false),
-    }
+    assert!(rt; is_written_again(rt.alloc(), TABLE.as_slice(), 6, 44)?);
+    assert!(rt; is_written_again(rt.alloc(), ONE_FUNCTION.as_slice(), 2, 60)?);
     Ok(())
 }
 
@@ -180,6 +195,6 @@ fn a_table_that_is_made_is_written(rt: HostRuntime) -> Result<(), Fail> {
         roots,
         types,
     };
-    assert_eq!(rt; write(alloc, &table)?.as_slice(), ONE_FUNCTION.as_slice());
+    assert!(rt; write(alloc, &table)?.as_slice() == ONE_FUNCTION.as_slice());
     Ok(())
 }

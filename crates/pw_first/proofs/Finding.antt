@@ -4,7 +4,7 @@ use Rattle.std.specs.Prelude.{find, slice_get}
 use Rattle.std.proofs.lemmas.Bool.{cases_Bool}
 use Rattle.pw_tree.specs.Units.{Function, TypedUnit}
 use Rattle.pw_tree.specs.Names.{Project, Definition, Entity, function, first_found, found}
-use Rattle.pw_tree.specs.Meaning.{callee_of, main_definition}
+use Rattle.pw_tree.specs.Meaning.{called_function, main_definition}
 use Rattle.pw_first.specs.declared.writer.Writer.{Writer}
 use Rattle.pw_first.specs.FirstForm.{IsWriter, AreWriters, IsFirstForm}
 use Rattle.pw_first.specs.Laws.{is_main}
@@ -68,7 +68,7 @@ stands n (f ∷ fs) (v ∷ ws) w k e =
 -- the function that the name `main` designates
 pub record Main (unit : TypedUnit) (w : Writer) : Type 0 where
   pub callee : Function
-  pub found : callee_of (alone unit) (main_definition (alone unit)) ≡ callee
+  pub found : called_function (alone unit) (main_definition (alone unit)) ≡ callee
   pub is : IsWriter callee w
 
 pub main_found : (unit : TypedUnit) (ws : List Writer) (w : Writer) → IsFirstForm unit ws → find is_main ws ≡ Some w → Main unit w

@@ -8,7 +8,7 @@ use Rattle.pw_tree.specs.Names.{Project, Definition}
 use Rattle.pw_tree.specs.States.{Value, number, Locals, State, with_output, Outcome, gives, and_then, stepped}
 use Rattle.pw_tree.specs.Evaluation.{Context, eval}
 use Rattle.pw_tree.specs.Execution.{normal, returned, exec, exec_all}
-use Rattle.pw_tree.specs.Meaning.{named_in, call_of, call_returns, entered_from, locals_of, main_definition, initial_state, run_of}
+use Rattle.pw_tree.specs.Meaning.{named_in, call_of, call_returns, entered_from, locals_at_entry, main_definition, initial_state, run_of}
 use Rattle.pw_first.specs.FirstForm.{IsConstant, IsOutput, IsWrittenBy, IsReturned, IsLast, Writes}
 use Rattle.pw_first.specs.Laws.{MeansItsMain}
 use Rattle.pw_first.specs.Laws as laws
@@ -57,15 +57,15 @@ body_runs x (cons s ss) (n ∷ outs) ret locals st k =
 -- the call of a function, which is given beside its definition
 abbrev call_at : Project → ℕ → Definition → State → Function → Outcome Value
 call_at project n f st callee =
-    let x : Context = record { self = f; named = named_in project f.in_module f.in_unit; called = call_of project n; turns_left = n } in
-    stepped (λ st. entered_from st.calls f callee (exec_all x callee.body (locals_of [])) st) st
+    let x : Context = record { self = f; named = named_in project f.in_module f.in_unit; called = call_of project n; iterations_left = n } in
+    stepped (λ st. entered_from st.calls f callee (exec_all x callee.body (locals_at_entry [])) st) st
 
 call_runs : (project : Project) (n : ℕ) (f : Definition) (input : List ℕ) (callee : Function) (outs : List ℕ) (ret : ℕ) → Writes callee.body outs ret
     → run_of (call_at project n f (initial_state project input (suc n)) callee) ≡ laws.writer_run (record { name = []; line = 0; outs = outs; ret = ret }) input
 call_runs project n f input callee outs ret k =
-    let x : Context = record { self = f; named = named_in project f.in_module f.in_unit; called = call_of project n; turns_left = n } in
+    let x : Context = record { self = f; named = named_in project f.in_module f.in_unit; called = call_of project n; iterations_left = n } in
     let st : State = record (initial_state project input (suc n)) { steps = n; calls = 999 } in
-    ap (λ r. run_of (and_then r (call_returns callee.sig.result))) (body_runs x callee.body outs ret (locals_of []) st k)
+    ap (λ r. run_of (and_then r (call_returns callee.sig.result))) (body_runs x callee.body outs ret (locals_at_entry []) st k)
 
 pub means_its_main : MeansItsMain
 means_its_main unit ws w input zero k e h = absurd (omega arith)

@@ -1,6 +1,6 @@
 //! The functions of a unit of the first form.
 ghost use Rattle.std.specs.Prelude.{◌≡◌, List, [], map, None, Ok, IfOk, IfSome};
-ghost use Rattle.pw_tree.specs.Units.{function_of, unit_of};
+ghost use Rattle.pw_tree.specs.Units.{typed_function_of, unit_of};
 ghost use Rattle.pw_first.specs.FirstForm.{IsFirstForm};
 ghost use Rattle.pw_first.specs.Reading as spec;
 ghost use Rattle.pw_first.specs.declared.writer.Writer.{Writer};
@@ -15,7 +15,7 @@ use std::alloc::Global;
 /// The writers that functions are.
 #[tactic(auto, unfolding(crate::specs::Reading::all_writers))]
 fn all_writers(alloc: Global, functions: &[TFun]) -> Result<Option<Items<Writer>>, NoMemory>
-    ensures { IfOk result (λ found. found ≡ spec.all_writers [] (map function_of functions.now)) }
+    ensures { IfOk result (λ found. found ≡ spec.all_writers [] (map typed_function_of functions.now)) }
 {
     let mut found = Items::new(alloc);
     let mut rest = functions;

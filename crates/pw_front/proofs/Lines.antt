@@ -1,40 +1,15 @@
 -- A text has at most as many tokens as bytes that end no line.
-use Rattle.std.proofs.Common.{◌≡◌, ℕ, ◌+◌, ◌<◌, ◌≤◌, true, List, [], ◌∷◌, ◌++◌, length, count_by, cond, inl, inr, refl, sym, ◌∙◌, arith, length-append}
-use Rattle.std.proofs.lemmas.Bool.{cases_Bool, eqb-true}
+use Rattle.std.proofs.Common.{◌+◌, ◌<◌, ◌≤◌, List, [], ◌∷◌, ◌++◌, length, count_by, cond, inl, inr, refl, arith, length-append}
 use Rattle.std.proofs.lemmas.List.Sums.{sum_by-append, count_by-le-length}
-use Rattle.pw_lex.specs.declared.bytes.Class.TheVariants.{White}
 use Rattle.pw_lex.specs.declared.token.Token.{Token}
-use Rattle.pw_lex.specs.declared.token.TokenKind.{TokenKind}
-use Rattle.pw_lex.specs.declared.token.TokenKind.TheVariants.{Word, Number, Char, Keyword, Punct}
-use Rattle.pw_lex.specs.Bytes.{Text, class_of}
+use Rattle.pw_lex.specs.Bytes.{Text}
 use Rattle.pw_lex.specs.Fault.{Piece, white, line_comment, block_comment, token, bytes_of, StandsBefore}
 use Rattle.pw_lex.specs.Text.{HasTokens, Stand, is_newline, spelled, tokens_of_piece, tokens_after}
-use Rattle.pw_lex.specs.Token.{IsToken}
-use Rattle.pw_lex.proofs.Exports.{kind_class, token_begins}
 use Rattle.pw_grammar.specs.declared.error.SyntaxError.{SyntaxError}
 use Rattle.pw_grammar.specs.declared.error.SyntaxError.TheVariants.{At, TooNested, TooLong, NoMemory}
 use Rattle.pw_grammar.specs.Declarations.{IsUnit, spelled_unit}
 use Rattle.pw_grammar.specs.Faults.{IsFault, IsFirstFault}
-
-newline_white : (byte : ℕ) → is_newline byte ≡ true → class_of byte ≡ White
-unfolding class_of
-newline_white byte is = rw (eqb-true byte 10 is) refl
-
-not_white : (kind : TokenKind) → White ≡ kind_class kind → ⊥
-not_white (Word name) is = cc
-not_white (Number value unsigned) is = cc
-not_white (Char value) is = cc
-not_white (Keyword number) is = cc
-not_white (Punct number) is = cc
-
--- the first byte of a token ends no line
-pub token_ends : (bytes : Text) (kind : TokenKind) → IsToken bytes kind → 1 + count_by is_newline bytes ≤ length bytes
-token_ends [] kind is = absurd (token_begins [] kind is)
-token_ends (byte ∷ bytes) kind is =
-    elim (cases_Bool (is_newline byte)) [
-      | inl holds ↦ absurd (not_white kind (sym (newline_white byte holds) ∙ token_begins (byte ∷ bytes) kind is))
-      | inr fails ↦ (let few = count_by-le-length is_newline bytes in rw fails (omega (arith, few)))
-    ]
+use Rattle.pw_grammar.proofs.Exports.{token_ends}
 
 piece_ends : (before : Text) (piece : Piece) (rest : Text) → StandsBefore piece rest
     → length (tokens_of_piece before piece) + count_by is_newline (bytes_of piece) ≤ length (bytes_of piece)

@@ -15,7 +15,8 @@ use Rattle.pw_types.specs.declared.error.TypeError.TheVariants as types
 use Rattle.pw_types.specs.declared.fault.Fault.{Fault}
 use Rattle.pw_types.specs.declared.rule.Rule.{Rule}
 use Rattle.pw_types.specs.Faults.{first_of}
-use Rattle.pw_types.specs.Units.{faults_of, typed_unit}
+use Rattle.pw_types.specs.Nests.{faults_of}
+use Rattle.pw_types.specs.Units.{typed_unit}
 use Rattle.pw_front.specs.declared.error.FrontError.TheVariants.{Lex, Syntax, Typing, NoMemory}
 use Rattle.pw_front.specs.Units.{IsUnitOf, IsTypedUnitOf, HasLexFault, HasSyntaxFault, HasTypeFault}
 use Rattle.pw_front.specs.Laws.{OneTypedUnit, UnitOrFault}

@@ -15,6 +15,6 @@ OneTypedUnit = (text : Text) (a b : TUnit) → IsTypedUnitOf text a → IsTypedU
 abbrev pub UnitOrFault : Type 0
 UnitOrFault = (text : Text) (unit : TUnit) (fault : FrontError) → IsTypedUnitOf text unit → fault ≢ NoMemory → ¬ FaultOf text fault
 
--- and one fault at most, but for want of memory
+-- and one fault at most, but for out of memory
 abbrev pub OneFault : Type 0
 OneFault = (text : Text) (a b : FrontError) → FaultOf text a → FaultOf text b → a ≢ NoMemory → b ≢ NoMemory → a ≡ b

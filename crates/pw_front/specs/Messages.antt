@@ -30,7 +30,7 @@ syntax_phrase syntax.NoMemory = codes "out of memory"
 abbrev pub at_byte : (line byte : ℕ) → List ℕ
 at_byte line byte = codes " at line " ++ (decimal line ++ (codes " byte " ++ decimal byte))
 
--- where a fault of the bytes is; want of memory is nowhere
+-- where a fault of the bytes is; out of memory is nowhere
 abbrev pub at_place : ℕ → Option ℕ → List ℕ
 at_place line (Some byte) = at_byte line byte
 at_place line None = codes ""

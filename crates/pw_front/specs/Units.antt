@@ -60,12 +60,12 @@ pub record HasTypeFault (text : Text) (rule : Rule) (at : Pos) (name : Option (L
   pub is_unit : IsUnitOf text unit
   pub is : IsFirst (untyped_unit_of unit) rule at name
 
--- what a type fault says of the text; want of memory is told otherwise
+-- what a type fault says of the text; out of memory is judged otherwise
 abbrev pub TypeFaultOf : Text → TypeError → Type 0
 TypeFaultOf text (types.Broken rule at name) = HasTypeFault text rule at name
 TypeFaultOf text types.NoMemory = ⊥
 
--- what an error says of the text; want of memory says nothing
+-- what an error says of the text; out of memory says nothing
 abbrev pub FaultOf : Text → FrontError → Type 0
 FaultOf text (Lex fault line) = HasLexFault text fault line
 FaultOf text (Syntax fault line) = HasSyntaxFault text fault line

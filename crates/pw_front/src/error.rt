@@ -16,13 +16,13 @@ pub enum FrontError {
     Lex(LexError, u32),
     /// The tokens are no unit.
     Syntax(SyntaxError, u32),
-    /// The unit has no types; the fault tells its line itself.
+    /// The unit has no types; the fault has its line itself.
     Typing(TypeError),
     /// Memory for the tokens, the tree or the typed unit was refused.
     NoMemory,
 }
 
-/// What is wrong, and the line with the byte or the token; want of memory has no place.
+/// What is wrong, and the line with the byte or the token; out of memory has no place.
 impl Display for FrontError {
     ghost output = { λ fault. Some (message_of fault) };
 

@@ -6,9 +6,9 @@ use Rattle.pw_grammar.specs.declared.sort.Sort.{Sort}
 use Rattle.pw_grammar.specs.declared.sort.Sort.TheVariants as s
 use Rattle.pw_grammar.specs.Terminals.{sort, first_sort, is_same}
 use Rattle.pw_grammar.specs.Expressions.{name_in}
-use Rattle.pw_grammar.specs.Statements.{TypeDerivation, word, unsigned, spelled_type, IsType, type_of, type_in, type_or, StatementDerivations, spelled_statements, trees_of_statements}
+use Rattle.pw_grammar.specs.Statements.{TypeDerivation, word, unsigned, spelled_type, IsType, type_of_keyword, type_in, type_or, StatementDerivations, spelled_statements, trees_of_statements}
 use Rattle.pw_grammar.specs.Declarations as dc
-use Rattle.pw_grammar.specs.Declarations.{spelled_storage, IsStorage, IsDefining, linkage_of, linkage_by, ResultDerivation, spelled_result, IsResult, result_in, ParametersDerivation, spelled_parameters, AreParameters, parameters_of, VariableDerivation, spelled_variable, IsVariable, MayHave, DeclarationDerivation, prototype, function, variable, spelled_declaration, IsDeclaration, name_at, after_parameters, tree_of_declaration, UnitDerivation, spelled_unit, IsUnit, trees_of_declarations}
+use Rattle.pw_grammar.specs.Declarations.{spelled_storage, IsStorage, IsDefining, linkage_of, linkage_by, ResultDerivation, spelled_result, IsResult, result_in, ParametersDerivation, spelled_parameters, AreParameters, parameters_of, VariableDerivation, spelled_variable, IsSizeAndInitialiser, MayHave, DeclarationDerivation, prototype, function, variable, spelled_declaration, IsDeclaration, name_at, after_parameters, tree_of_declaration, UnitDerivation, spelled_unit, IsUnit, trees_of_declarations}
 use Rattle.pw_grammar.specs.Reading.Steps.{Position, Parser, ◌>>=◌, pure, refuse, next_sort}
 use Rattle.pw_grammar.specs.Reading.Expressions.{expression}
 use Rattle.pw_grammar.specs.Reading.Statements as r
@@ -19,6 +19,7 @@ use Rattle.pw_grammar.proofs.CompleteStatements.{no_other}
 use Rattle.pw_grammar.proofs.CompleteBlocks.{ReadsElements, reads_statements}
 use Rattle.pw_grammar.proofs.CompleteParameters.{result_no, step_storage, step_result, step_parameters, all_named}
 use Rattle.pw_grammar.proofs.CompleteInitials.{may_be, step_variable}
+use Rattle.pw_tree.specs.Types.{is_void}
 use Rattle.pw_tree.specs.declared.ty.Ty.{Ty}
 use Rattle.pw_tree.specs.declared.expr.Expr.{Expr}
 use Rattle.pw_tree.specs.declared.stmt.Stmt.{Stmt}
@@ -73,14 +74,14 @@ reads_front expr stmt n at g c x ts p last m us is_g is_c is_x reads ends =
 a_function : (expr : Parser Expr) (stmt : Parser Stmt) (n : ℕ) (l : Linkage) (y : Ty) (j : Position) → next_sort j ≡ s.LeftParen
     → rd.declarator expr stmt n l y j ≡ rd.function expr stmt n l y j
 unfolding rd.declarator
-a_function expr stmt n l y j is = ap (λ b. if b then rd.function expr stmt n l y j else (if rd.is_void y then refuse j else rd.variable n l y j))
+a_function expr stmt n l y j is = ap (λ b. if b then rd.function expr stmt n l y j else (if is_void y then refuse j else rd.variable n l y j))
     (sees_it s.LeftParen j is)
 
-a_variable : (expr : Parser Expr) (stmt : Parser Stmt) (n : ℕ) (l : Linkage) (y : Ty) (j : Position) → next_sort j ≢ s.LeftParen → rd.is_void y ≡ false
+a_variable : (expr : Parser Expr) (stmt : Parser Stmt) (n : ℕ) (l : Linkage) (y : Ty) (j : Position) → next_sort j ≢ s.LeftParen → is_void y ≡ false
     → rd.declarator expr stmt n l y j ≡ rd.variable n l y j
 unfolding rd.declarator
 a_variable expr stmt n l y j other void =
-    ap (λ b. if b then rd.function expr stmt n l y j else (if rd.is_void y then refuse j else rd.variable n l y j)) (sees_other s.LeftParen j other)
+    ap (λ b. if b then rd.function expr stmt n l y j else (if is_void y then refuse j else rd.variable n l y j)) (sees_other s.LeftParen j other)
     ∙ ap (λ b. if b then refuse j else rd.variable n l y j) void
 
 ends_here : (expr : Parser Expr) (stmt : Parser Stmt) (n : ℕ) (l : Linkage) (y : Ty) (ps : List Param) (j : Position) → next_sort j ≡ s.Semicolon
@@ -100,7 +101,7 @@ unfolding rd.may_define
 may_it l ps own all = ap (λ b. not b && list_all rd.is_named ps) own ∙ all
 
 -- a type of one word or two is not `void`
-no_void : (x : Sort) (y : Ty) → type_of x ≡ Some y → rd.is_void (type_or (type_of x)) ≡ false
+no_void : (x : Sort) (y : Ty) → type_of_keyword x ≡ Some y → is_void (type_or (type_of_keyword x)) ≡ false
 no_void s.Long y e = refl
 no_void s.Fn0 y e = refl
 no_void s.Fn1 y e = refl
@@ -114,7 +115,7 @@ no_void _ y e = absurd (none e)
     none : None ≡ Some y → ⊥
     none p = cc
 
-type_not_void : (c : TypeDerivation) → IsType c → rd.is_void (type_in c) ≡ false
+type_not_void : (c : TypeDerivation) → IsType c → is_void (type_in c) ≡ false
 type_not_void (word t) (y, e) = no_void (sort t) y e
 type_not_void (unsigned u l) is = refl
 
@@ -176,7 +177,7 @@ front_fits : (u v : List Token) (x : Token) (w : List Token) (n : ℕ) → lengt
 front_fits u v x w n short = omega (arith, length-append u (v ++ x ∷ w), length-append v (x ∷ w))
 
 -- what comes behind a variable's name is no bracket
-variable_no : (v : VariableDerivation) (e : Token) (ts : List Token) → IsVariable v → sort e ≡ s.Semicolon → first_sort (spelled_variable v ++ e ∷ ts) ≢ s.LeftParen
+variable_no : (v : VariableDerivation) (e : Token) (ts : List Token) → IsSizeAndInitialiser v → sort e ≡ s.Semicolon → first_sort (spelled_variable v ++ e ∷ ts) ≢ s.LeftParen
 variable_no dc.scalar e ts is is_e = no_other is_e (λ p. cc)
 variable_no (dc.scalar_set q x) e ts is is_e = no_other is.0 (λ p. cc)
 variable_no (dc.array o n c) e ts is is_e = no_other is.0 (λ p. cc)

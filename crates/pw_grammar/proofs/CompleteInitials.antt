@@ -7,7 +7,7 @@ use Rattle.pw_grammar.specs.Terminals.{sort, first_sort}
 use Rattle.pw_grammar.specs.Expressions.{value_in, IsConstant}
 use Rattle.pw_grammar.specs.Statements.{first_line}
 use Rattle.pw_grammar.specs.Declarations as dc
-use Rattle.pw_grammar.specs.Declarations.{ElementDerivation, spelled_element, IsElement, kind_of_element, element_of, MoreElements, spelled_more_elements, AreMoreElements, more_elements_of, VariableDerivation, spelled_variable, IsExtent, IsVariable, HasNoValue, MayHave, count_in, extent, elements_of, linkage_of, linkage_by}
+use Rattle.pw_grammar.specs.Declarations.{ElementDerivation, spelled_element, IsElement, kind_of_element, element_of, MoreElements, spelled_more_elements, AreMoreElements, more_elements_of, VariableDerivation, spelled_variable, IsExtent, IsSizeAndInitialiser, HasNoValue, MayHave, count_in, extent, elements_of, linkage_of, linkage_by}
 use Rattle.pw_grammar.specs.Reading.Steps.{Position, Parser, and_then, ◌>>=◌, pure, refuse, next_sort, sees, take, skip, either}
 use Rattle.pw_grammar.specs.Reading.Declarations as rd
 use Rattle.pw_grammar.proofs.CompleteTokens.{spot, then_, counted, done, valued, step_skip, step_take, step_expect, step_name, sees_it, sees_other, either_this, either_other, behind, parted, fits}
@@ -193,7 +193,7 @@ array_is ty count x xs a b m n e f = cc
 listed_parts : (u v : List Token) (z : Token) (ts : List Token) → (u ++ (v ++ z ∷ [])) ++ ts ≡ u ++ (v ++ z ∷ ts)
 listed_parts u v z ts = append_assoc u (v ++ z ∷ []) ts ∙ ap (λ w. u ++ w) (append_assoc v (z ∷ []) ts)
 
-pub step_variable : (n : ℕ) (l : Linkage) (ty : Ty) (v : VariableDerivation) (at : ℕ) (e : Token) (ts : List Token) → IsVariable v → MayBe l v → sort e ≡ s.Semicolon
+pub step_variable : (n : ℕ) (l : Linkage) (ty : Ty) (v : VariableDerivation) (at : ℕ) (e : Token) (ts : List Token) → IsSizeAndInitialiser v → MayBe l v → sort e ≡ s.Semicolon
     → length (spelled_variable v ++ e ∷ ts) < n
     → rd.variable n l ty (spot (suc at) (spelled_variable v ++ e ∷ ts))
     ≡ Ok ((at + extent v, d.Var ty (count_in v) (elements_of (suc at) v)), spot (suc (suc at + length (spelled_variable v))) ts)

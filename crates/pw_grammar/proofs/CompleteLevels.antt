@@ -3,7 +3,7 @@ use Rattle.std.proofs.Common.{◌≡◌, refl, sym, ◌∙◌, ap, ap₂, subst,
 use Rattle.std.proofs.lemmas.List.{append_assoc, append-nil, length-append}
 use Rattle.pw_grammar.specs.declared.sort.Sort.TheVariants as s
 use Rattle.pw_grammar.specs.Terminals.{sort, first_sort, prefix_of, binary_of, level_of}
-use Rattle.pw_grammar.specs.Expressions.{ExpressionDerivation, identifier, constant, bracketed, input, output, call, index, prefixed, binary, choice, spelled, IsAt, IsOperator, IsPrefix, expression_tree, prefix_in, prefix_or, binary_in, binary_or}
+use Rattle.pw_grammar.specs.Expressions.{ExpressionDerivation, identifier, constant, bracketed, input, output, call, index, prefixed, binary, choice, spelled, IsAt, IsOperator, IsPrefixOperator, expression_tree, prefix_in, prefix_or, binary_in, binary_or}
 use Rattle.pw_grammar.specs.Reading.Steps.{Position, Parser, and_then, on_option, ◌>>=◌, pure, next_sort, finish}
 use Rattle.pw_grammar.specs.Reading.Expressions as read
 use Rattle.pw_grammar.proofs.CompleteTokens.{then_, done, valued, step_skip, sees_other, parted}
@@ -47,11 +47,11 @@ operand_counts _ = omega arith
 
 -- the operand's tree, wrapped, is the phrase's
 wrapped_is : (c : ExpressionDerivation) (at last : ℕ) → last ≡ at + length (spelled c) - 1
-    → read.wrapped at last (operators_of c) (expression_tree (at + length (operators_of c)) (operand_of c)) ≡ expression_tree at c
-unfolding read.wrapped expression_tree spelled
+    → read.under_operators at last (operators_of c) (expression_tree (at + length (operators_of c)) (operand_of c)) ≡ expression_tree at c
+unfolding read.under_operators expression_tree spelled
 wrapped_is (prefixed t a) at last h =
     ap₂ (λ l x. roll-Expr (record { first = at; last = l; line = t.line; kind = e.Unary (prefix_in t) x })) h
-    (ap (λ m. read.wrapped (suc at) last (operators_of a) (expression_tree m (operand_of a))) (omega arith) ∙ wrapped_is a (suc at) last (h ∙ omega arith))
+    (ap (λ m. read.under_operators (suc at) last (operators_of a) (expression_tree m (operand_of a))) (omega arith) ∙ wrapped_is a (suc at) last (h ∙ omega arith))
 wrapped_is c at last h = ap (λ m. expression_tree m c) (omega arith)
 
 no_operators : (turns : ℕ) (found : List (Un × ℕ)) (i : Position) → prefix_of (next_sort i) ≡ None → read.operators turns found i ≡ Ok (found, i)
@@ -59,10 +59,10 @@ unfolding read.operators read.prefix_operator
 no_operators zero found i h = refl
 no_operators (suc turns) found i h = ap (λ o. and_then (read.prefix_by o i) (λ x. on_option x (pure found) (λ op. read.operators turns (found ++ op ∷ [])))) h
 
-prefix_is : (t : Token) → IsPrefix (sort t) → prefix_of (sort t) ≡ Some (prefix_in t)
+prefix_is : (t : Token) → IsPrefixOperator (sort t) → prefix_of (sort t) ≡ Some (prefix_in t)
 prefix_is t o = o.1 ∙ ap Some (sym (ap prefix_or o.1))
 
-prefix_operator_reads : (t : Token) (at : ℕ) (ts : List Token) → IsPrefix (sort t)
+prefix_operator_reads : (t : Token) (at : ℕ) (ts : List Token) → IsPrefixOperator (sort t)
     → read.prefix_operator (record { at = at; rest = t ∷ ts }) ≡ Ok (Some (prefix_in t, t.line), record { at = suc at; rest = ts })
 unfolding read.prefix_operator
 prefix_operator_reads t at ts o =

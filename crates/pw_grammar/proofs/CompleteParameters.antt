@@ -7,7 +7,7 @@ use Rattle.pw_grammar.specs.declared.sort.Sort.TheVariants as s
 use Rattle.pw_grammar.specs.Terminals.{sort, first_sort, is_same}
 use Rattle.pw_grammar.specs.Statements.{spelled_type, type_in}
 use Rattle.pw_grammar.specs.Declarations as dc
-use Rattle.pw_grammar.specs.Declarations.{spelled_storage, IsStorage, linkage_of, linkage_by, ResultDerivation, spelled_result, IsResult, result_in, ParameterDerivation, spelled_parameter, spelled_name, IsParameter, IsNamed, has_name, named, MoreParameters, ParametersDerivation, spelled_more_parameters, spelled_parameters, AreMoreParameters, AreParameters, AllNamed, HaveNames, parameter_of, more_parameters_of, parameters_of}
+use Rattle.pw_grammar.specs.Declarations.{spelled_storage, IsStorage, linkage_of, linkage_by, ResultDerivation, spelled_result, IsResult, result_in, ParameterDerivation, spelled_parameter, spelled_name, IsParameter, IsNamed, has_name, named, MoreParameters, ParametersDerivation, spelled_more_parameters, spelled_parameters, AreMoreParameters, AreParameters, AllNamed, AllHaveNames, parameter_of, more_parameters_of, parameters_of}
 use Rattle.pw_grammar.specs.Reading.Steps.{Parser, ◌>>=◌, pure, skip, name, either}
 use Rattle.pw_grammar.specs.Reading.Statements as r
 use Rattle.pw_grammar.specs.Reading.Declarations as rd
@@ -168,6 +168,6 @@ unfolding AllNamed more_parameters_of
 more_named dc.end at is = refl
 more_named (dc.more t p ps) at is = both_true (param_named p is.0 (suc at)) (more_named ps (suc at + length (spelled_parameter p)) is.1)
 
-pub all_named : (ps : ParametersDerivation) (at : ℕ) → HaveNames ps → list_all rd.is_named (parameters_of at ps) ≡ true
+pub all_named : (ps : ParametersDerivation) (at : ℕ) → AllHaveNames ps → list_all rd.is_named (parameters_of at ps) ≡ true
 all_named (dc.none t) at is = refl
 all_named (dc.some p ps) at is = both_true (param_named p is.0 at) (more_named ps (at + length (spelled_parameter p)) is.1)

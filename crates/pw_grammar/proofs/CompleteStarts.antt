@@ -5,7 +5,7 @@ use Rattle.pw_grammar.specs.declared.sort.Sort.{Sort}
 use Rattle.pw_grammar.specs.declared.sort.Sort.TheVariants as s
 use Rattle.pw_grammar.specs.Terminals.{sort, first_sort, is_same, prefix_of}
 use Rattle.pw_grammar.specs.Expressions.{ExpressionDerivation, identifier, constant, bracketed, input, output, call, index, prefixed, binary, choice, spelled, IsAt, IsConstant}
-use Rattle.pw_grammar.specs.Statements.{type_of, SimpleDerivation, assign, assign_element, evaluate, spelled_simple, IsSimple}
+use Rattle.pw_grammar.specs.Statements.{type_of_keyword, SimpleDerivation, assign, assign_element, evaluate, spelled_simple, IsSimple}
 use Rattle.pw_grammar.specs.Reading.Steps.{Parser}
 use Rattle.pw_grammar.specs.Reading.Statements as r
 use Rattle.pw_grammar.proofs.Branches.{sorts_other}
@@ -107,7 +107,7 @@ statement_too s.Bang e = refl
 statement_too _ e = not_both false e refl
 
 -- no type begins so
-no_type : (x : Sort) → starts_statement x ≡ true → type_of x ≡ None
+no_type : (x : Sort) → starts_statement x ≡ true → type_of_keyword x ≡ None
 no_type s.Name e = refl
 no_type s.Number e = refl
 no_type s.Character e = refl
@@ -131,7 +131,7 @@ no_type _ e = not_both false e refl
 
 pub begins_no_type : (x : Sort) → starts_statement x ≡ true → r.begins_type x ≡ false
 unfolding r.begins_type
-begins_no_type x e = neither (is_same x s.Unsigned) (type_of x) (sorts_other x s.Unsigned (told_apart starts_statement e refl)) (no_type x e)
+begins_no_type x e = neither (is_same x s.Unsigned) (type_of_keyword x) (sorts_other x s.Unsigned (told_apart starts_statement e refl)) (no_type x e)
   where
     neither : (b : Bool) (o : Option Ty) → b ≡ false → o ≡ None → (b || r.is_some o) ≡ false
     neither b o p q = ap (λ b. b || r.is_some o) p ∙ ap r.is_some q

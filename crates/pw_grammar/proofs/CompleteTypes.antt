@@ -5,7 +5,7 @@ use Rattle.pw_grammar.specs.declared.sort.Sort.{Sort}
 use Rattle.pw_grammar.specs.declared.sort.Sort.TheVariants as s
 use Rattle.pw_grammar.specs.Terminals.{sort, first_sort, is_same}
 use Rattle.pw_grammar.specs.Expressions.{ExpressionDerivation, spelled, IsAt, expression_tree}
-use Rattle.pw_grammar.specs.Statements.{TypeDerivation, word, unsigned, type_of, spelled_type, IsType, type_or, type_in, LocalDerivation, plain, set, spelled_local, IsLocal, kind_of_local, statement_node}
+use Rattle.pw_grammar.specs.Statements.{TypeDerivation, word, unsigned, type_of_keyword, spelled_type, IsType, type_or, type_in, LocalDerivation, plain, set, spelled_local, IsLocal, kind_of_local, statement_node}
 use Rattle.pw_grammar.specs.Reading.Steps.{Position, Parser, pure, next_sort}
 use Rattle.pw_grammar.specs.Reading.Statements as r
 use Rattle.pw_grammar.proofs.Branches.{sorts_same}
@@ -21,8 +21,8 @@ use Rattle.pw_lex.specs.declared.token.Token.{Token}
 -- ---- types
 
 -- a type of one word is not `unsigned`
-one_word : (x : Sort) (y : Ty) → type_of x ≡ Some y → x ≢ s.Unsigned
-one_word x y e = λ u. none (sym (ap type_of u) ∙ e)
+one_word : (x : Sort) (y : Ty) → type_of_keyword x ≡ Some y → x ≢ s.Unsigned
+one_word x y e = λ u. none (sym (ap type_of_keyword u) ∙ e)
   where
     none : None ≡ Some y → ⊥
     none p = cc
@@ -38,22 +38,22 @@ pub step_type : (c : TypeDerivation) (at : ℕ) (ts : List Token) → IsType c
     → r.type_name (spot at (spelled_type c ++ ts)) ≡ Ok (type_in c, spot (at + length (spelled_type c)) ts)
 unfolding r.type_name r.unsigned_long
 step_type (word t) at ts (y, e) =
-    ap (λ b. if b then r.unsigned_long (spot at (t ∷ ts)) else r.type_by (type_of (sort t)) (spot at (t ∷ ts)))
+    ap (λ b. if b then r.unsigned_long (spot at (t ∷ ts)) else r.type_by (type_of_keyword (sort t)) (spot at (t ∷ ts)))
     (sees_other s.Unsigned (spot at (t ∷ ts)) (one_word (sort t) y e))
-    ∙ counted _ (by_word (type_of (sort t)) y at t ts e) (omega arith)
+    ∙ counted _ (by_word (type_of_keyword (sort t)) y at t ts e) (omega arith)
 step_type (unsigned u l) at ts (e, f) =
-    ap (λ b. if b then r.unsigned_long (spot at (u ∷ l ∷ ts)) else r.type_by (type_of (sort u)) (spot at (u ∷ l ∷ ts))) (sees_it s.Unsigned (spot at (u ∷ l ∷ ts)) e)
+    ap (λ b. if b then r.unsigned_long (spot at (u ∷ l ∷ ts)) else r.type_by (type_of_keyword (sort u)) (spot at (u ∷ l ∷ ts))) (sees_it s.Unsigned (spot at (u ∷ l ∷ ts)) e)
     ∙ then_ _ (step_skip at u (l ∷ ts)) (then_ _ (step_expect s.Long (suc at) l ts f) (counted {x = Ok (ty.Ulong, spot (suc (suc at)) ts)} _ refl (omega arith)))
 
 -- a type begins as types do
 pub type_begins : (c : TypeDerivation) (ts : List Token) → IsType c → r.begins_type (first_sort (spelled_type c ++ ts)) ≡ true
 unfolding r.begins_type
-type_begins (word t) ts (y, e) = begins_or (is_same (sort t) s.Unsigned) (type_of (sort t)) e
+type_begins (word t) ts (y, e) = begins_or (is_same (sort t) s.Unsigned) (type_of_keyword (sort t)) e
   where
     begins_or : (b : Bool) (o : Option Ty) → o ≡ Some y → (b || r.is_some o) ≡ true
     begins_or true o e = refl
     begins_or false o e = ap r.is_some e
-type_begins (unsigned u l) ts (e, f) = ap (λ b. b || r.is_some (type_of (sort u))) (sorts_same (sort u) s.Unsigned e)
+type_begins (unsigned u l) ts (e, f) = ap (λ b. b || r.is_some (type_of_keyword (sort u))) (sorts_same (sort u) s.Unsigned e)
 
 pub local_begins : (l : LocalDerivation) (ts : List Token) → IsLocal l → r.begins_type (first_sort (spelled_local l ++ ts)) ≡ true
 local_begins (plain c x e) ts is = subst (λ v. r.begins_type (first_sort v) ≡ true) (sym (append_assoc (spelled_type c) (x ∷ e ∷ []) ts))

@@ -49,7 +49,7 @@ plain_operator s.LeftBracket op e = absurd (nothing_is op e)
 plain_operator s.RightBracket op e = absurd (nothing_is op e)
 plain_operator _ op e = (refl, refl)
 
-pub plain_type : (x : Sort) (ty : Ty) → y.type_of x ≡ Some ty → IsPlain x
+pub plain_type : (x : Sort) (ty : Ty) → y.type_of_keyword x ≡ Some ty → IsPlain x
 plain_type s.LeftParen ty e = absurd (nothing_is ty e)
 plain_type s.RightParen ty e = absurd (nothing_is ty e)
 plain_type s.LeftBrace ty e = absurd (nothing_is ty e)

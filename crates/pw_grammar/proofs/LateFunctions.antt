@@ -130,7 +130,7 @@ outer_character : IsOuterSort s.Character
 unfolding is_same
 outer_character at start v = refl
 
-outer_type_sort : (x : Sort) (ty : Ty) → y.type_of x ≡ Some ty → IsOuterSort x
+outer_type_sort : (x : Sort) (ty : Ty) → y.type_of_keyword x ≡ Some ty → IsOuterSort x
 unfolding is_same
 outer_type_sort s.LeftParen ty e at start v = absurd (nothing_is ty e)
 outer_type_sort s.RightParen ty e at start v = absurd (nothing_is ty e)
@@ -295,7 +295,7 @@ outer_elements : (b e : Token) (u v : List Token) → sort b ≡ s.LeftBrace →
 outer_elements b e u v b_is e_is i j =
     subst (λ w. IsOuter (b ∷ w)) (append_assoc u v (e ∷ [])) (outer_braces b e (u ++ v) b_is e_is (inner_both u v i j))
 
-pub outer_variable : (v : d.VariableDerivation) → d.IsVariable v → IsOuter (d.spelled_variable v)
+pub outer_variable : (v : d.VariableDerivation) → d.IsSizeAndInitialiser v → IsOuter (d.spelled_variable v)
 outer_variable d.scalar i = outer_nil
 outer_variable (d.scalar_set q x) i = outer_then q s.Assign (d.spelled_element x) i.0 outer_assign (outer_element x i.1)
 outer_variable (d.array o n c) i = outer_extent o n c i

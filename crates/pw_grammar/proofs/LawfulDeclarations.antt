@@ -18,6 +18,7 @@ use Rattle.pw_grammar.proofs.LawfulLoops.{AStatement}
 use Rattle.pw_grammar.proofs.LawfulParameters.{linkage_at, lawful_storage, result_at, lawful_result}
 use Rattle.pw_grammar.proofs.LawfulVariables.{Ended, IsEnded, spelled_ended, declared_at, AVariable, lawful_variable}
 use Rattle.pw_grammar.proofs.LawfulFunctions.{function_goes_on, FunctionPart, prototyped, defined, IsFunction, spelled_function, function_at, AFunction, lawful_function}
+use Rattle.pw_tree.specs.Types.{is_void}
 use Rattle.pw_tree.specs.declared.ty.Ty.{Ty}
 use Rattle.pw_tree.specs.declared.expr.Expr.{Expr}
 use Rattle.pw_tree.specs.declared.stmt.Stmt.{Stmt}
@@ -34,7 +35,7 @@ data Part : Type 0 where
 
 abbrev IsPart : Linkage → Ty → Part → Type 0
 IsPart linkage ty (function f) = IsFunction linkage f
-IsPart linkage ty (variable v) = (r.is_void ty ≡ false) × IsEnded linkage v
+IsPart linkage ty (variable v) = (is_void ty ≡ false) × IsEnded linkage v
 
 abbrev spelled_part : Part → List Token
 spelled_part (function f) = spelled_function f
@@ -50,14 +51,14 @@ APart linkage ty = APhrase (IsPart linkage ty) spelled_part (part_at ty)
 function_is : (linkage : Linkage) (ty : Ty) → Within (AFunction linkage ty) (APart linkage ty)
 function_is linkage ty at a u x y = record { phrase = function y.phrase; is = y.is; spells = y.spells; value_is = y.value_is }
 
-variable_is : (linkage : Linkage) (ty : Ty) → r.is_void ty ≡ false → Within (AVariable linkage ty) (APart linkage ty)
+variable_is : (linkage : Linkage) (ty : Ty) → is_void ty ≡ false → Within (AVariable linkage ty) (APart linkage ty)
 variable_is linkage ty e at a u x y = record { phrase = variable y.phrase; is = (e, y.is); spells = y.spells; value_is = y.value_is }
 
 part_goes_on : (linkage : Linkage) (ty : Ty) (at : ℕ) → GoesOn (APart linkage ty) at []
 part_goes_on linkage ty at = goes_on_within (function_is linkage ty) (function_goes_on linkage ty at)
 
 -- a variable, where the type is no `void`
-keeps_variable : (m n : ℕ) → n ≤ m → (linkage : Linkage) (ty : Ty) (b : Bool) → r.is_void ty ≡ b
+keeps_variable : (m n : ℕ) → n ≤ m → (linkage : Linkage) (ty : Ty) (b : Bool) → is_void ty ≡ b
     → Keeps (λ x. is_same x s.LeftParen ≡ false) n (APart linkage ty) (λ i. if b then refuse i else r.variable m linkage ty i) (λ i. if b then refuse i else r.variable (suc m) linkage ty i)
 keeps_variable m n small linkage ty true e = keeps_refuse (λ x. is_same x s.LeftParen ≡ false) n (APart linkage ty) (part_goes_on linkage ty)
 keeps_variable m n small linkage ty false e =
@@ -68,7 +69,7 @@ lawful_part : (m n : ℕ) → n ≤ m → (p q : Parser Expr) (v w : Parser Stmt
 unfolding r.declarator sees
 lawful_part m n small p q v w l h linkage ty = lawful_test (λ x. is_same x s.LeftParen) n (APart linkage ty) _ _ _ _
     (keeps_within (Is s.LeftParen) n _ (APart linkage ty) _ _ (function_is linkage ty) (lawful_function m n small p q v w l h linkage ty))
-    (keeps_variable m n small linkage ty (r.is_void ty) refl)
+    (keeps_variable m n small linkage ty (is_void ty) refl)
     (part_goes_on linkage ty)
 
 -- ---- declarations

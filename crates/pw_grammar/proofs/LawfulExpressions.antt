@@ -4,7 +4,7 @@ use Rattle.std.proofs.lemmas.List.{append-nil, length-append}
 use Rattle.pw_grammar.specs.declared.sort.Sort.{Sort}
 use Rattle.pw_grammar.specs.declared.sort.Sort.TheVariants as s
 use Rattle.pw_grammar.specs.Terminals.{sort, sort_of, is_same}
-use Rattle.pw_grammar.specs.Expressions.{identifier, constant, bracketed, input, output, spelled, IsAt, IsConstant, expression_tree, name_in, value_in, is_unsigned}
+use Rattle.pw_grammar.specs.Expressions.{identifier, constant, bracketed, input, output, spelled, IsAt, IsConstant, expression_tree, name_in, value_in, is_unsigned_constant}
 use Rattle.pw_grammar.specs.Reading.Steps.{Position, Parser, refuse, next_sort, take}
 use Rattle.pw_grammar.specs.Reading.Expressions as r
 use Rattle.pw_grammar.proofs.Lawful.{Language, GoesOn, Says, Same, Lawful, Within, Seq, Pure, lawful_pure}
@@ -96,13 +96,13 @@ lawful_identifier n m c named ends = keeps_within c (suc n) _ _ _ _ (identifier_
 
 -- a number or a character
 constant_is : (m : ℕ) (c : Sort → Type 0) → ((x : Sort) → c x → IsConstant x)
-    → Within (Here (λ first. Seq (AToken c) (λ t. ANode first t.line (e.Num (value_in t.kind) (is_unsigned t.kind))))) (AnExpression m)
+    → Within (Here (λ first. Seq (AToken c) (λ t. ANode first t.line (e.Num (value_in t.kind) (is_unsigned_constant t.kind))))) (AnExpression m)
 unfolding spelled IsAt expression_tree
 constant_is m c named at a u x y = record {
   phrase = constant y.value;
   is = named (sort y.value) y.first.sort_is;
   spells = y.splits ∙ (ap (λ v. y.front ++ v) y.second.empty ∙ (append-nil y.front ∙ y.first.is));
-  tree = y.second.is ∙ ap (λ n. roll-Expr (record { first = at; last = n - 1; line = y.value.line; kind = e.Num (value_in y.value.kind) (is_unsigned y.value.kind) }))
+  tree = y.second.is ∙ ap (λ n. roll-Expr (record { first = at; last = n - 1; line = y.value.line; kind = e.Num (value_in y.value.kind) (is_unsigned_constant y.value.kind) }))
       (ap (λ v. at + length v) y.first.is);
 }
 
@@ -111,7 +111,7 @@ lawful_constant : (n m : ℕ) (c : Sort → Type 0) → ((x : Sort) → c x → 
 unfolding r.constant
 lawful_constant n m c named ends = keeps_within c (suc n) _ _ _ _ (constant_is m c named)
     (keeps_from c (suc n) _ _ _ (λ first. keeps_bind_from c (suc n) n (AToken c) _ take take _ _ (a_token_is_lax c)
-    (keeps_take c ends (suc n)) (λ t. lawful_finish n first t.line (e.Num (value_in t.kind) (is_unsigned t.kind))) (take_shrinks n)))
+    (keeps_take c ends (suc n)) (λ t. lawful_finish n first t.line (e.Num (value_in t.kind) (is_unsigned_constant t.kind))) (take_shrinks n)))
 
 -- `__in ( )`
 input_is : (n : ℕ) → Within (Here (λ first. Then (λ x. is_same x s.Input ≡ true) (λ line. Then (λ x. x ≡ s.LeftParen) (λ o.

@@ -121,7 +121,7 @@ more_have_names g.MoreParameters.end at e = tt
 more_have_names (g.MoreParameters.more t p ps) at e =
     let b = and_parts _ _ e in (name_given p.name b.0, more_have_names ps (suc at + length (g.spelled_parameter p)) b.1)
 
-have_names : (at : ℕ) (ps : g.ParametersDerivation) → list_all r.is_named (g.parameters_of at ps) ≡ true → g.HaveNames ps
+have_names : (at : ℕ) (ps : g.ParametersDerivation) → list_all r.is_named (g.parameters_of at ps) ≡ true → g.AllHaveNames ps
 have_names at (g.none t) e = tt
 have_names at (g.some p ps) e =
     let b = and_parts _ _ e in (name_given p.name b.0, more_have_names ps (at + length (g.spelled_parameter p)) b.1)
@@ -129,7 +129,7 @@ have_names at (g.some p ps) e =
 -- a definition: it is not `extern`, and each parameter has a name
 record Defines (linkage : Linkage) (ps : g.ParametersDerivation) : Type 0 where
   not_extern : r.is_extern linkage ≡ false
-  names : g.HaveNames ps
+  names : g.AllHaveNames ps
 
 defines : (linkage : Linkage) (at : ℕ) (ps : g.ParametersDerivation) → r.may_define linkage (g.parameters_of at ps) ≡ true → Defines linkage ps
 unfolding r.may_define
@@ -146,7 +146,7 @@ pub data FunctionPart : Type 0 where
 abbrev pub IsFunction : Linkage → FunctionPart → Type 0
 IsFunction linkage (prototyped o ps c e) = (sort o ≡ s.LeftParen) × g.AreParameters ps × (sort c ≡ s.RightParen) × (sort e ≡ s.Semicolon)
 IsFunction linkage (defined o ps c b body e) =
-    (r.is_extern linkage ≡ false) × (sort o ≡ s.LeftParen) × g.AreParameters ps × g.HaveNames ps × (sort c ≡ s.RightParen)
+    (r.is_extern linkage ≡ false) × (sort o ≡ s.LeftParen) × g.AreParameters ps × g.AllHaveNames ps × (sort c ≡ s.RightParen)
     × (sort b ≡ s.LeftBrace) × AreStatements body × (sort e ≡ s.RightBrace)
 
 abbrev pub spelled_function : FunctionPart → List Token

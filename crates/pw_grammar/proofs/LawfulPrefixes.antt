@@ -5,7 +5,7 @@ use Rattle.std.specs.Bool.{⊤}
 use Rattle.pw_grammar.specs.declared.sort.Sort.TheVariants as s
 use Rattle.pw_grammar.specs.Terminals.{prefix_of, sort}
 use Rattle.pw_grammar.specs.Expressions as g
-use Rattle.pw_grammar.specs.Expressions.{ExpressionDerivation, spelled, IsAt, expression_tree, IsPrefix, prefix_or, prefix_in}
+use Rattle.pw_grammar.specs.Expressions.{ExpressionDerivation, spelled, IsAt, expression_tree, IsPrefixOperator, prefix_or, prefix_in}
 use Rattle.pw_grammar.specs.Reading.Steps.{on_option, Position, ReadResult, Parser, and_then, ◌>>=◌, pure, next_sort, skip}
 use Rattle.pw_grammar.specs.Reading.Expressions as r
 use Rattle.pw_grammar.proofs.Lawful.{Language, GoesOn, Lawful, Within, within, Seq, bind, Pure, lawful_pure, leads_nowhere}
@@ -30,7 +30,7 @@ then_option (Err fault) op stop f = refl
 
 ArePrefixes : List Token → Type 0
 ArePrefixes [] = ⊤
-ArePrefixes (t ∷ ts) = IsPrefix (sort t) × ArePrefixes ts
+ArePrefixes (t ∷ ts) = IsPrefixOperator (sort t) × ArePrefixes ts
 
 -- the operators that these tokens are, with their lines
 operators_in : List Token → List (Un × ℕ)
@@ -97,7 +97,7 @@ lawful_operators (suc m) found = lawful_equal (suc m) (SomeOperators found) _ _ 
 -- ---- the operand behind them
 
 record IsWrapped (first : ℕ) (ops : List (Un × ℕ)) (operand : Expr) (at : ℕ) (a : Expr) (u : List Token) : Type 0 where
-  is : a ≡ r.wrapped first (at - 1) ops operand
+  is : a ≡ r.under_operators first (at - 1) ops operand
   empty : u ≡ []
 
 abbrev AWrapped : ℕ → List (Un × ℕ) → Expr → Language Expr
@@ -109,7 +109,7 @@ unfolding r.wrap
 lawful_wrap n first ops operand = record {
   settled = λ i short. refl;
   says = λ i. record { tokens = []; leads = leads_nowhere i; reads = record { is = refl; empty = refl } };
-  steady = λ k i j same near. record { place = j; is = ap (λ at. Ok (r.wrapped first (at - 1) ops operand, j)) (sym same.at); agree = same };
+  steady = λ k i j same near. record { place = j; is = ap (λ at. Ok (r.under_operators first (at - 1) ops operand, j)) (sym same.at); agree = same };
   can = λ at. record { rest = []; value = _; reads = λ x o. record { is = refl; empty = refl }; starts = λ e x o. o };
 }
 
@@ -132,14 +132,14 @@ count_prefixes : (at last : ℕ) (t : Token) (ts u v : List Token) → v ≡ ts 
 count_prefixes at last t ts u v e f = omega (arith, ap length e, f)
 
 prefixes_tree : (ts : List Token) (c : ExpressionDerivation) (at last : ℕ) → last ≡ at + length (ts ++ spelled c) - 1
-    → r.wrapped at last (operators_in ts) (expression_tree (at + length ts) c) ≡ expression_tree at (prefixes ts c)
-unfolding prefixes operators_in r.wrapped spelled expression_tree
+    → r.under_operators at last (operators_in ts) (expression_tree (at + length ts) c) ≡ expression_tree at (prefixes ts c)
+unfolding prefixes operators_in r.under_operators spelled expression_tree
 prefixes_tree [] c at last last_is = ap (λ n. expression_tree n c) (omega arith)
 prefixes_tree (t ∷ ts) c at last last_is =
-    ap (λ l. roll-Expr (record { first = at; last = l; line = t.line; kind = e.Unary (prefix_in t) (r.wrapped (suc at) last (operators_in ts) (expression_tree (at + suc (length ts)) c)) }))
+    ap (λ l. roll-Expr (record { first = at; last = l; line = t.line; kind = e.Unary (prefix_in t) (r.under_operators (suc at) last (operators_in ts) (expression_tree (at + suc (length ts)) c)) }))
     (count_prefixes at last t ts (spelled c) (spelled (prefixes ts c)) (prefixes_spell ts c) last_is)
     ∙ ap (λ a. roll-Expr (record { first = at; last = at + length (t ∷ spelled (prefixes ts c)) - 1; line = t.line; kind = e.Unary (prefix_in t) a }))
-    (ap (λ n. r.wrapped (suc at) last (operators_in ts) (expression_tree n c)) (omega arith) ∙ prefixes_tree ts c (suc at) last (omega (arith, last_is)))
+    (ap (λ n. r.under_operators (suc at) last (operators_in ts) (expression_tree n c)) (omega arith) ∙ prefixes_tree ts c (suc at) last (omega (arith, last_is)))
 
 count_operand : (at : ℕ) (u v : List Token) → at + length u + length v - 1 ≡ at + length (u ++ v) - 1
 count_operand at u v = omega (arith, length-append u v)
@@ -153,7 +153,7 @@ prefix_is at a u x y =
       is = prefixes_are y.front b.phrase y.first.are (looser 1 2 b.phrase (omega arith) b.is);
       spells = y.splits ∙ (ap (λ v. y.front ++ v) (b.splits ∙ (ap (λ v. spelled b.phrase ++ v) b.second.empty ∙ append-nil (spelled b.phrase)))
           ∙ sym (prefixes_spell y.front b.phrase));
-      tree = b.second.is ∙ (ap (λ ops. r.wrapped at (at + length y.front + length (spelled b.phrase) - 1) ops (expression_tree (at + length y.front) b.phrase)) y.first.is
+      tree = b.second.is ∙ (ap (λ ops. r.under_operators at (at + length y.front + length (spelled b.phrase) - 1) ops (expression_tree (at + length y.front) b.phrase)) y.first.is
           ∙ prefixes_tree y.front b.phrase at _ (count_operand at y.front (spelled b.phrase)));
     }
 

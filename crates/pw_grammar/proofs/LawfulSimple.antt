@@ -6,7 +6,7 @@ use Rattle.pw_grammar.specs.declared.sort.Sort.{Sort}
 use Rattle.pw_grammar.specs.declared.sort.Sort.TheVariants as s
 use Rattle.pw_grammar.specs.Terminals.{sort, is_same}
 use Rattle.pw_grammar.specs.Expressions.{ExpressionDerivation, identifier, constant, bracketed, input, output, call, index, prefixed, binary, choice, spelled, IsAt, expression_tree, name_in}
-use Rattle.pw_grammar.specs.Statements.{TypeDerivation, word, unsigned, type_of, spelled_type, IsType, type_in, LocalDerivation, plain, set, spelled_local, IsLocal, kind_of_local, SimpleDerivation, assign, assign_element, evaluate, spelled_simple, IsSimple, kind_of_simple, first_line, statement_node}
+use Rattle.pw_grammar.specs.Statements.{TypeDerivation, word, unsigned, type_of_keyword, spelled_type, IsType, type_in, LocalDerivation, plain, set, spelled_local, IsLocal, kind_of_local, SimpleDerivation, assign, assign_element, evaluate, spelled_simple, IsSimple, kind_of_simple, first_line, statement_node}
 use Rattle.pw_grammar.specs.Reading.Steps.{Parser, pure, sees, either, finish_statement}
 use Rattle.pw_grammar.specs.Reading.Statements as r
 use Rattle.pw_grammar.proofs.Lawful.{Language, sort_before, GoesOn, Lawful, Within, within, Pure, Nothing, lawful_pure, leads_nowhere}
@@ -341,7 +341,7 @@ local_node_goes_on first at = record {
   reads = λ x o. record {
     phrase = word long.token;
     behind = a_name.token ∷ semicolon.token ∷ [];
-    is = (Long, ap type_of long.sort_is);
+    is = (Long, ap type_of_keyword long.sort_is);
     splits = refl;
     second = record {
       token = a_name.token;

@@ -3,7 +3,7 @@ use Rattle.std.proofs.Common.{◌≡◌, ◌≢◌, refl, sym, ◌∙◌, ap, su
 use Rattle.pw_grammar.specs.declared.sort.Sort.{Sort}
 use Rattle.pw_grammar.specs.declared.sort.Sort.TheVariants as s
 use Rattle.pw_grammar.specs.Terminals.{sort, sort_of, is_same}
-use Rattle.pw_grammar.specs.Statements.{word, unsigned, type_of, spelled_type, IsType, type_or, type_in}
+use Rattle.pw_grammar.specs.Statements.{word, unsigned, type_of_keyword, spelled_type, IsType, type_or, type_in}
 use Rattle.pw_grammar.specs.Reading.Steps.{next_sort, sees}
 use Rattle.pw_grammar.specs.Reading.Statements as r
 use Rattle.pw_grammar.proofs.Lawful.{Language, GoesOn, Lawful, Within, Pure, lawful_pure}
@@ -77,7 +77,7 @@ long_is : (at : ℕ) → GoesOn AType at []
 long_is at = record {
   rest = long.token ∷ [];
   value = type_in (word long.token);
-  reads = λ x o. record { phrase = word long.token; is = (Long, ap type_of long.sort_is); spells = refl; value_is = refl };
+  reads = λ x o. record { phrase = word long.token; is = (Long, ap type_of_keyword long.sort_is); spells = refl; value_is = refl };
   starts = λ e x o. subst (λ z. z ≢ s.Else) (sym long.sort_is) long.no_else;
 }
 
@@ -91,7 +91,7 @@ unsigned_is at a u x y =
       value_is = l.second.is;
     }
 
-word_is : (ty : Ty) → Within (Then (λ x. type_of x ≡ Some ty) (λ o. Pure ty)) AType
+word_is : (ty : Ty) → Within (Then (λ x. type_of_keyword x ≡ Some ty) (λ o. Pure ty)) AType
 word_is ty at a u x y = record {
   phrase = word y.token;
   is = (ty, y.sort_is);
@@ -99,14 +99,14 @@ word_is ty at a u x y = record {
   value_is = y.second.is ∙ sym (ap type_or y.sort_is);
 }
 
-end_is_no_type : (ty : Ty) → type_of s.End ≡ Some ty → ⊥
+end_is_no_type : (ty : Ty) → type_of_keyword s.End ≡ Some ty → ⊥
 end_is_no_type ty e = cc
 
-lawful_word : (n : ℕ) → Lawful n AType (λ i. r.type_by (type_of (next_sort i)) i) (λ i. r.type_by (type_of (next_sort i)) i)
-lawful_word n = lawful_option type_of n AType r.type_by r.type_by
-    (keeps_refuse (λ x. type_of x ≡ None) n AType long_is)
-    (λ ty. keeps_fewer (λ x. type_of x ≡ Some ty) n AType _ _ (keeps_within (λ x. type_of x ≡ Some ty) (suc n) _ _ _ _ (word_is ty)
-    (keeps_then (λ x. type_of x ≡ Some ty) n _ _ _ (end_is_no_type ty) (λ o. lawful_pure n ty))))
+lawful_word : (n : ℕ) → Lawful n AType (λ i. r.type_by (type_of_keyword (next_sort i)) i) (λ i. r.type_by (type_of_keyword (next_sort i)) i)
+lawful_word n = lawful_option type_of_keyword n AType r.type_by r.type_by
+    (keeps_refuse (λ x. type_of_keyword x ≡ None) n AType long_is)
+    (λ ty. keeps_fewer (λ x. type_of_keyword x ≡ Some ty) n AType _ _ (keeps_within (λ x. type_of_keyword x ≡ Some ty) (suc n) _ _ _ _ (word_is ty)
+    (keeps_then (λ x. type_of_keyword x ≡ Some ty) n _ _ _ (end_is_no_type ty) (λ o. lawful_pure n ty))))
     long_is
 
 pub lawful_type : (n : ℕ) → Lawful n AType r.type_name r.type_name

@@ -183,7 +183,7 @@ abbrev pub Ended : Type 0
 Ended = g.VariableDerivation × Token
 
 abbrev pub IsEnded : Linkage → Ended → Type 0
-IsEnded linkage v = g.IsVariable v.0 × (r.is_extern linkage ≡ true → g.HasNoValue v.0) × (sort v.1 ≡ s.Semicolon)
+IsEnded linkage v = g.IsSizeAndInitialiser v.0 × (r.is_extern linkage ≡ true → g.HasNoValue v.0) × (sort v.1 ≡ s.Semicolon)
 
 abbrev pub spelled_ended : Ended → List Token
 spelled_ended v = g.spelled_variable v.0 ++ v.1 ∷ []

@@ -56,5 +56,6 @@ pub mod Written
 pub mod Weighed
 pub mod Exports
 pub mod SmallTokens
+pub mod TextTokens
 pub mod ProperStatements
 pub mod ReadUnits

@@ -6,7 +6,7 @@ use Rattle.pw_grammar.proofs.PlainNodes.{place, node-Num, node-Word, node-Unary,
 use Rattle.pw_lex.specs.declared.token.Token.{Token}
 use Rattle.pw_tree.specs.Expressions.{expression_of, expressions_of}
 use Rattle.pw_tree.specs.Expressions as tree
-use Rattle.pw_tree.specs.Placed.{IsWithin, IsPlaced, ArePlaced, span_of, behind}
+use Rattle.pw_tree.specs.Placed.{IsWithin, IsPlaced, ArePlaced, span_of, token_after}
 use Rattle.pw_tree.specs.declared.operator.Un.{Un}
 use Rattle.pw_tree.specs.declared.operator.Bin.{Bin}
 
@@ -67,7 +67,7 @@ stands_binary at m n count t op a b e s r = stands_by at count t _ refl (omega (
     (λ low high w. (
       w,
       s.placed at (at + count - 1) (omega arith) (omega (arith, e)),
-      r.placed (suc (behind a)) (at + count - 1) (omega (arith, s.to)) (omega (arith, e)),
+      r.placed (suc (token_after a)) (at + count - 1) (omega (arith, s.to)) (omega (arith, e)),
     ))
 
 stands_conditional : (at m n k count : ℕ) (t : Token) (c a b : tree.Expression) → count ≡ m + suc (n + suc k) → Stands at m c
@@ -77,8 +77,8 @@ stands_conditional at m n k count t c a b e s r q = stands_by at count t _ refl 
     (λ low high w. (
       w,
       s.placed at (at + count - 1) (omega arith) (omega (arith, e)),
-      r.placed (suc (behind c)) (at + count - 1) (omega (arith, s.to)) (omega (arith, e)),
-      q.placed (suc (behind a)) (at + count - 1) (omega (arith, r.to)) (omega (arith, e)),
+      r.placed (suc (token_after c)) (at + count - 1) (omega (arith, s.to)) (omega (arith, e)),
+      q.placed (suc (token_after a)) (at + count - 1) (omega (arith, r.to)) (omega (arith, e)),
     ))
 
 stands_index : (at m n count : ℕ) (t : Token) (a i : tree.Expression) → count ≡ m + suc (n + 1) → Stands at m a
@@ -88,7 +88,7 @@ stands_index at m n count t a i e s r = stands_by at count t _ refl (omega (arit
     (λ low high w. (
       w,
       s.placed at (at + count - 1) (omega arith) (omega (arith, e)),
-      r.placed (suc (behind a)) (at + count - 1) (omega (arith, s.to)) (omega (arith, e)),
+      r.placed (suc (token_after a)) (at + count - 1) (omega (arith, s.to)) (omega (arith, e)),
     ))
 
 stands_call : (at m n count : ℕ) (t : Token) (f : tree.Expression) (xs : tree.Expressions) → count ≡ m + suc (n + 1) → Stands at m f
@@ -98,8 +98,8 @@ stands_call at m n count t f xs e s r = stands_by at count t _ refl (omega (arit
     (λ low high w. (
       w,
       s.placed at (at + count - 1) (omega arith) (omega (arith, e)),
-      (let b : behind f ≤ at + count - 1 = omega (arith, s.to, e) in b),
-      r.placed (suc (behind f)) (at + count - 1) (omega (arith, s.to)) (omega (arith, e)),
+      (let b : token_after f ≤ at + count - 1 = omega (arith, s.to, e) in b),
+      r.placed (suc (token_after f)) (at + count - 1) (omega (arith, s.to)) (omega (arith, e)),
     ))
 
 stand_none : (at : ℕ) → AllStand at 0 tree.nil
@@ -110,7 +110,7 @@ stand_both : (at m n count : ℕ) (a : tree.Expression) (xs : tree.Expressions) 
     → AllStand at count (tree.cons a xs)
 unfolding ArePlaced
 stand_both at m n count a xs e s r = record {
-  placed = λ low high l h. (s.placed low high l (omega (arith, e)), r.placed (behind a) high (omega (arith, s.to)) (omega (arith, e)));
+  placed = λ low high l h. (s.placed low high l (omega (arith, e)), r.placed (token_after a) high (omega (arith, s.to)) (omega (arith, e)));
 }
 
 -- what stands behind a token

@@ -5,7 +5,7 @@ use Rattle.pw_grammar.proofs.PlacedExpressions.{Stands}
 use Rattle.pw_lex.specs.declared.token.Token.{Token}
 use Rattle.pw_tree.specs.Expressions as expression
 use Rattle.pw_tree.specs.Statements as tree
-use Rattle.pw_tree.specs.Placed.{IsWithin, IsOptionPlaced, behind, behind_option, local_name_at, index_end, behind_statement, behind_maybe, set_end, IsStatementPlaced, AreStatementsPlaced, IsMaybePlaced}
+use Rattle.pw_tree.specs.Placed.{IsWithin, IsOptionPlaced, token_after, token_after_option, local_name_at, index_end, token_after_statement, token_after_maybe, set_end, IsStatementPlaced, AreStatementsPlaced, IsMaybePlaced}
 use Rattle.pw_tree.specs.Placed as placed
 use Rattle.pw_tree.specs.declared.ty.Ty.{Ty}
 
@@ -22,31 +22,31 @@ pub record StatementsStand (at count : ℕ) (ys : tree.Statements) : Type 0 wher
 -- what may be left out, and what stands behind it
 pub record OptionStands (at count : ℕ) (a : Option expression.Expression) : Type 0 where
   pub placed : (low high : ℕ) → low ≤ at → at + count ≤ suc high → IsOptionPlaced low high a
-  pub behind : (low : ℕ) → low ≤ at → behind_option low a ≤ at + count
+  pub after : (low : ℕ) → low ≤ at → token_after_option low a ≤ at + count
 
 pub record MaybeStands (in_head : Bool) (at count : ℕ) (y : tree.OptionalStatement) : Type 0 where
   pub placed : (low high : ℕ) → low ≤ at → at + count ≤ suc high → IsMaybePlaced in_head low high y
-  pub behind : (low : ℕ) → low ≤ at → behind_maybe low y ≤ at + count
+  pub after : (low : ℕ) → low ≤ at → token_after_maybe low y ≤ at + count
 
 pub no_option : (at : ℕ) → OptionStands at 0 None
-no_option at = record { placed = λ low high l h. tt; behind = λ low l. omega arith }
+no_option at = record { placed = λ low high l h. tt; after = λ low l. omega arith }
 
 pub an_option : (at m count : ℕ) (a : expression.Expression) → m ≤ count → Stands at m a → OptionStands at count (Some a)
 an_option at m count a e s = record {
   placed = λ low high l h. s.placed low high l (omega arith);
-  behind = λ low l. omega (arith, s.to);
+  after = λ low l. omega (arith, s.to);
 }
 
 pub no_maybe : (in_head : Bool) (at count : ℕ) → MaybeStands in_head at count tree.absent
 unfolding IsMaybePlaced
-no_maybe in_head at count = record { placed = λ low high l h. tt; behind = λ low l. omega arith }
+no_maybe in_head at count = record { placed = λ low high l h. tt; after = λ low l. omega arith }
 
 pub a_maybe : (in_head : Bool) (at m count : ℕ) (y : tree.Statement) → m ≤ count → StatementStands in_head at m y
     → MaybeStands in_head at count (tree.present y)
 unfolding IsMaybePlaced
 a_maybe in_head at m count y e s = record {
   placed = λ low high l h. s.placed low high l (omega arith);
-  behind = λ low l. omega (arith, s.last);
+  after = λ low l. omega (arith, s.last);
 }
 
 pub by_form : {in_head : Bool} {at count : ℕ} {x y : tree.Statement} → x ≡ y → StatementStands in_head at count y → StatementStands in_head at count x
@@ -57,7 +57,7 @@ pub maybe_behind : {in_head : Bool} (at m : ℕ) (y : tree.Statement) → Statem
 unfolding IsMaybePlaced
 maybe_behind at m y s = record {
   placed = λ low high l h. s.placed low high (omega arith) (omega arith);
-  behind = λ low l. omega (arith, s.last);
+  after = λ low l. omega (arith, s.last);
 }
 
 -- ---- each form, over the trees of its parts
@@ -137,8 +137,8 @@ stands_if in_head at m n k ts c a b e s r q = stands_by in_head at ts _ refl (om
     (λ low high w. (
       w,
       s.placed (suc at) (at + length ts - 1) (omega arith) (omega arith),
-      r.placed (behind c) (at + length ts - 1) (omega (arith, s.to)) (omega arith),
-      q.placed (behind_statement a) (at + length ts - 1) (omega (arith, r.last)) (omega arith),
+      r.placed (token_after c) (at + length ts - 1) (omega (arith, s.to)) (omega arith),
+      q.placed (token_after_statement a) (at + length ts - 1) (omega (arith, r.last)) (omega arith),
     ))
 
 pub stands_while : (in_head : Bool) (at m n : ℕ) (ts : List Token) (c : expression.Expression) (y : tree.Statement)
@@ -149,7 +149,7 @@ stands_while in_head at m n ts c y e s r = stands_by in_head at ts _ refl (omega
     (λ low high w. (
       w,
       s.placed (suc at) (at + length ts - 1) (omega arith) (omega arith),
-      r.placed (behind c) (at + length ts - 1) (omega (arith, s.to)) (omega arith),
+      r.placed (token_after c) (at + length ts - 1) (omega (arith, s.to)) (omega arith),
     ))
 
 pub stands_do : (in_head : Bool) (at m n : ℕ) (ts : List Token) (y : tree.Statement) (c : expression.Expression)
@@ -160,7 +160,7 @@ stands_do in_head at m n ts y c e s r = stands_by in_head at ts _ refl (omega ar
     (λ low high w. (
       w,
       s.placed (suc at) (at + length ts - 1) (omega arith) (omega arith),
-      r.placed (behind_statement y) (at + length ts - 1) (omega (arith, s.last)) (omega arith),
+      r.placed (token_after_statement y) (at + length ts - 1) (omega (arith, s.last)) (omega arith),
     ))
 
 pub stands_for : (in_head : Bool) (at m n k l : ℕ) (ts : List Token) (first : tree.OptionalStatement) (c : Option expression.Expression) (last : tree.OptionalStatement) (y : tree.Statement)
@@ -170,17 +170,17 @@ pub stands_for : (in_head : Bool) (at m n k l : ℕ) (ts : List Token) (first : 
 unfolding IsStatementPlaced
 stands_for in_head at m n k l ts first c last y e s r q p =
     let from : at + 2 ≤ suc (suc at) = omega arith in
-    let b1 : behind_maybe (at + 2) first ≤ suc (suc at) + m = s.behind (at + 2) from in
-    let b2 : behind_option (behind_maybe (at + 2) first) c ≤ suc (suc at) + m + n = r.behind (behind_maybe (at + 2) first) b1 in
-    let b3 : behind_maybe (suc (behind_option (behind_maybe (at + 2) first) c)) last ≤ suc (suc (suc at) + m + n) + k =
-    q.behind (suc (behind_option (behind_maybe (at + 2) first) c)) (omega arith) in
+    let b1 : token_after_maybe (at + 2) first ≤ suc (suc at) + m = s.after (at + 2) from in
+    let b2 : token_after_option (token_after_maybe (at + 2) first) c ≤ suc (suc at) + m + n = r.after (token_after_maybe (at + 2) first) b1 in
+    let b3 : token_after_maybe (suc (token_after_option (token_after_maybe (at + 2) first) c)) last ≤ suc (suc (suc at) + m + n) + k =
+    q.after (suc (token_after_option (token_after_maybe (at + 2) first) c)) (omega arith) in
     stands_by in_head at ts _ refl (omega arith)
     (λ low high w. (
       w,
       s.placed (at + 2) (at + length ts - 1) from (omega arith),
-      r.placed (behind_maybe (at + 2) first) (at + length ts - 1) b1 (omega arith),
-      q.placed (suc (behind_option (behind_maybe (at + 2) first) c)) (at + length ts - 1) (omega arith) (omega arith),
-      p.placed (behind_maybe (suc (behind_option (behind_maybe (at + 2) first) c)) last) (at + length ts - 1) (omega arith) (omega arith),
+      r.placed (token_after_maybe (at + 2) first) (at + length ts - 1) b1 (omega arith),
+      q.placed (suc (token_after_option (token_after_maybe (at + 2) first) c)) (at + length ts - 1) (omega arith) (omega arith),
+      p.placed (token_after_maybe (suc (token_after_option (token_after_maybe (at + 2) first) c)) last) (at + length ts - 1) (omega arith) (omega arith),
     ))
 
 pub none_stand : (at : ℕ) → StatementsStand at 0 tree.nil
@@ -192,5 +192,5 @@ pub both_stand : (at m n count : ℕ) (y : tree.Statement) (ys : tree.Statements
 unfolding AreStatementsPlaced
 both_stand at m n count y ys e s r = record {
   placed = λ low high l h.
-      (s.placed low high l (omega (arith, e)), r.placed (behind_statement y) high (omega (arith, s.last)) (omega (arith, e)));
+      (s.placed low high l (omega (arith, e)), r.placed (token_after_statement y) high (omega (arith, s.last)) (omega (arith, e)));
 }

@@ -6,7 +6,7 @@ use Rattle.pw_grammar.specs.declared.sort.Sort.{Sort}
 use Rattle.pw_grammar.specs.declared.sort.Sort.TheVariants as s
 use Rattle.pw_grammar.specs.Terminals.{sort}
 use Rattle.pw_grammar.specs.Expressions.{ExpressionDerivation, spelled}
-use Rattle.pw_grammar.specs.Statements.{TypeDerivation, word, unsigned, spelled_type, type_of, type_or, type_in, LocalDerivation, plain, spelled_local, kind_of_local, SimpleDerivation, assign, assign_element, spelled_simple, kind_of_simple, ForStartDerivation, no_start, local_start, simple_start, spelled_start, spelled_maybe, tree_of_maybe, spelled_step, StatementDerivation, block, declare, simple, if_only, while_do, do_while, for_do, leave, jump, StatementDerivations, spelled_statement, spelled_statements, statement_node, tree_of_start, tree_of_step, jump_of, kind_of, trees_of_statements, after_test, after_head, after_part}
+use Rattle.pw_grammar.specs.Statements.{TypeDerivation, word, unsigned, spelled_type, type_of_keyword, type_or, type_in, LocalDerivation, plain, spelled_local, kind_of_local, SimpleDerivation, assign, assign_element, spelled_simple, kind_of_simple, ForStartDerivation, no_start, local_start, simple_start, spelled_start, spelled_maybe, tree_of_maybe, spelled_step, StatementDerivation, block, declare, simple, if_only, while_do, do_while, for_do, leave, jump, StatementDerivations, spelled_statement, spelled_statements, statement_node, tree_of_start, tree_of_step, jump_of, kind_of, trees_of_statements, after_test, after_head, after_part}
 use Rattle.pw_grammar.specs.Statements as phrase
 use Rattle.pw_grammar.proofs.PlainNodes.{statement_place, statement-Empty, statement-Block, statement-Local, statement-Set, statement-Eval, statement-If, statement-While, statement-Do, statement-For, statement-Return, statement-Break, statement-Continue}
 use Rattle.pw_grammar.proofs.PlacedExpressions.{stands}
@@ -20,7 +20,7 @@ use Rattle.pw_tree.specs.Placed.{local_name_at, set_end, IsStatementPlaced}
 -- ---- locals, assignments, and the parts of a `for`
 
 -- the name of a local stands behind its type
-one_word : (x : Sort) (at : Span) → local_name_at at (type_or (type_of x)) ≡ at.first + 1
+one_word : (x : Sort) (at : Span) → local_name_at at (type_or (type_of_keyword x)) ≡ at.first + 1
 one_word s.Long at = refl
 one_word _ at = refl
 

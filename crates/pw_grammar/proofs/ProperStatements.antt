@@ -26,7 +26,7 @@ pub record Fine (declares : Bool) (x : Statement) : Type 0 where
 
 -- a part of a `for`, the last or the first
 pub record FinePart (x : Statement) : Type 0 where
-  pub simple : proper.IsSimple x
+  pub simple : proper.IsSimpleStatement x
   pub fine : Fine false x
 
 pub record FineFirst (x : OptionalStatement) : Type 0 where
@@ -78,7 +78,7 @@ simple_fine at ts (assign_element x o i c q a) h =
 simple_fine at ts (phrase.evaluate a) h = part_by_form (statement-Eval at ts _)
     (record { simple = tt; fine = record { proper = tt; plain = λ _. tt; numbers = numbers at a h } })
 
-first_of_simple : (x : Statement) → proper.IsSimple x → proper.IsSimpleOrDeclaration x
+first_of_simple : (x : Statement) → proper.IsSimpleStatement x → proper.IsSimpleOrDeclaration x
 first_of_simple (tree.set at name i e) h = tt
 first_of_simple (tree.evaluate at e) h = tt
 first_of_simple (tree.local at ty name e) h = tt

@@ -5,8 +5,9 @@ use Rattle.std.specs.List.{AllByRecursion}
 use Rattle.std.proofs.lemmas.Bool.{cases_lt}
 use Rattle.std.proofs.Common.{take-append-drop}
 use Rattle.pw_base.specs.Limits.{function_tokens}
-use Rattle.pw_grammar.specs.Statements.{spelled_type, StatementDerivations, spelled_statements}
-use Rattle.pw_grammar.specs.Declarations.{spelled_storage, spelled_result, spelled_parameters, ResultDerivation, ParametersDerivation, ElementDerivation, word, positive, negative, spelled_element, negated, element_of, MoreElements, comma, spelled_more_elements, more_elements_of, VariableDerivation, scalar, scalar_set, array, array_set, spelled_variable, elements_of, DeclarationDerivation, prototype, function, variable, spelled_declaration, IsDeclaration, name_at, after_parameters, tree_of_declaration, UnitDerivation, spelled_unit, IsUnit, trees_of_declarations, lines_of, Derives}
+use Rattle.pw_grammar.specs.Terminals.{sort}
+use Rattle.pw_grammar.specs.Statements.{spelled_type, type_in, StatementDerivations, spelled_statements}
+use Rattle.pw_grammar.specs.Declarations.{spelled_storage, spelled_result, spelled_parameters, ResultDerivation, ParametersDerivation, ElementDerivation, word, positive, negative, spelled_element, negated, element_of, MoreElements, comma, spelled_more_elements, more_elements_of, VariableDerivation, scalar, scalar_set, array, array_set, spelled_variable, count_in, elements_of, HasNoValue, MayHave, linkage_by, linkage_of, DeclarationDerivation, prototype, function, variable, spelled_declaration, IsDeclaration, name_at, after_parameters, tree_of_declaration, UnitDerivation, spelled_unit, IsUnit, trees_of_declarations, lines_of, Derives}
 use Rattle.pw_grammar.specs.Declarations as phrase
 use Rattle.pw_grammar.specs.Faults.{before_body, IsLate, StandsLate, GoesOnTooLong, IsFault, IsFaultless}
 use Rattle.pw_grammar.specs.Laws.{IsSmallToken, TreesAreRead}
@@ -17,7 +18,11 @@ use Rattle.pw_grammar.proofs.ProperStatements.{statements_fine}
 use Rattle.pw_grammar.proofs.Written.{trees_are_written}
 use Rattle.pw_lex.specs.declared.token.Token.{Token}
 use Rattle.pw_tree.specs.Declarations.{declaration_of, untyped_unit_of}
-use Rattle.pw_tree.specs.Proper.{IsProperDeclaration, HasElementNumber, HaveElementNumbers, IsRead}
+use Rattle.pw_tree.specs.Declarations as tree
+use Rattle.pw_tree.specs.declared.ty.Ty.{Ty}
+use Rattle.pw_tree.specs.declared.decl.Linkage.{Linkage}
+use Rattle.pw_tree.specs.declared.decl.Linkage.TheVariants.{Plain, Extern, Static}
+use Rattle.pw_tree.specs.Proper.{HasNoInitialiser, MayBeInitialised, IsProperDeclaration, HasElementNumber, HaveElementNumbers, IsRead}
 use Rattle.pw_tree.specs.declared.decl.Unit.{Unit}
 use Rattle.pw_tree.specs.declared.decl.InitItem.{InitItem}
 
@@ -51,6 +56,25 @@ elements_small at (array_set o n c q b x xs e) h =
       more_elements_small (at + 5 + length (spelled_element x)) xs (small_left (spelled_more_elements xs) (e ∷ []) later),
     )
 
+no_elements : (at : ℕ) (ty : Ty) (size : Option ℕ) (v : VariableDerivation) → HasNoValue v → HasNoInitialiser (tree.variable ty size (elements_of at v))
+no_elements at ty size scalar h = tt
+no_elements at ty size (scalar_set q x) h = absurd h
+no_elements at ty size (array o n c) h = tt
+no_elements at ty size (array_set o n c q b x xs e) h = absurd h
+
+without_initialiser : (l : Linkage) (form : tree.DeclarationForm) → HasNoInitialiser form → MayBeInitialised l form
+without_initialiser Plain form h = tt
+without_initialiser Extern form h = h
+without_initialiser Static form h = tt
+
+variable_may : (g : Option Token) (at : ℕ) (ty : Ty) (size : Option ℕ) (v : VariableDerivation) → MayHave g v →
+    MayBeInitialised (linkage_of g) (tree.variable ty size (elements_of at v))
+variable_may None at ty size v h = tt
+variable_may (Some t) at ty size v (inl static) =
+    subst (λ s. MayBeInitialised (linkage_by s) (tree.variable ty size (elements_of at v))) (sym static) tt
+variable_may (Some t) at ty size v (inr h) =
+    without_initialiser (linkage_by (sort t)) (tree.variable ty size (elements_of at v)) (no_elements at ty size v h.1)
+
 -- ---- declarations
 
 -- none of a declaration's tokens is late
@@ -82,7 +106,13 @@ declaration_proper : (at : ℕ) (c : DeclarationDerivation) → IsDeclaration c 
 declaration_proper at (prototype g r x o ps c e) is h timely =
     let a = small_right (phrase.spelled_storage g) (spelled_result r ++ x ∷ o ∷ (spelled_parameters ps ++ c ∷ e ∷ [])) h in
     let b = small_right (spelled_result r) (x ∷ o ∷ (spelled_parameters ps ++ c ∷ e ∷ [])) a in
-    record { proper = tt; short = tt; line = b.0.line; numbers = tt }
+    record {
+      proper = tt;
+      short = tt;
+      initialiser = without_initialiser (linkage_of g) (declaration_of (tree_of_declaration at (prototype g r x o ps c e))).form tt;
+      line = b.0.line;
+      numbers = tt;
+    }
 declaration_proper at (function g r x o ps c b body e) is h timely =
     let rest = c ∷ b ∷ (spelled_statements body ++ e ∷ []) in
     let h1 = small_right (phrase.spelled_storage g) (spelled_result r ++ x ∷ o ∷ (spelled_parameters ps ++ rest)) h in
@@ -92,13 +122,20 @@ declaration_proper at (function g r x o ps c b body e) is h timely =
     record {
       proper = f.0;
       short = body_short g r x o ps c b body e at timely;
+      initialiser = without_initialiser (linkage_of g) (declaration_of (tree_of_declaration at (function g r x o ps c b body e))).form tt;
       line = h2.0.line;
       numbers = f.1;
     }
 declaration_proper at (variable g ty x v e) is h timely =
     let a = small_right (phrase.spelled_storage g) (spelled_type ty ++ x ∷ (spelled_variable v ++ e ∷ [])) h in
     let b = small_right (spelled_type ty) (x ∷ (spelled_variable v ++ e ∷ [])) a in
-    record { proper = tt; short = tt; line = b.0.line; numbers = elements_small (suc (name_at at g (spelled_type ty))) v (small_left (spelled_variable v) (e ∷ []) b.1) }
+    record {
+      proper = tt;
+      short = tt;
+      initialiser = variable_may g (suc (name_at at g (spelled_type ty))) (type_in ty) (count_in v) v is.3;
+      line = b.0.line;
+      numbers = elements_small (suc (name_at at g (spelled_type ty))) v (small_left (spelled_variable v) (e ∷ []) b.1);
+    }
 
 -- none of a unit's tokens is late
 abbrev AreTimely : UnitDerivation → Type 0

@@ -4,7 +4,7 @@ use Rattle.pw_lex.specs.declared.token.Token.{Token}
 use Rattle.pw_grammar.specs.declared.sort.Sort.{Sort}
 use Rattle.pw_grammar.specs.declared.sort.Sort.TheVariants as s
 use Rattle.pw_grammar.specs.Terminals.{sort}
-use Rattle.pw_grammar.specs.Statements.{TypeDerivation, unsigned, IsType, type_of, type_or, type_in}
+use Rattle.pw_grammar.specs.Statements.{TypeDerivation, unsigned, IsType, type_of_keyword, type_or, type_in}
 use Rattle.pw_grammar.specs.Statements as statement
 use Rattle.pw_grammar.specs.Declarations.{ResultDerivation, IsResult, result_in, spelled_parameter, MoreParameters, ParametersDerivation, none, some, AreMoreParameters, AreParameters, has_name, named, AllNamed, more_parameters_of, parameters_of, DeclarationDerivation, prototype, function, variable, spelled_declaration, IsDeclaration, tree_of_declaration, UnitDerivation, IsUnit, trees_of_declarations}
 use Rattle.pw_grammar.specs.Declarations as phrase
@@ -16,7 +16,7 @@ use Rattle.pw_tree.specs.Placed as placed
 use Rattle.pw_tree.specs.declared.ty.Ty.{Ty}
 use Rattle.pw_tree.specs.declared.ty.Ty.TheVariants as ty
 
-one_word : (x : Sort) (ty : Ty) → type_of x ≡ Some ty → IsValueType (type_or (type_of x))
+one_word : (x : Sort) (ty : Ty) → type_of_keyword x ≡ Some ty → IsValueType (type_or (type_of_keyword x))
 one_word s.Long ty e = tt
 one_word s.Fn0 ty e = omega arith
 one_word s.Fn1 ty e = omega arith
@@ -31,13 +31,13 @@ pub value_type : (ty : TypeDerivation) → IsType ty → IsValueType (type_in ty
 value_type (statement.word t) is = one_word (sort t) is.0 is.1
 value_type (unsigned u l) is = tt
 
-is_a_type : (ty : Ty) → IsValueType ty → types.IsType ty
+is_a_type : (ty : Ty) → IsValueType ty → types.IsResultType ty
 is_a_type ty.Void h = absurd h
 is_a_type ty.Long h = tt
 is_a_type ty.Ulong h = tt
 is_a_type (ty.Fn k) h = h
 
-result_type : (r : ResultDerivation) → IsResult r → types.IsType (result_in r)
+result_type : (r : ResultDerivation) → IsResult r → types.IsResultType (result_in r)
 result_type (phrase.nothing t) is = tt
 result_type (phrase.value ty) is = is_a_type (type_in ty) (value_type ty is)
 
@@ -60,7 +60,7 @@ unfolding AllNamed more_parameters_of placed.HaveNames
 more_parameter_names at phrase.end is = tt
 more_parameter_names at (phrase.more t p ps) is = (has_a_name p.name is.0, more_parameter_names (suc at + length (spelled_parameter p)) ps is.1)
 
-parameter_names : (at : ℕ) (ps : ParametersDerivation) → phrase.HaveNames ps → placed.HaveNames (parameters_of at ps)
+parameter_names : (at : ℕ) (ps : ParametersDerivation) → phrase.AllHaveNames ps → placed.HaveNames (parameters_of at ps)
 unfolding placed.HaveNames
 parameter_names at (none t) is = tt
 parameter_names at (some p ps) is = (has_a_name p.name is.0, more_parameter_names _ ps is.1)

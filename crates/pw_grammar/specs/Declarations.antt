@@ -136,9 +136,9 @@ AllNamed end = ⊤
 AllNamed (more t p ps) = (has_name p.name ≡ true) × AllNamed ps
 
 -- and so has the first
-abbrev pub HaveNames : ParametersDerivation → Type 0
-HaveNames (none t) = ⊤
-HaveNames (some p ps) = (has_name p.name ≡ true) × AllNamed ps
+abbrev pub AllHaveNames : ParametersDerivation → Type 0
+AllHaveNames (none t) = ⊤
+AllHaveNames (some p ps) = (has_name p.name ≡ true) × AllNamed ps
 
 -- a parameter whose first token has the number `at`
 abbrev pub parameter_of : ℕ → ParameterDerivation → Param
@@ -235,11 +235,11 @@ abbrev pub IsExtent : Token → Token → Token → Type 0
 IsExtent o n c = (sort o ≡ s.LeftBracket) × (sort n ≡ s.Number) × (sort c ≡ s.RightBracket)
 
 -- the derivation is one of a size and an initialiser
-abbrev pub IsVariable : VariableDerivation → Type 0
-IsVariable scalar = ⊤
-IsVariable (scalar_set q x) = (sort q ≡ s.Assign) × IsElement x
-IsVariable (array o n c) = IsExtent o n c
-IsVariable (array_set o n c q b x xs e) =
+abbrev pub IsSizeAndInitialiser : VariableDerivation → Type 0
+IsSizeAndInitialiser scalar = ⊤
+IsSizeAndInitialiser (scalar_set q x) = (sort q ≡ s.Assign) × IsElement x
+IsSizeAndInitialiser (array o n c) = IsExtent o n c
+IsSizeAndInitialiser (array_set o n c q b x xs e) =
     IsExtent o n c × (sort q ≡ s.Assign) × (sort b ≡ s.LeftBrace) × IsElement x × AreMoreElements xs × (sort e ≡ s.RightBrace)
 
 -- a variable that is declared `extern` has no initialiser
@@ -302,10 +302,10 @@ IsDeclaration (prototype g r x o ps c e) =
     IsStorage g × IsResult r × (sort x ≡ s.Name) × (sort o ≡ s.LeftParen) × AreParameters ps
     × (sort c ≡ s.RightParen) × (sort e ≡ s.Semicolon)
 IsDeclaration (function g r x o ps c b body e) =
-    IsDefining g × IsResult r × (sort x ≡ s.Name) × (sort o ≡ s.LeftParen) × AreParameters ps × HaveNames ps
+    IsDefining g × IsResult r × (sort x ≡ s.Name) × (sort o ≡ s.LeftParen) × AreParameters ps × AllHaveNames ps
     × (sort c ≡ s.RightParen) × (sort b ≡ s.LeftBrace) × AreStatements body × (sort e ≡ s.RightBrace)
 IsDeclaration (variable g ty x v e) =
-    IsType ty × (sort x ≡ s.Name) × IsVariable v × MayHave g v × (sort e ≡ s.Semicolon)
+    IsType ty × (sort x ≡ s.Name) × IsSizeAndInitialiser v × MayHave g v × (sort e ≡ s.Semicolon)
 
 -- the number of the name's token
 abbrev pub name_at : ℕ → Option Token → List Token → ℕ

@@ -82,8 +82,8 @@ abbrev pub IsOperator : ℕ → Sort → Type 0
 IsOperator level x = (op : Bin) × (binary_of x ≡ Some op) × (level_of op ≡ level)
 
 -- the symbol is a prefix operator
-abbrev pub IsPrefix : Sort → Type 0
-IsPrefix x = (op : Un) × (prefix_of x ≡ Some op)
+abbrev pub IsPrefixOperator : Sort → Type 0
+IsPrefixOperator x = (op : Un) × (prefix_of x ≡ Some op)
 
 -- the symbol is a constant
 abbrev pub IsConstant : Sort → Type 0
@@ -99,7 +99,7 @@ unfoldable mutual
   IsAt n (output k o a c) = (sort k ≡ s.Output) × (sort o ≡ s.LeftParen) × IsAt 13 a × (sort c ≡ s.RightParen)
   IsAt n (call f o xs c) = (1 ≤ n) × IsAt 1 f × (sort o ≡ s.LeftParen) × AreArguments xs × (sort c ≡ s.RightParen)
   IsAt n (index a o i c) = (1 ≤ n) × IsAt 1 a × (sort o ≡ s.LeftBracket) × IsAt 13 i × (sort c ≡ s.RightBracket)
-  IsAt n (prefixed t a) = (2 ≤ n) × IsPrefix (sort t) × IsAt 2 a
+  IsAt n (prefixed t a) = (2 ≤ n) × IsPrefixOperator (sort t) × IsAt 2 a
   IsAt n (binary a t b) = (tighter : ℕ) × (suc tighter ≤ n) × IsAt (suc tighter) a × IsOperator (suc tighter) (sort t) × IsAt tighter b
   IsAt n (choice c q a m b) = (13 ≤ n) × IsAt 12 c × (sort q ≡ s.Question) × IsAt 13 a × (sort m ≡ s.Colon) × IsAt 13 b
 
@@ -132,12 +132,12 @@ value_in (t.Keyword number) = 0
 value_in (t.Punct number) = 0
 
 -- whether the type of a constant is unsigned long
-abbrev pub is_unsigned : TokenKind → Bool
-is_unsigned (t.Word name) = false
-is_unsigned (t.Number value unsigned) = unsigned
-is_unsigned (t.Char value) = false
-is_unsigned (t.Keyword number) = false
-is_unsigned (t.Punct number) = false
+abbrev pub is_unsigned_constant : TokenKind → Bool
+is_unsigned_constant (t.Word name) = false
+is_unsigned_constant (t.Number value unsigned) = unsigned
+is_unsigned_constant (t.Char value) = false
+is_unsigned_constant (t.Keyword number) = false
+is_unsigned_constant (t.Punct number) = false
 
 -- the operator, or any where there is none
 abbrev pub prefix_or : Option Un → Un
@@ -167,7 +167,7 @@ unfoldable mutual
   -- of an expression
   pub expression_tree : ℕ → ExpressionDerivation → Expr
   expression_tree at (identifier t) = node at 1 t (e.Word (name_in t.kind))
-  expression_tree at (constant t) = node at 1 t (e.Num (value_in t.kind) (is_unsigned t.kind))
+  expression_tree at (constant t) = node at 1 t (e.Num (value_in t.kind) (is_unsigned_constant t.kind))
   expression_tree at (bracketed o a c) = expression_tree (suc at) a
   expression_tree at (input k o c) = node at 3 k e.Input
   expression_tree at (output k o a c) = node at (length (spelled (output k o a c))) k (e.Output (expression_tree (suc (suc at)) a))

@@ -8,6 +8,8 @@ use Rattle.pw_grammar.specs.Faults.{IsFaultless, IsFirstFault}
 use Rattle.pw_grammar.specs.Weights.{weight}
 use Rattle.pw_grammar.specs.Terminals.{texts, keyword_words, punctuator_words}
 use Rattle.pw_lex.specs.Spellings as spellings
+use Rattle.pw_lex.specs.Bytes.{Text}
+use Rattle.pw_lex.specs.Text.{HasTokens}
 use Rattle.pw_lex.specs.declared.token.Token.{Token}
 use Rattle.pw_tree.specs.declared.decl.Unit.{Unit}
 use Rattle.pw_tree.specs.Declarations.{declarations_of, untyped_unit_of}
@@ -55,6 +57,10 @@ UnitsAreNoLonger = (tokens : List Token) (unit : Unit) → Derives tokens unit �
 pub record IsSmallToken (token : Token) : Type 0 where
   pub line : token.line < 2 ^ 32
   pub value : value_in token.kind < 2 ^ 64
+
+-- and so has each token of a text of fewer than 2 to the 32nd bytes
+abbrev pub TokensAreSmall : Type 0
+TokensAreSmall = (text : Text) (tokens : List Token) → HasTokens text tokens → length text < 2 ^ 32 → AllByRecursion IsSmallToken tokens
 
 -- the tree of a list without fault is that of a unit that was read: its trees stand in its tokens, each with a token of its own;
 -- locals are declared in blocks and by a `for` alone, functions are short, and numbers are small

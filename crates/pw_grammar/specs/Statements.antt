@@ -20,16 +20,16 @@ pub data TypeDerivation : Type 0 where
   unsigned : Token → Token → TypeDerivation
 
 -- the type of one word that a symbol is
-abbrev pub type_of : Sort → Option Ty
-type_of s.Long = Some ty.Long
-type_of s.Fn0 = Some (ty.Fn 0)
-type_of s.Fn1 = Some (ty.Fn 1)
-type_of s.Fn2 = Some (ty.Fn 2)
-type_of s.Fn3 = Some (ty.Fn 3)
-type_of s.Fn4 = Some (ty.Fn 4)
-type_of s.Fn5 = Some (ty.Fn 5)
-type_of s.Fn6 = Some (ty.Fn 6)
-type_of _ = None
+abbrev pub type_of_keyword : Sort → Option Ty
+type_of_keyword s.Long = Some ty.Long
+type_of_keyword s.Fn0 = Some (ty.Fn 0)
+type_of_keyword s.Fn1 = Some (ty.Fn 1)
+type_of_keyword s.Fn2 = Some (ty.Fn 2)
+type_of_keyword s.Fn3 = Some (ty.Fn 3)
+type_of_keyword s.Fn4 = Some (ty.Fn 4)
+type_of_keyword s.Fn5 = Some (ty.Fn 5)
+type_of_keyword s.Fn6 = Some (ty.Fn 6)
+type_of_keyword _ = None
 
 -- the tokens of a type
 abbrev pub spelled_type : TypeDerivation → List Token
@@ -38,7 +38,7 @@ spelled_type (unsigned u l) = u ∷ l ∷ []
 
 -- the derivation is one of a type
 abbrev pub IsType : TypeDerivation → Type 0
-IsType (word t) = (x : Ty) × (type_of (sort t) ≡ Some x)
+IsType (word t) = (x : Ty) × (type_of_keyword (sort t) ≡ Some x)
 IsType (unsigned u l) = (sort u ≡ s.Unsigned) × (sort l ≡ s.Long)
 
 -- the type, or void where there is none
@@ -48,7 +48,7 @@ type_or None = ty.Void
 
 -- the type that is derived
 abbrev pub type_in : TypeDerivation → Ty
-type_in (word t) = type_or (type_of (sort t))
+type_in (word t) = type_or (type_of_keyword (sort t))
 type_in (unsigned u l) = ty.Ulong
 
 -- ---- locals, assignments, and the first part of a `for`

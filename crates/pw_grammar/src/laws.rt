@@ -1,5 +1,5 @@
 //! Laws of the grammar, each the contract of a function.
-ghost use Rattle.pw_grammar.specs.Laws.{KeywordsByText, PunctuatorsByText, HasReading, NotBoth, OneTree, OneFault, TreesAreRead, TreesAreWritten, UnitsAreNoLonger};
+ghost use Rattle.pw_grammar.specs.Laws.{KeywordsByText, PunctuatorsByText, HasReading, NotBoth, OneTree, OneFault, TokensAreSmall, TreesAreRead, TreesAreWritten, UnitsAreNoLonger};
 ghost use Rattle.pw_grammar.specs.Reading.Whole.{ReadingTells};
 
 /// A keyword and a punctuator, which a token gives by its number, have the symbol that stands beside their text.
@@ -23,9 +23,14 @@ pub fn trees_are_written()
     ensures { TreesAreWritten }
 {}
 
+/// The tokens of a text of fewer than 2 to the 32nd bytes have lines of 32 bits and constants of 64.
+pub fn tokens_are_small()
+    ensures { TokensAreSmall }
+{}
+
 /// The tree of a list without fault, of fewer than 2 to the 32nd tokens with lines of 32 bits and constants of 64, is that of
 /// a unit that was read: each phrase has a token of its own; a local is declared in a block or by a `for` alone; the parts of a
-/// `for` are simple; a function's body has at most 8,192 tokens.
+/// `for` are simple; a function's body has at most 8,192 tokens; an `extern` variable has no initialiser.
 pub fn trees_are_read()
     ensures { TreesAreRead }
 {}

@@ -42,7 +42,7 @@ rest_is k n below = omega arith
 same_number : (k n : ℕ) → k ≤ n → n ≤ k → k ≡ n
 same_number k n le ge = omega arith
 
--- ---- told lists of fetches
+-- ---- reported lists of fetches
 
 told_none : (told : Option (List ℕ)) → Told told [] told
 told_none None = tt
@@ -156,7 +156,7 @@ pub record Follows (k : ℕ) (first now : ExecutionState) (used_up : Bool) : Typ
   pub on : (n : ℕ) (rest : List ℕ) (new : ExecutionState) (end : End) → CanBeLeft now.input used_up rest →
       RunsFrom n rest put now new end → RunsFrom (k + n) (taken ++ rest) [] first new end
 
--- what is left at first: what the input tells, or nothing
+-- what is left at first: what the input reports, or nothing
 left_at : (left : Option (List ℕ)) (faults : ℕ) → (bytes : List ℕ) × CanBeLeft (record { left = left; faults = faults }) false bytes
 left_at None faults = ([], record { is_left = tt; none = λ e. absurd (cc e) })
 left_at (Some bytes) faults = (bytes, record { is_left = refl; none = λ e. absurd (cc e) })

@@ -86,7 +86,7 @@ is_left_before : (byte : ℕ) (left : Option (List ℕ)) (faults : ℕ) (rest : 
 is_left_before byte None faults rest offers is_left = tt
 is_left_before byte (Some bytes) faults rest offers is_left = offers ∙ ap (λ l. byte ∷ l) is_left
 
--- and what is left behind it
+-- and what is left after it
 is_left_behind : (byte : ℕ) (left : Option (List ℕ)) (faults : ℕ) (bytes : List ℕ) → IsLeft bytes (record { left = left; faults = faults }) →
     IsLeft (drop 1 bytes) (after (byte ∷ []) (record { left = left; faults = faults }))
 is_left_behind byte None faults bytes is_left = tt

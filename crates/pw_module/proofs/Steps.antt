@@ -2,7 +2,7 @@
 use Rattle.std.proofs.Common.{◌≡◌, ℕ, zero, suc, Bool, true, false, cond, List, [], ◌∷◌, ◌++◌, drop, Option, Some, None, Result, Ok, Err, refl, sym, ap, ◌∙◌, append_assoc}
 use Rattle.pw_module.specs.declared.dep_error.DepError.{DepError}
 use Rattle.pw_module.specs.Reading.{◌>>=◌, fine, index_or}
-use Rattle.pw_module.specs.Laws.{AreBytes}
+use Rattle.pw_base.specs.Bytes.{AreBytes}
 
 -- the value of a step that did not fail
 pub bind_ok : {A B : Type 0} (r : Result A DepError) (f : A → Result B DepError) (y : B) → (r >>= f) ≡ Ok y → (x : A) × (r ≡ Ok x) × (f x ≡ Ok y)
@@ -43,15 +43,10 @@ pub index_passed : (k : ℕ) (o : Option ℕ) (fault : Option DepError) → inde
 index_passed k None fault e = (refl, e)
 index_passed k (Some n) fault e = absurd cc
 
--- what a step took from the front
+-- what a step took from the start of the bytes
 pub record Takes (bytes text rest : List ℕ) : Type 0 where
   pub parts : bytes ≡ text ++ rest
   pub rest_fits : AreBytes rest
 
 pub Takes-then : (a x b y c : List ℕ) → Takes a x b → Takes b y c → Takes a (x ++ y) c
 Takes-then a x b y c p q = record { parts = p.parts ∙ ap (λ (t : List ℕ). x ++ t) q.parts ∙ sym (append_assoc x y c); rest_fits = q.rest_fits }
-
-pub AreBytes-drop : (n : ℕ) (bytes : List ℕ) → AreBytes bytes → AreBytes (drop n bytes)
-AreBytes-drop zero bytes small = small
-AreBytes-drop (suc n) [] small = tt
-AreBytes-drop (suc n) (b ∷ bytes) small = AreBytes-drop n bytes small.1

@@ -14,23 +14,23 @@ Follow Right next End former [] = End former
 Follow Right next End former (x ∷ xs) = Right former x × Follow Right next End (next former x) xs
 
 -- the number of a symbol: the first one is none
-abbrev pub IsSymbol : ℕ → ℕ → Type 0
-IsSymbol symbols n = (0 < n) × (n < symbols)
+abbrev pub IsSymbolNumber : ℕ → ℕ → Type 0
+IsSymbolNumber symbols n = (0 < n) × (n < symbols)
 
 -- the number of a unit, or none
-abbrev pub IsUnit : ℕ → Option ℕ → Type 0
-IsUnit units None = Unit {0}
-IsUnit units (Some unit) = unit < units
+abbrev pub IsUnitNumber : ℕ → Option ℕ → Type 0
+IsUnitNumber units None = Unit {0}
+IsUnitNumber units (Some unit) = unit < units
 
 -- where a function ends
-abbrev pub function_end : ℕ → FunRec → ℕ
-function_end former f = f.start + f.size
+abbrev pub end_of_function : ℕ → FunRec → ℕ
+end_of_function former f = f.start + f.size
 
 -- a function that starts where its former ends, and has whole instructions
-pub record IsFun (symbols units former : ℕ) (f : FunRec) : Type 0 where
-  pub symbol : IsSymbol symbols f.sym
-  pub of : IsUnit units f.unit
-  pub depends : AllByRecursion (IsSymbol symbols) f.deps
+pub record IsFunctionRecord (symbols units former : ℕ) (f : FunRec) : Type 0 where
+  pub symbol : IsSymbolNumber symbols f.sym
+  pub of : IsUnitNumber units f.unit
+  pub depends : AllByRecursion (IsSymbolNumber symbols) f.deps
   pub few : length f.deps < 2 ^ 32
   pub starts : f.start ≡ former
   pub some : 0 < f.size
@@ -38,17 +38,17 @@ pub record IsFun (symbols units former : ℕ) (f : FunRec) : Type 0 where
   pub start_fits : f.start < 2 ^ 32
   pub size_fits : f.size < 2 ^ 32
 
--- functions fill the text, each right behind the last
-abbrev pub AreFuns : ℕ → ℕ → ℕ → List FunRec → Type 0
-AreFuns symbols units text funs = Follow (IsFun symbols units) function_end (λ last. last ≡ text) 0 funs
+-- functions fill the text, each right after the one before
+abbrev pub AreFunctionRecords : ℕ → ℕ → ℕ → List FunRec → Type 0
+AreFunctionRecords symbols units text funs = Follow (IsFunctionRecord symbols units) end_of_function (λ last. last ≡ text) 0 funs
 
 -- a root names two symbols
-abbrev pub IsRoot : ℕ → RootRec → Type 0
-IsRoot symbols r = IsSymbol symbols r.var × IsSymbol symbols r.fun
+abbrev pub IsRootRecord : ℕ → RootRec → Type 0
+IsRootRecord symbols r = IsSymbolNumber symbols r.var × IsSymbolNumber symbols r.fun
 
--- a type's symbol is behind its former's, and its text is that of a type
-pub record IsType (symbols former : ℕ) (t : TypeRec) : Type 0 where
-  pub symbol : IsSymbol symbols t.sym
+-- a type's symbol is above its former's, and it has a type string
+pub record IsTypeRecord (symbols former : ℕ) (t : TypeRec) : Type 0 where
+  pub symbol : IsSymbolNumber symbols t.sym
   pub ascends : former < t.sym
   pub typed : IsTypeText t.text
 
@@ -57,8 +57,8 @@ abbrev pub type_symbol : ℕ → TypeRec → ℕ
 type_symbol former t = t.sym
 
 -- types ascend by symbol
-abbrev pub AreTypes : ℕ → List TypeRec → Type 0
-AreTypes symbols types = Follow (IsType symbols) type_symbol (λ _. Unit {0}) 0 types
+abbrev pub AreTypeRecords : ℕ → List TypeRec → Type 0
+AreTypeRecords symbols types = Follow (IsTypeRecord symbols) type_symbol (λ _. Unit {0}) 0 types
 
 -- each count is one that a field of four bytes says
 pub record HasCounts (t : DepTable) : Type 0 where
@@ -72,6 +72,6 @@ pub record IsTableOf (symbols text : ℕ) (t : DepTable) : Type 0 where
   pub version : t.version ≡ 1
   pub counts : HasCounts t
   pub units : AllByRecursion IsName t.units
-  pub funs : AreFuns symbols (length t.units) text t.funs
-  pub roots : AllByRecursion (IsRoot symbols) t.roots
-  pub types : AreTypes symbols t.types
+  pub funs : AreFunctionRecords symbols (length t.units) text t.funs
+  pub roots : AllByRecursion (IsRootRecord symbols) t.roots
+  pub types : AreTypeRecords symbols t.types

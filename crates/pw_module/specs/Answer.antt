@@ -1,20 +1,21 @@
--- What a call answered, seen by a view, is what reading gives, unless memory ran out.
+-- What a call that reads answered, against the definition of what is read: equal, unless memory ran out.
 use Rattle.std.specs.Prelude.{◌≡◌, Result, Ok, Err}
 use Rattle.pw_module.specs.declared.dep_error.DepError.{DepError}
 use Rattle.pw_module.specs.declared.dep_error.DepError.TheVariants.{Short, Version, BadName, BadIndex, BadRange, Overlap, BadType, Trailing, NoMemory}
 
--- the error is the fault that reading gives; want of memory says nothing
-abbrev pub Fails : {Y : Type 0} → DepError → Result Y DepError → Type 0
-Fails (Short at) read = read ≡ Err (Short at)
-Fails (Version n) read = read ≡ Err (Version n)
-Fails (BadName unit) read = read ≡ Err (BadName unit)
-Fails (BadIndex record_ n) read = read ≡ Err (BadIndex record_ n)
-Fails (BadRange record_) read = read ≡ Err (BadRange record_)
-Fails (Overlap record_) read = read ≡ Err (Overlap record_)
-Fails (BadType record_) read = read ≡ Err (BadType record_)
-Fails (Trailing at) read = read ≡ Err (Trailing at)
-Fails NoMemory read = Unit {0}
+-- the error is the one that a definition reads; out of memory says nothing
+abbrev pub FailsAs : {Y : Type 0} → DepError → Result Y DepError → Type 0
+FailsAs (Short at) read = read ≡ Err (Short at)
+FailsAs (Version n) read = read ≡ Err (Version n)
+FailsAs (BadName unit) read = read ≡ Err (BadName unit)
+FailsAs (BadIndex record_ n) read = read ≡ Err (BadIndex record_ n)
+FailsAs (BadRange record_) read = read ≡ Err (BadRange record_)
+FailsAs (Overlap record_) read = read ≡ Err (Overlap record_)
+FailsAs (BadType record_) read = read ≡ Err (BadType record_)
+FailsAs (Trailing at) read = read ≡ Err (Trailing at)
+FailsAs NoMemory read = Unit {0}
 
-abbrev pub Gives : {X Y : Type 0} → (X → Y) → Result X DepError → Result Y DepError → Type 0
-Gives view (Ok x) read = read ≡ Ok (view x)
-Gives view (Err e) read = Fails e read
+-- what a call answered, seen by a view, is what a definition reads
+abbrev pub ReadsAs : {X Y : Type 0} → (X → Y) → Result X DepError → Result Y DepError → Type 0
+ReadsAs view (Ok x) read = read ≡ Ok (view x)
+ReadsAs view (Err e) read = FailsAs e read

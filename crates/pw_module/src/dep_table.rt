@@ -2,7 +2,7 @@
 use pw_base::{Name, TypeText};
 use sqlite_items::Items;
 
-/// A function's record. Functions stand in order of the text, each right behind the last.
+/// A function's record. Functions stand in order of the text, each right after the one before.
 #[derive(Drop)]
 pub struct FunRec {
     /// Its symbol, by number.
@@ -20,15 +20,18 @@ pub struct FunRec {
 /// A variable whose initialiser names a function, both by the numbers of their symbols.
 #[derive(Clone, Copy, PartialEq, Eq, Debug)]
 pub struct RootRec {
+    /// The variable's symbol.
     pub var: u32,
+    /// The function's symbol.
     pub fun: u32,
 }
 
-/// The text of a named symbol's type. These records ascend by symbol.
+/// The type string of a named symbol. These records ascend by symbol.
 #[derive(Drop)]
 pub struct TypeRec {
     /// The symbol, by number.
     pub sym: u32,
+    /// Its type string.
     pub text: TypeText,
 }
 
@@ -39,8 +42,10 @@ pub struct DepTable {
     pub version: u32,
     /// The names of the units.
     pub units: Items<Name>,
+    /// The functions, in order of the text.
     pub funs: Items<FunRec>,
-    /// In order of the variables and of their elements.
+    /// The roots, in order of the variables and of their elements.
     pub roots: Items<RootRec>,
+    /// The types of named symbols, in order of the symbols.
     pub types: Items<TypeRec>,
 }

@@ -3,7 +3,7 @@ use Rattle.std.proofs.Common.{◌≡◌, ℕ, Bool, true, false, if◌then◌els
 use Rattle.std.proofs.lemmas.Grind.{common_steps}
 use Rattle.pw_lex.specs.declared.token.Token.{Token}
 use Rattle.pw_grammar.specs.declared.sort.Sort.TheVariants.{Name}
-use Rattle.pw_grammar.specs.Expressions.{name_in, value_in, is_unsigned}
+use Rattle.pw_grammar.specs.Expressions.{name_in, value_in, is_unsigned_constant}
 use Rattle.pw_grammar.specs.Statements.{first_line}
 use Rattle.pw_grammar.specs.Reading.Steps.{Position, Parser, take, take_from, name, sees, refuse, either, next_sort, and_then, pure, finish}
 use Rattle.pw_grammar.specs.Terminals.{is_same}
@@ -13,8 +13,8 @@ use Rattle.pw_tree.specs.declared.expr.ExprKind.TheVariants as e
 use Rattle.pw_parse.specs.Steps.Values.{value}
 
 constant_from : (at : ℕ) (ts : List Token) (j : Position) (v : ℕ × Bool) (line : ℕ)
-    → and_then (take_from at ts) (λ t. pure (value_in t.kind, is_unsigned t.kind)) ≡ Ok (v, j) → line ≡ first_line ts
-    → and_then (take_from at ts) (λ t. finish at t.line (e.Num (value_in t.kind) (is_unsigned t.kind))) ≡ finish at line (e.Num v.0 v.1) j
+    → and_then (take_from at ts) (λ t. pure (value_in t.kind, is_unsigned_constant t.kind)) ≡ Ok (v, j) → line ≡ first_line ts
+    → and_then (take_from at ts) (λ t. finish at t.line (e.Num (value_in t.kind) (is_unsigned_constant t.kind))) ≡ finish at line (e.Num v.0 v.1) j
 unfolding take_from
 constant_from at [] j v line h l = cc
 constant_from at (t ∷ ts) j v line h l = grind (arith, common_steps)

@@ -3,7 +3,7 @@ use Rattle.std.proofs.Common.{◌≡◌, ℕ, zero, suc, ◌+◌, ◌-◌, ◌�
 use Rattle.pw_lex.specs.declared.token.Token.{Token}
 use Rattle.pw_grammar.specs.Reading.Steps.{Position, ReadResult, take, take_from, skip, and_then, pure, on_option, next_sort}
 use Rattle.pw_grammar.specs.Terminals.{prefix_of}
-use Rattle.pw_grammar.specs.Reading.Expressions.{wrapped, prefix_by, prefix_operator, operators}
+use Rattle.pw_grammar.specs.Reading.Expressions.{under_operators, prefix_by, prefix_operator, operators}
 use Rattle.pw_tree.specs.declared.operator.Un.{Un}
 use Rattle.pw_tree.specs.declared.expr.Expr.{Expr, roll-Expr}
 use Rattle.pw_tree.specs.declared.expr.ExprKind.TheVariants as e
@@ -13,30 +13,30 @@ abbrev pub wrapped_once : ℕ → ℕ → Un × ℕ → Expr → Expr
 wrapped_once at last op a = roll-Expr (record { first = at; last = last; line = op.1; kind = e.Unary op.0 a })
 
 innermost : (at last : ℕ) (ops : List (Un × ℕ)) (op : Un × ℕ) (a : Expr)
-    → wrapped at last (ops ++ op ∷ []) a ≡ wrapped at last ops (wrapped_once (at + length ops) last op a)
-unfolding wrapped
+    → under_operators at last (ops ++ op ∷ []) a ≡ under_operators at last ops (wrapped_once (at + length ops) last op a)
+unfolding under_operators
 innermost at last [] op a = ap (λ n. wrapped_once n last op a) (omega arith)
 innermost at last (o ∷ ops) op a =
     let e : suc at + length ops ≡ at + length (o ∷ ops) = omega arith in
-    ap (wrapped_once at last o) (innermost (suc at) last ops op a ∙ ap (λ n. wrapped (suc at) last ops (wrapped_once n last op a)) e)
+    ap (wrapped_once at last o) (innermost (suc at) last ops op a ∙ ap (λ n. under_operators (suc at) last ops (wrapped_once n last op a)) e)
 
 -- an iteration of a loop that goes from the innermost operator on
 pub one_inner : {x : Expr} (at last : ℕ) (before ops : List (Un × ℕ)) (op : Un × ℕ) (a w : Expr)
-    → before ≡ ops ++ op ∷ [] → w ≡ wrapped_once (at - 1) last op a → length before ≤ at → x ≡ wrapped (at - length before) last before a
-    → (x ≡ wrapped (at - 1 - length ops) last ops w) × (length ops ≤ at - 1)
+    → before ≡ ops ++ op ∷ [] → w ≡ wrapped_once (at - 1) last op a → length before ≤ at → x ≡ under_operators (at - length before) last before a
+    → (x ≡ under_operators (at - 1 - length ops) last ops w) × (length ops ≤ at - 1)
 one_inner at last before ops op a w split form fits h =
     let count : length before ≡ length ops + 1 = ap length split ∙ length-append ops (op ∷ []) in
     let start : at - length before ≡ at - 1 - length ops = omega (arith, count, fits) in
     let inner : at - 1 - length ops + length ops ≡ at - 1 = omega (arith, count, fits) in
-    let turned = h ∙ ap (λ m. wrapped m last before a) start ∙ ap (λ l. wrapped (at - 1 - length ops) last l a) split
+    let turned = h ∙ ap (λ m. under_operators m last before a) start ∙ ap (λ l. under_operators (at - 1 - length ops) last l a) split
     ∙ innermost (at - 1 - length ops) last ops op a
-    ∙ ap (λ m. wrapped (at - 1 - length ops) last ops (wrapped_once m last op a)) inner
-    ∙ ap (wrapped (at - 1 - length ops) last ops) (sym form) in
+    ∙ ap (λ m. under_operators (at - 1 - length ops) last ops (wrapped_once m last op a)) inner
+    ∙ ap (under_operators (at - 1 - length ops) last ops) (sym form) in
     (turned, omega (arith, count, fits))
 
-pub none_inner : {x : Expr} (at last : ℕ) (ops : List (Un × ℕ)) (a : Expr) → ops ≡ [] → x ≡ wrapped (at - length ops) last ops a → a ≡ x
-unfolding wrapped
-none_inner at last ops a done h = sym (h ∙ ap (λ l. wrapped (at - length l) last l a) done)
+pub none_inner : {x : Expr} (at last : ℕ) (ops : List (Un × ℕ)) (a : Expr) → ops ≡ [] → x ≡ under_operators (at - length ops) last ops a → a ≡ x
+unfolding under_operators
+none_inner at last ops a done h = sym (h ∙ ap (λ l. under_operators (at - length l) last l a) done)
 
 -- ---- how far the operators reach
 

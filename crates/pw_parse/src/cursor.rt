@@ -3,7 +3,7 @@ ghost use Rattle.std.specs.Prelude.{◌≡◌, ◌-◌, ◌+◌, ◌^◌, ◌<�
 ghost use Rattle.pw_grammar.specs.Reading.Steps as spec;
 ghost use Rattle.pw_grammar.specs.Reading.Steps.{Reads};
 ghost use Rattle.pw_grammar.specs.Statements.{first_line};
-ghost use Rattle.pw_grammar.specs.Expressions.{value_in, is_unsigned};
+ghost use Rattle.pw_grammar.specs.Expressions.{value_in, is_unsigned_constant};
 ghost use Rattle.pw_parse.specs.Steps.Values.{value};
 
 use pw_base::Name;
@@ -32,7 +32,7 @@ impl<'a> Model for Cursor<'a> {
 
 /// The value of a constant, and whether it is unsigned; 0 for another token.
 fn value_of(kind: &TokenKind) -> (u64, bool)
-    ensures { result ≡ (value_in kind.now, is_unsigned kind.now) }
+    ensures { result ≡ (value_in kind.now, is_unsigned_constant kind.now) }
 {
     match kind {
         TokenKind::Number(value, unsigned) => (*value, *unsigned),

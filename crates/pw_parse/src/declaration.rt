@@ -4,6 +4,7 @@ ghost use Rattle.pw_grammar.specs.Reading.Steps.{Reads};
 ghost use Rattle.pw_grammar.specs.Reading.Expressions as expressions;
 ghost use Rattle.pw_grammar.specs.Reading.Statements as statements;
 ghost use Rattle.pw_grammar.specs.Reading.Declarations as spec;
+ghost use Rattle.pw_tree.specs.Types as types;
 
 use crate::cursor::Cursor;
 use crate::parameter::{are_named, parameters};
@@ -121,7 +122,7 @@ fn function(
 
 /// Whether it is `void`.
 fn is_void(ty: Ty) -> bool
-    ensures { result ≡ spec.is_void ty }
+    ensures { result ≡ types.is_void ty }
 {
     match ty {
         Ty::Void => true,

@@ -136,7 +136,7 @@ pub(crate) fn wrapped(
     operand: Boxed<Expr>,
 ) -> Result<Boxed<Expr>, AllocError>
     requires { length ops ≤ at }
-    ensures { IfOk result (λ whole. whole ≡ spec.wrapped (at - length ops) last ops operand) }
+    ensures { IfOk result (λ whole. whole ≡ spec.under_operators (at - length ops) last ops operand) }
 {
     let mut whole = operand;
     'inner: while let Some((op, line)) = ops.pop() {

@@ -10,7 +10,7 @@ use pw_tree::Ty;
 
 /// The type of one word that a symbol is.
 fn type_of(sort: Sort) -> Option<Ty>
-    ensures { result ≡ statements.type_of sort }
+    ensures { result ≡ statements.type_of_keyword sort }
 {
     match sort {
         Sort::Long => Some(Ty::Long),

@@ -1,8 +1,8 @@
 //! The words of the program that writes two bytes, as another model of the scheme gives them.
 
 use pw_base::Name;
-use pw_code::{function_size, put_entry, put_function};
 use pw_first::Writer;
+use pw_first_code::{function_size, put_entry, put_function};
 use sqlite_items::Items;
 use std::test::Fail;
 

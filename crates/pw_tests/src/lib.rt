@@ -1,11 +1,9 @@
-//! Worked rows that cross crates, with the values of the manual or of an independent model of the language, and that with
-//! ample memory each copy succeeds.
+//! Worked rows that cross crates, with the values of the manual or of an independent model of the language, and copies of
+//! whole units.
 #![tactic(auto)]
 
 #[cfg(test)]
 mod code_words;
-#[cfg(test)]
-mod copies;
 #[cfg(test)]
 mod cut_texts;
 #[cfg(test)]

@@ -5,13 +5,13 @@ use Rattle.pw_tree.specs.Names.{Definition, Project}
 use Rattle.pw_tree.specs.Units.{Function}
 use Rattle.pw_tree.specs.TypedExpressions.{TypedExpression, TypedExpressions, constant, local, variable, designator, element, unary, binary, conditional, call, call_pointer, input, output, nil, cons}
 use Rattle.pw_tree.specs.TypedStatements.{TypedStatement, TypedStatements, OptionalTypedStatement, evaluate, set_local, set_variable, set_element, block, if_else, while_loop, do_loop, for_loop, returns, breaks, continues, nil, cons, absent, present}
-use Rattle.pw_tree.specs.States.{Value, number, null, pointer, holds, number_of, Locals, State, spent, checked, Outcome, gives, stops, and_then, choice, stepped_from, stepped}
+use Rattle.pw_tree.specs.States.{Value, number, null, pointer, holds, as_number, Locals, State, spent, checked, Outcome, gives, stops, and_then, chosen, stepped_from, stepped}
 use Rattle.pw_tree.specs.Evaluation.{Context, divided, binary_value, truth_of, operated, indexed, next_byte, call_through, eval, eval_all}
-use Rattle.pw_tree.specs.Execution.{Completion, normal, broke, continued, returned, followed, Turn, back, out, after_body, runs, tests, goes_back, after_turn, turns, eval_option, assigned, exec, exec_all, exec_maybe}
-use Rattle.pw_tree.specs.Meaning.{callee_of, named_in, locals_of, entered_from, call_of}
+use Rattle.pw_tree.specs.Execution.{Completion, normal, broke, continued, returned, followed, Iteration, back, out, after_body, runs, tests, goes_back, after_iteration, iterations, eval_option, stores, exec, exec_all, exec_maybe}
+use Rattle.pw_tree.specs.Meaning.{called_function, named_in, locals_at_entry, entered_from, call_of}
 use Rattle.pw_tree.specs.declared.operator.Bin.{Bin}
 use Rattle.pw_tree.specs.declared.operator.Bin.TheVariants.{Div, Rem, Eq, AndAnd, OrOr}
-use Rattle.pw_tree.proofs.Growth.{prefix_self, prefix_trans, state_after, Grows, grows_nothing, grows_then, grows_choice, grows_stepped_from, grows_stepped, CallsGrow, grows_binary, grows_operated, grows_indexed, grows_call_through, grows_eval, grows_eval_all, grows_followed, grows_after_body, grows_runs, grows_tests, grows_goes_back, grows_after_turn, grows_turns, grows_exec, grows_exec_all, grows_exec_maybe, grows_entered, grows_call}
+use Rattle.pw_tree.proofs.Growth.{prefix_self, prefix_trans, state_after, Grows, grows_nothing, grows_then, grows_choice, grows_stepped_from, grows_stepped, CallsGrow, grows_binary, grows_operated, grows_indexed, grows_call_through, grows_eval, grows_eval_all, grows_followed, grows_after_body, grows_runs, grows_tests, grows_goes_back, grows_after_iteration, grows_iterations, grows_exec, grows_exec_all, grows_exec_maybe, grows_entered, grows_call}
 
 -- The state with k steps more left.
 abbrev pub with_more : ℕ → State → State
@@ -40,7 +40,7 @@ follows_then k (stops spent st) (stops why st') next next' f h g = record { same
 
 follows_choice : {A : Type 0} (k : ℕ) (t : Bool) (a a' b b' : State → Outcome A) →
     ((st : State) → Follows k (a st) (a' (with_more k st))) → ((st : State) → Follows k (b st) (b' (with_more k st))) →
-    (st : State) → Follows k (choice t a b st) (choice t a' b' (with_more k st))
+    (st : State) → Follows k (chosen t a b st) (chosen t a' b' (with_more k st))
 follows_choice k true a a' b b' f g st = f st
 follows_choice k false a a' b b' f g st = g st
 
@@ -65,7 +65,7 @@ follows_followed k (broke locals) next next' f st = record { same = refl }
 follows_followed k (continued locals) next next' f st = record { same = refl }
 follows_followed k (returned v) next next' f st = record { same = refl }
 
-follows_after_body : (k : ℕ) (done : Completion) (next next' : Locals → State → Outcome Turn) →
+follows_after_body : (k : ℕ) (done : Completion) (next next' : Locals → State → Outcome Iteration) →
     ((locals : Locals) (st : State) → Follows k (next locals st) (next' locals (with_more k st))) →
     (st : State) → Follows k (after_body done next st) (after_body done next' (with_more k st))
 follows_after_body k (normal locals) next next' f st = f locals st
@@ -73,7 +73,7 @@ follows_after_body k (broke locals) next next' f st = record { same = refl }
 follows_after_body k (continued locals) next next' f st = f locals st
 follows_after_body k (returned v) next next' f st = record { same = refl }
 
-follows_runs : (k : ℕ) (body body' : Locals → State → Outcome Completion) (next next' : Locals → State → Outcome Turn) →
+follows_runs : (k : ℕ) (body body' : Locals → State → Outcome Completion) (next next' : Locals → State → Outcome Iteration) →
     ((locals : Locals) (st : State) → Follows k (body locals st) (body' locals (with_more k st))) →
     ((locals : Locals) (st : State) → Follows k (next locals st) (next' locals (with_more k st))) →
     ((locals : Locals) (st : State) → Grows st (next' locals st)) →
@@ -84,43 +84,43 @@ follows_runs k body body' next next' f h g locals st =
 follows_goes_back : (k : ℕ) (locals : Locals) (st : State) → Follows k (goes_back locals st) (goes_back locals (with_more k st))
 follows_goes_back k locals st = record { same = refl }
 
-follows_after_turn : (k : ℕ) (t : Turn) (again again' : Locals → State → Outcome Completion) →
+follows_after_iteration : (k : ℕ) (t : Iteration) (again again' : Locals → State → Outcome Completion) →
     ((locals : Locals) (st : State) → Follows k (again locals st) (again' locals (with_more k st))) →
-    (st : State) → Follows k (after_turn t again st) (after_turn t again' (with_more k st))
-follows_after_turn k (back locals) again again' f st = f locals st
-follows_after_turn k (out done) again again' f st = record { same = refl }
+    (st : State) → Follows k (after_iteration t again st) (after_iteration t again' (with_more k st))
+follows_after_iteration k (back locals) again again' f st = f locals st
+follows_after_iteration k (out done) again again' f st = record { same = refl }
 
 -- Loops.
-follows_turns : (k : ℕ) (turn turn' : Locals → State → Outcome Turn) →
-    ((locals : Locals) (st : State) → Follows k (turn locals st) (turn' locals (with_more k st))) →
-    ((locals : Locals) (st : State) → Grows st (turn' locals st)) →
-    (m n : ℕ) → m ≤ n → (locals : Locals) (st : State) → Follows k (turns turn m locals st) (turns turn' n locals (with_more k st))
-follows_turns k turn turn' f g zero zero h locals st =
+follows_iterations : (k : ℕ) (iteration iteration' : Locals → State → Outcome Iteration) →
+    ((locals : Locals) (st : State) → Follows k (iteration locals st) (iteration' locals (with_more k st))) →
+    ((locals : Locals) (st : State) → Grows st (iteration' locals st)) →
+    (m n : ℕ) → m ≤ n → (locals : Locals) (st : State) → Follows k (iterations iteration m locals st) (iterations iteration' n locals (with_more k st))
+follows_iterations k iteration iteration' f g zero zero h locals st =
     follows_then k _ _ _ _ (f locals st)
-    (λ t. follows_after_turn k t (λ locals. stops spent) (λ locals. stops spent) (λ locals st. record { same = prefix_self st.output }))
-    (λ t. grows_after_turn t (λ locals. stops spent) (λ locals st. grows_nothing st _ refl))
-follows_turns k turn turn' f g zero (suc n) h locals st =
-    let again : (locals : Locals) (st : State) → Grows st (stepped (turns turn' n locals) st) = (λ locals. grows_stepped _ (grows_turns turn' g n locals)) in
+    (λ t. follows_after_iteration k t (λ locals. stops spent) (λ locals. stops spent) (λ locals st. record { same = prefix_self st.output }))
+    (λ t. grows_after_iteration t (λ locals. stops spent) (λ locals st. grows_nothing st _ refl))
+follows_iterations k iteration iteration' f g zero (suc n) h locals st =
+    let again : (locals : Locals) (st : State) → Grows st (stepped (iterations iteration' n locals) st) = (λ locals. grows_stepped _ (grows_iterations iteration' g n locals)) in
     follows_then k _ _ _ _ (f locals st)
-    (λ t. follows_after_turn k t (λ locals. stops spent) (λ locals. stepped (turns turn' n locals)) (λ locals st. follows_spent k st _ (again locals (with_more k st))))
-    (λ t. grows_after_turn t (λ locals. stepped (turns turn' n locals)) again)
-follows_turns k turn turn' f g (suc m) zero h locals st = absurd (omega arith)
-follows_turns k turn turn' f g (suc m) (suc n) h locals st =
-    let again : (locals : Locals) (st : State) → Grows st (stepped (turns turn' n locals) st) = (λ locals. grows_stepped _ (grows_turns turn' g n locals)) in
+    (λ t. follows_after_iteration k t (λ locals. stops spent) (λ locals. stepped (iterations iteration' n locals)) (λ locals st. follows_spent k st _ (again locals (with_more k st))))
+    (λ t. grows_after_iteration t (λ locals. stepped (iterations iteration' n locals)) again)
+follows_iterations k iteration iteration' f g (suc m) zero h locals st = absurd (omega arith)
+follows_iterations k iteration iteration' f g (suc m) (suc n) h locals st =
+    let again : (locals : Locals) (st : State) → Grows st (stepped (iterations iteration' n locals) st) = (λ locals. grows_stepped _ (grows_iterations iteration' g n locals)) in
     follows_then k _ _ _ _ (f locals st)
-    (λ t. follows_after_turn k t (λ locals. stepped (turns turn m locals)) (λ locals. stepped (turns turn' n locals))
-    (λ locals. follows_stepped k _ _ (follows_turns k turn turn' f g m n (omega arith) locals) (grows_turns turn' g n locals)))
-    (λ t. grows_after_turn t (λ locals. stepped (turns turn' n locals)) again)
+    (λ t. follows_after_iteration k t (λ locals. stepped (iterations iteration m locals)) (λ locals. stepped (iterations iteration' n locals))
+    (λ locals. follows_stepped k _ _ (follows_iterations k iteration iteration' f g m n (omega arith) locals) (grows_iterations iteration' g n locals)))
+    (λ t. grows_after_iteration t (λ locals. stepped (iterations iteration' n locals)) again)
 
 -- The context of a body in which calls and loops have more steps.
 abbrev later : Context → (Definition → List Value → State → Outcome Value) → ℕ → Context
-later x called turns_left = record x { called = called; turns_left = turns_left }
+later x called iterations_left = record x { called = called; iterations_left = iterations_left }
 
 -- Calls and loops of the second context follow those of the first.
 record Goes (k : ℕ) (x : Context) (called : Definition → List Value → State → Outcome Value) (n : ℕ) : Type 0 where
   calls : (f : Definition) (arguments : List Value) (st : State) → Follows k (x.called f arguments st) (called f arguments (with_more k st))
   grows : (f : Definition) (arguments : List Value) (st : State) → Grows st (called f arguments st)
-  enough : x.turns_left ≤ n
+  enough : x.iterations_left ≤ n
 
 module _ (k : ℕ) (x : Context) (called : Definition → List Value → State → Outcome Value) (n : ℕ) (goes : Goes k x called n) where
   abbrev y : Context
@@ -136,8 +136,8 @@ module _ (k : ℕ) (x : Context) (called : Definition → List Value → State �
 
   follows_binary : (line : ℕ) (op : Bin) (unsigned : Bool) (a b : Value) (st : State) →
       Follows k (binary_value x line op unsigned a b st) (binary_value y line op unsigned a b (with_more k st))
-  follows_binary line Div unsigned a b st = follows_divided line Div unsigned (number_of a) (number_of b) st
-  follows_binary line Rem unsigned a b st = follows_divided line Rem unsigned (number_of a) (number_of b) st
+  follows_binary line Div unsigned a b st = follows_divided line Div unsigned (as_number a) (as_number b) st
+  follows_binary line Rem unsigned a b st = follows_divided line Rem unsigned (as_number a) (as_number b) st
   follows_binary line Eq unsigned a b st = record { same = refl }
   follows_binary line op unsigned a b st = record { same = refl }
 
@@ -161,7 +161,7 @@ module _ (k : ℕ) (x : Context) (called : Definition → List Value → State �
       ((i : ℕ) (st : State) → Follows k (next i st) (next' i (with_more k st))) →
       (st : State) → Follows k (indexed x size line v next st) (indexed y size line v next' (with_more k st))
   follows_indexed size line v next next' f =
-      follows_choice k (nat_lt (number_of v) size) _ _ _ _ (f (number_of v)) (λ st. record { same = refl })
+      follows_choice k (nat_lt (as_number v) size) _ _ _ _ (f (as_number v)) (λ st. record { same = refl })
 
   follows_next_byte : (bytes : List ℕ) (st : State) → Follows k (next_byte bytes st) (next_byte bytes (with_more k st))
   follows_next_byte [] st = record { same = refl }
@@ -202,7 +202,7 @@ module _ (k : ℕ) (x : Context) (called : Definition → List Value → State �
         (λ vs st. grows_then st _ _ (grows_eval y grow e locals st) (grows_call_through y grow at.line vs))
     follows_eval (input at) locals st = follows_next_byte st.input st
     follows_eval (output at e) locals st =
-        follows_then k _ _ _ _ (follows_eval e locals st) (λ v st. record { same = refl }) (λ v st. record { more = (number_of v % 256 ∷ [], refl) })
+        follows_then k _ _ _ _ (follows_eval e locals st) (λ v st. record { same = refl }) (λ v st. record { more = (as_number v % 256 ∷ [], refl) })
 
     follows_eval_all : (es : TypedExpressions) (locals : Locals) (st : State) → Follows k (eval_all x es locals st) (eval_all y es locals (with_more k st))
     follows_eval_all nil locals st = record { same = refl }
@@ -216,7 +216,7 @@ module _ (k : ℕ) (x : Context) (called : Definition → List Value → State �
   follows_eval_option (Some e) locals st =
       follows_then k _ _ _ _ (follows_eval e locals st) (λ v st. record { same = refl }) (λ v st. grows_nothing st _ refl)
 
-  follows_tests : (c : Option TypedExpression) (next next' : Locals → State → Outcome Turn) →
+  follows_tests : (c : Option TypedExpression) (next next' : Locals → State → Outcome Iteration) →
       ((locals : Locals) (st : State) → Follows k (next locals st) (next' locals (with_more k st))) →
       ((locals : Locals) (st : State) → Grows st (next' locals st)) →
       (locals : Locals) (st : State) → Follows k (tests x c next locals st) (tests y c next' locals (with_more k st))
@@ -236,7 +236,7 @@ module _ (k : ℕ) (x : Context) (called : Definition → List Value → State �
     follows_exec (set_variable a e) locals st =
         follows_then k _ _ _ _ (follows_eval e locals st) (λ v st. record { same = refl }) (λ v st. grows_nothing st _ refl)
     follows_exec (set_element a size line i e) locals st =
-        let value : Context → ℕ → State → Outcome Completion = (λ z i st. and_then (eval z e locals st) (assigned (z.named a) i locals)) in
+        let value : Context → ℕ → State → Outcome Completion = (λ z i st. and_then (eval z e locals st) (stores (z.named a) i locals)) in
         let grown : (i : ℕ) (st : State) → Grows st (value y i st) = (λ i st. grows_then st _ _ (grows_eval y grow e locals st) (λ v st. grows_nothing st _ refl)) in
         follows_then k _ _ _ _ (follows_eval i locals st)
         (λ v. follows_indexed size line v (value x) (value y)
@@ -248,28 +248,28 @@ module _ (k : ℕ) (x : Context) (called : Definition → List Value → State �
         (λ v. follows_choice k (holds v) (exec x a locals) (exec y a locals) (exec_maybe x b locals) (exec_maybe y b locals) (follows_exec a locals) (follows_exec_maybe b locals))
         (λ v. grows_choice (holds v) (exec y a locals) (exec_maybe y b locals) (grows_exec y grow a locals) (grows_exec_maybe y grow b locals))
     follows_exec (while_loop c body) locals st =
-        follows_turns k _ _
+        follows_iterations k _ _
         (follows_tests (Some c) _ _ (follows_runs k _ (exec y body) _ _ (follows_exec body) (follows_goes_back k) grows_goes_back) (grows_runs _ _ (grows_exec y grow body) grows_goes_back))
         (grows_tests y grow (Some c) _ (grows_runs _ _ (grows_exec y grow body) grows_goes_back))
-        x.turns_left n goes.enough locals st
+        x.iterations_left n goes.enough locals st
     follows_exec (do_loop body c) locals st =
-        follows_turns k _ _
+        follows_iterations k _ _
         (follows_runs k _ (exec y body) _ _ (follows_exec body) (follows_tests (Some c) _ _ (follows_goes_back k) grows_goes_back) (grows_tests y grow (Some c) _ grows_goes_back))
         (grows_runs _ _ (grows_exec y grow body) (grows_tests y grow (Some c) _ grows_goes_back))
-        x.turns_left n goes.enough locals st
+        x.iterations_left n goes.enough locals st
     follows_exec (for_loop first c last body) locals st =
-        let part : Context → Locals → State → Outcome Turn = (λ z. runs (exec z body) (runs (exec_maybe z last) goes_back)) in
+        let part : Context → Locals → State → Outcome Iteration = (λ z. runs (exec z body) (runs (exec_maybe z last) goes_back)) in
         let part_grows : (locals : Locals) (st : State) → Grows st (part y locals st) = grows_runs _ _ (grows_exec y grow body) (grows_runs _ _ (grows_exec_maybe y grow last) grows_goes_back) in
-        let loop_follows : (locals : Locals) (st : State) → Follows k (turns (tests x c (part x)) x.turns_left locals st) (turns (tests y c (part y)) n locals (with_more k st)) =
-        follows_turns k _ _
+        let loop_follows : (locals : Locals) (st : State) → Follows k (iterations (tests x c (part x)) x.iterations_left locals st) (iterations (tests y c (part y)) n locals (with_more k st)) =
+        follows_iterations k _ _
         (follows_tests c (part x) (part y)
         (follows_runs k _ (exec y body) _ _ (follows_exec body) (follows_runs k _ (exec_maybe y last) _ _ (follows_exec_maybe last) (follows_goes_back k) grows_goes_back) (grows_runs _ _ (grows_exec_maybe y grow last) grows_goes_back))
         part_grows)
         (grows_tests y grow c (part y) part_grows)
-        x.turns_left n goes.enough in
+        x.iterations_left n goes.enough in
         follows_then k _ _ _ _ (follows_exec_maybe first locals st)
         (λ done. follows_followed k done _ _ loop_follows)
-        (λ done. grows_followed done _ (grows_turns _ (grows_tests y grow c (part y) part_grows) n))
+        (λ done. grows_followed done _ (grows_iterations _ (grows_tests y grow c (part y) part_grows) n))
     follows_exec (returns e) locals st =
         follows_then k _ _ _ _ (follows_eval_option e locals st) (λ v st. record { same = refl }) (λ v st. grows_nothing st _ refl)
     follows_exec breaks locals st = record { same = refl }
@@ -299,12 +299,12 @@ pub follows_call : (k : ℕ) (project : Project) (m n : ℕ) → m ≤ n → (f 
 follows_call k project zero n h f arguments st = follows_spent k st _ (grows_call project n f arguments (with_more k st))
 follows_call k project (suc m) zero h f arguments st = absurd (omega arith)
 follows_call k project (suc m) (suc n) h f arguments st =
-    let callee : Function = callee_of project f in
-    let x : Context = record { self = f; named = named_in project f.in_module f.in_unit; called = call_of project m; turns_left = m } in
+    let callee : Function = called_function project f in
+    let x : Context = record { self = f; named = named_in project f.in_module f.in_unit; called = call_of project m; iterations_left = m } in
     let goes : Goes k x (call_of project n) n = record { calls = follows_call k project m n (omega arith); grows = grows_call project n; enough = omega arith } in
     let y : Context = later x (call_of project n) n in
     let quiet : CallsGrow y = record { grows = grows_call project n } in
     follows_stepped k _ _
-    (λ st. follows_entered k st.calls f callee _ _ (follows_exec_all k x (call_of project n) n goes callee.body (locals_of arguments)) st)
-    (λ st. grows_entered st.calls f callee _ (grows_exec_all y quiet callee.body (locals_of arguments)) st)
+    (λ st. follows_entered k st.calls f callee _ _ (follows_exec_all k x (call_of project n) n goes callee.body (locals_at_entry arguments)) st)
+    (λ st. grows_entered st.calls f callee _ (grows_exec_all y quiet callee.body (locals_at_entry arguments)) st)
     st

@@ -6,10 +6,10 @@ use Rattle.pw_tree.specs.Names.{Definition, Project}
 use Rattle.pw_tree.specs.Units.{Function}
 use Rattle.pw_tree.specs.TypedExpressions.{TypedExpression, TypedExpressions, constant, local, variable, designator, element, unary, binary, conditional, call, call_pointer, input, output, nil, cons}
 use Rattle.pw_tree.specs.TypedStatements.{TypedStatement, TypedStatements, OptionalTypedStatement, evaluate, set_local, set_variable, set_element, block, if_else, while_loop, do_loop, for_loop, returns, breaks, continues, nil, cons, absent, present}
-use Rattle.pw_tree.specs.States.{Value, number, null, pointer, holds, number_of, Locals, State, Outcome, gives, stops, and_then, choice, stepped_from, stepped}
+use Rattle.pw_tree.specs.States.{Value, number, null, pointer, holds, as_number, Locals, State, Outcome, gives, stops, and_then, chosen, stepped_from, stepped}
 use Rattle.pw_tree.specs.Evaluation.{Context, divided, binary_value, truth_of, operated, indexed, next_byte, call_through, eval, eval_all}
-use Rattle.pw_tree.specs.Execution.{Completion, normal, broke, continued, returned, followed, Turn, back, out, after_body, runs, tests, goes_back, after_turn, turns, eval_option, assigned, exec, exec_all, exec_maybe}
-use Rattle.pw_tree.specs.Meaning.{callee_of, locals_of, entered_from, call_of}
+use Rattle.pw_tree.specs.Execution.{Completion, normal, broke, continued, returned, followed, Iteration, back, out, after_body, runs, tests, goes_back, after_iteration, iterations, eval_option, stores, exec, exec_all, exec_maybe}
+use Rattle.pw_tree.specs.Meaning.{called_function, locals_at_entry, entered_from, call_of}
 use Rattle.pw_tree.specs.declared.operator.Bin.{Bin}
 use Rattle.pw_tree.specs.declared.operator.Bin.TheVariants.{Div, Rem, Eq, AndAnd, OrOr}
 
@@ -40,7 +40,7 @@ grows_then st (gives v st1) next g h = record { more = prefix_trans _ _ _ g.more
 grows_then st (stops why st1) next g h = record { more = g.more }
 
 pub grows_choice : {A : Type 0} (t : Bool) (a b : State → Outcome A) →
-    ((st : State) → Grows st (a st)) → ((st : State) → Grows st (b st)) → (st : State) → Grows st (choice t a b st)
+    ((st : State) → Grows st (a st)) → ((st : State) → Grows st (b st)) → (st : State) → Grows st (chosen t a b st)
 grows_choice true a b g h st = g st
 grows_choice false a b g h st = h st
 
@@ -61,8 +61,8 @@ pub grows_divided : (x : Context) (line : ℕ) (op : Bin) (unsigned : Bool) (a b
 grows_divided x line op unsigned a b = grows_choice (nat_eq b 0) _ _ (λ st. grows_nothing st _ refl) (λ st. grows_nothing st _ refl)
 
 pub grows_binary : (x : Context) (line : ℕ) (op : Bin) (unsigned : Bool) (a b : Value) (st : State) → Grows st (binary_value x line op unsigned a b st)
-grows_binary x line Div unsigned a b st = grows_divided x line Div unsigned (number_of a) (number_of b) st
-grows_binary x line Rem unsigned a b st = grows_divided x line Rem unsigned (number_of a) (number_of b) st
+grows_binary x line Div unsigned a b st = grows_divided x line Div unsigned (as_number a) (as_number b) st
+grows_binary x line Rem unsigned a b st = grows_divided x line Rem unsigned (as_number a) (as_number b) st
 grows_binary x line Eq unsigned a b st = grows_nothing st _ refl
 grows_binary x line op unsigned a b st = grows_nothing st _ refl
 
@@ -78,7 +78,7 @@ grows_operated x line op unsigned a right g st =
 pub grows_indexed : {A : Type 0} (x : Context) (size line : ℕ) (v : Value) (next : ℕ → State → Outcome A) →
     ((k : ℕ) (st : State) → Grows st (next k st)) → (st : State) → Grows st (indexed x size line v next st)
 grows_indexed x size line v next g =
-    grows_choice (nat_lt (number_of v) size) _ _ (g (number_of v)) (λ st. grows_nothing st _ refl)
+    grows_choice (nat_lt (as_number v) size) _ _ (g (as_number v)) (λ st. grows_nothing st _ refl)
 
 pub grows_next_byte : (bytes : List ℕ) (st : State) → Grows st (next_byte bytes st)
 grows_next_byte [] st = grows_nothing st _ refl
@@ -108,7 +108,7 @@ mutual
       grows_then st _ _ (grows_eval_all x c es locals st) (λ vs st. grows_then st _ _ (grows_eval x c e locals st) (grows_call_through x c at.line vs))
   grows_eval x c (input at) locals st = grows_next_byte st.input st
   grows_eval x c (output at e) locals st =
-      grows_then st _ _ (grows_eval x c e locals st) (λ v st. record { more = (number_of v % 256 ∷ [], refl) })
+      grows_then st _ _ (grows_eval x c e locals st) (λ v st. record { more = (as_number v % 256 ∷ [], refl) })
 
   pub grows_eval_all : (x : Context) → CallsGrow x → (es : TypedExpressions) (locals : Locals) (st : State) → Grows st (eval_all x es locals st)
   grows_eval_all x c nil locals st = grows_nothing st _ refl
@@ -122,19 +122,19 @@ grows_followed (broke locals) next g st = grows_nothing st _ refl
 grows_followed (continued locals) next g st = grows_nothing st _ refl
 grows_followed (returned v) next g st = grows_nothing st _ refl
 
-pub grows_after_body : (done : Completion) (next : Locals → State → Outcome Turn) →
+pub grows_after_body : (done : Completion) (next : Locals → State → Outcome Iteration) →
     ((locals : Locals) (st : State) → Grows st (next locals st)) → (st : State) → Grows st (after_body done next st)
 grows_after_body (normal locals) next g st = g locals st
 grows_after_body (broke locals) next g st = grows_nothing st _ refl
 grows_after_body (continued locals) next g st = g locals st
 grows_after_body (returned v) next g st = grows_nothing st _ refl
 
-pub grows_runs : (body : Locals → State → Outcome Completion) (next : Locals → State → Outcome Turn) →
+pub grows_runs : (body : Locals → State → Outcome Completion) (next : Locals → State → Outcome Iteration) →
     ((locals : Locals) (st : State) → Grows st (body locals st)) → ((locals : Locals) (st : State) → Grows st (next locals st)) →
     (locals : Locals) (st : State) → Grows st (runs body next locals st)
 grows_runs body next g h locals st = grows_then st _ _ (g locals st) (λ done. grows_after_body done next h)
 
-pub grows_tests : (x : Context) → CallsGrow x → (c : Option TypedExpression) (next : Locals → State → Outcome Turn) →
+pub grows_tests : (x : Context) → CallsGrow x → (c : Option TypedExpression) (next : Locals → State → Outcome Iteration) →
     ((locals : Locals) (st : State) → Grows st (next locals st)) → (locals : Locals) (st : State) → Grows st (tests x c next locals st)
 grows_tests x c None next g locals st = g locals st
 grows_tests x c (Some e) next g locals st =
@@ -143,18 +143,18 @@ grows_tests x c (Some e) next g locals st =
 pub grows_goes_back : (locals : Locals) (st : State) → Grows st (goes_back locals st)
 grows_goes_back locals st = grows_nothing st _ refl
 
-pub grows_after_turn : (t : Turn) (again : Locals → State → Outcome Completion) →
-    ((locals : Locals) (st : State) → Grows st (again locals st)) → (st : State) → Grows st (after_turn t again st)
-grows_after_turn (back locals) again g st = g locals st
-grows_after_turn (out done) again g st = grows_nothing st _ refl
+pub grows_after_iteration : (t : Iteration) (again : Locals → State → Outcome Completion) →
+    ((locals : Locals) (st : State) → Grows st (again locals st)) → (st : State) → Grows st (after_iteration t again st)
+grows_after_iteration (back locals) again g st = g locals st
+grows_after_iteration (out done) again g st = grows_nothing st _ refl
 
 -- Loops.
-pub grows_turns : (turn : Locals → State → Outcome Turn) → ((locals : Locals) (st : State) → Grows st (turn locals st)) →
-    (n : ℕ) (locals : Locals) (st : State) → Grows st (turns turn n locals st)
-grows_turns turn g zero locals st =
-    grows_then st _ _ (g locals st) (λ t. grows_after_turn t _ (λ locals st. grows_nothing st _ refl))
-grows_turns turn g (suc n) locals st =
-    grows_then st _ _ (g locals st) (λ t. grows_after_turn t _ (λ locals. grows_stepped _ (grows_turns turn g n locals)))
+pub grows_iterations : (iteration : Locals → State → Outcome Iteration) → ((locals : Locals) (st : State) → Grows st (iteration locals st)) →
+    (n : ℕ) (locals : Locals) (st : State) → Grows st (iterations iteration n locals st)
+grows_iterations iteration g zero locals st =
+    grows_then st _ _ (g locals st) (λ t. grows_after_iteration t _ (λ locals st. grows_nothing st _ refl))
+grows_iterations iteration g (suc n) locals st =
+    grows_then st _ _ (g locals st) (λ t. grows_after_iteration t _ (λ locals. grows_stepped _ (grows_iterations iteration g n locals)))
 
 pub grows_eval_option : (x : Context) → CallsGrow x → (e : Option TypedExpression) (locals : Locals) (st : State) → Grows st (eval_option x e locals st)
 grows_eval_option x c None locals st = grows_nothing st _ refl
@@ -168,18 +168,18 @@ mutual
   grows_exec x c (set_variable v e) locals st = grows_then st _ _ (grows_eval x c e locals st) (λ v st. grows_nothing st _ refl)
   grows_exec x c (set_element a size line i e) locals st =
       grows_then st _ _ (grows_eval x c i locals st) (λ v. grows_indexed x size line v
-      (λ k st. and_then (eval x e locals st) (assigned (x.named a) k locals))
+      (λ k st. and_then (eval x e locals st) (stores (x.named a) k locals))
       (λ k st. grows_then st _ _ (grows_eval x c e locals st) (λ v st. grows_nothing st _ refl)))
   grows_exec x c (block body) locals st = grows_exec_all x c body locals st
   grows_exec x c (if_else t a b) locals st =
       grows_then st _ _ (grows_eval x c t locals st) (λ v. grows_choice (holds v) _ _ (grows_exec x c a locals) (grows_exec_maybe x c b locals))
   grows_exec x c (while_loop t body) locals st =
-      grows_turns _ (grows_tests x c (Some t) _ (grows_runs _ _ (grows_exec x c body) grows_goes_back)) x.turns_left locals st
+      grows_iterations _ (grows_tests x c (Some t) _ (grows_runs _ _ (grows_exec x c body) grows_goes_back)) x.iterations_left locals st
   grows_exec x c (do_loop body t) locals st =
-      grows_turns _ (grows_runs _ _ (grows_exec x c body) (grows_tests x c (Some t) _ grows_goes_back)) x.turns_left locals st
+      grows_iterations _ (grows_runs _ _ (grows_exec x c body) (grows_tests x c (Some t) _ grows_goes_back)) x.iterations_left locals st
   grows_exec x c (for_loop first t last body) locals st =
       grows_then st _ _ (grows_exec_maybe x c first locals st) (λ done. grows_followed done _
-      (grows_turns _ (grows_tests x c t _ (grows_runs _ _ (grows_exec x c body) (grows_runs _ _ (grows_exec_maybe x c last) grows_goes_back))) x.turns_left))
+      (grows_iterations _ (grows_tests x c t _ (grows_runs _ _ (grows_exec x c body) (grows_runs _ _ (grows_exec_maybe x c last) grows_goes_back))) x.iterations_left))
   grows_exec x c (returns e) locals st = grows_then st _ _ (grows_eval_option x c e locals st) (λ v st. grows_nothing st _ refl)
   grows_exec x c breaks locals st = grows_nothing st _ refl
   grows_exec x c continues locals st = grows_nothing st _ refl
@@ -203,4 +203,4 @@ grows_entered (suc n) f callee body g st =
 pub grows_call : (project : Project) (n : ℕ) (f : Definition) (arguments : List Value) (st : State) → Grows st (call_of project n f arguments st)
 grows_call project zero f arguments st = grows_nothing st _ refl
 grows_call project (suc n) f arguments st =
-    grows_stepped _ (λ st. grows_entered st.calls f (callee_of project f) _ (grows_exec_all _ (record { grows = grows_call project n }) (callee_of project f).body (locals_of arguments)) st) st
+    grows_stepped _ (λ st. grows_entered st.calls f (called_function project f) _ (grows_exec_all _ (record { grows = grows_call project n }) (called_function project f).body (locals_at_entry arguments)) st) st

@@ -76,9 +76,9 @@ do_once = program (
     []) ∷
     []) []
 
--- `do` tests behind its body.
-pub do_tests_behind_its_body : meaning do_once [] 3 ≡ run [] [] (exit 3)
-do_tests_behind_its_body = refl
+-- `do` tests after its body.
+pub do_tests_after_its_body : meaning do_once [] 3 ≡ run [] [] (exit 3)
+do_tests_after_its_body = refl
 
 -- `do` takes a step where its condition holds.
 pub do_takes_a_step_to_go_back : meaning do_once [] 2 ≡ run [] [] (stopped spent)

@@ -5,7 +5,7 @@ use Rattle.std.proofs.lemmas.Option.{slice_get_within, get_or_from_slice_get}
 use Rattle.pw_tree.specs.declared.nested.Frame.{Frame}
 use Rattle.pw_tree.specs.declared.nested.Turn.{Turn}
 use Rattle.pw_tree.specs.declared.nested.Turn.TheVariants.{Down, Up}
-use Rattle.pw_tree.specs.Nested.{GoesOn}
+use Rattle.pw_tree.specs.Steps.Nested.{GoesOn}
 
 -- The value is the root, or the next part of the last frame's value; a frame's value is the root, or the next part of that
 -- of the frame before it; and each frame has equal values for the parts before.

@@ -1,6 +1,6 @@
 -- The parts of statements, one equation for each form.
 use Rattle.std.proofs.Common.{◌≡◌, ℕ, List, [], ◌∷◌, Option, sym, ap, ◌∙◌}
-use Rattle.pw_tree.specs.Nested.{before, parts_of_form, parts_of_kind, typed_parts_of_form, typed_parts_of}
+use Rattle.pw_tree.specs.Steps.Nested.{put_before, parts_of_form, parts_of_kind, typed_parts_of_form, typed_parts_of}
 use Rattle.pw_tree.specs.declared.ty.Ty.{Ty}
 use Rattle.pw_tree.specs.declared.ty.Ref.{Ref}
 use Rattle.pw_tree.specs.declared.expr.Expr.{Expr}
@@ -33,7 +33,7 @@ parts_of_set name i value = of_form (kinds.Set name i value) (StmtKind-F.Set nam
 pub parts_of_eval : (e : Expr) → parts_of_kind (kinds.Eval e) ≡ []
 parts_of_eval e = of_form (kinds.Eval e) (StmtKind-F.Eval e) (rolls-Eval e)
 
-pub parts_of_if : (c : Expr) (a : Stmt) (b : Option Stmt) → parts_of_kind (kinds.If c a b) ≡ a ∷ before b []
+pub parts_of_if : (c : Expr) (a : Stmt) (b : Option Stmt) → parts_of_kind (kinds.If c a b) ≡ a ∷ put_before b []
 parts_of_if c a b = of_form (kinds.If c a b) (StmtKind-F.If c a b) (rolls-If c a b)
 
 pub parts_of_while : (c : Expr) (body : Stmt) → parts_of_kind (kinds.While c body) ≡ body ∷ []
@@ -42,7 +42,7 @@ parts_of_while c body = of_form (kinds.While c body) (StmtKind-F.While c body) (
 pub parts_of_do : (body : Stmt) (c : Expr) → parts_of_kind (kinds.Do body c) ≡ body ∷ []
 parts_of_do body c = of_form (kinds.Do body c) (StmtKind-F.Do body c) (rolls-Do body c)
 
-pub parts_of_for : (first : Option Stmt) (c : Option Expr) (last : Option Stmt) (body : Stmt) → parts_of_kind (kinds.For first c last body) ≡ before first (before last (body ∷ []))
+pub parts_of_for : (first : Option Stmt) (c : Option Expr) (last : Option Stmt) (body : Stmt) → parts_of_kind (kinds.For first c last body) ≡ put_before first (put_before last (body ∷ []))
 parts_of_for first c last body = of_form (kinds.For first c last body) (StmtKind-F.For first c last body) (rolls-For first c last body)
 
 pub parts_of_return : (value : Option Expr) → parts_of_kind (kinds.Return value) ≡ []
@@ -73,7 +73,7 @@ typed_parts_of_set_elem x size line i value = of_typed (typed.SetElem x size lin
 pub typed_parts_of_block : (body : List TStmt) → typed_parts_of (typed.Block body) ≡ body
 typed_parts_of_block body = of_typed (typed.Block body) (TStmt-F.Block body) (typed.rolls-Block body)
 
-pub typed_parts_of_if : (c : TExpr) (a : TStmt) (b : Option TStmt) → typed_parts_of (typed.If c a b) ≡ a ∷ before b []
+pub typed_parts_of_if : (c : TExpr) (a : TStmt) (b : Option TStmt) → typed_parts_of (typed.If c a b) ≡ a ∷ put_before b []
 typed_parts_of_if c a b = of_typed (typed.If c a b) (TStmt-F.If c a b) (typed.rolls-If c a b)
 
 pub typed_parts_of_while : (c : TExpr) (body : TStmt) → typed_parts_of (typed.While c body) ≡ body ∷ []
@@ -82,7 +82,7 @@ typed_parts_of_while c body = of_typed (typed.While c body) (TStmt-F.While c bod
 pub typed_parts_of_do : (body : TStmt) (c : TExpr) → typed_parts_of (typed.Do body c) ≡ body ∷ []
 typed_parts_of_do body c = of_typed (typed.Do body c) (TStmt-F.Do body c) (typed.rolls-Do body c)
 
-pub typed_parts_of_for : (first : Option TStmt) (c : Option TExpr) (last : Option TStmt) (body : TStmt) → typed_parts_of (typed.For first c last body) ≡ before first (before last (body ∷ []))
+pub typed_parts_of_for : (first : Option TStmt) (c : Option TExpr) (last : Option TStmt) (body : TStmt) → typed_parts_of (typed.For first c last body) ≡ put_before first (put_before last (body ∷ []))
 typed_parts_of_for first c last body = of_typed (typed.For first c last body) (TStmt-F.For first c last body) (typed.rolls-For first c last body)
 
 pub typed_parts_of_return : (value : Option TExpr) → typed_parts_of (typed.Return value) ≡ []

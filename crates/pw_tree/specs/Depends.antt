@@ -3,7 +3,7 @@ use Rattle.std.specs.Prelude.{◌≡◌, List, [], ◌∷◌, ◌++◌, Option, 
 use Rattle.pw_tree.specs.TypedExpressions.{TypedExpression, TypedExpressions, constant, local, variable, designator, element, unary, binary, conditional, call, call_pointer, input, output, nil, cons}
 use Rattle.pw_tree.specs.TypedStatements.{TypedStatement, TypedStatements, OptionalTypedStatement, evaluate, set_local, set_variable, set_element, block, if_else, while_loop, do_loop, for_loop, returns, breaks, continues, nil, cons, absent, present}
 use Rattle.pw_tree.specs.Names.{Project, Definition, function, definition_of, resolved}
-use Rattle.pw_tree.specs.Meaning.{callee_of}
+use Rattle.pw_tree.specs.Meaning.{called_function}
 use Rattle.pw_tree.specs.declared.ty.Ref.{Ref}
 
 -- The names of functions and variables in an expression, in order of text, and in several.
@@ -65,4 +65,4 @@ pub data Node : Type 0 where
 abbrev pub Depends : Project → Node → Definition → Type 0
 Depends project entry g = definition_of project (codes "main") ≡ Some (function g)
 Depends project (defined f) g =
-    (name : Ref) × Contains (names_of_all (callee_of project f).body) name × (resolved project f.in_module f.in_unit name ≡ Some (function g))
+    (name : Ref) × Contains (names_of_all (called_function project f).body) name × (resolved project f.in_module f.in_unit name ≡ Some (function g))

@@ -3,7 +3,7 @@ use Rattle.std.specs.Prelude.{ℕ, Bool, not, List, [], ◌∷◌, nat_eq, nat_l
 use Rattle.pw_tree.specs.Numbers.{truth, unary_result, binary_result}
 use Rattle.pw_tree.specs.Names.{Definition}
 use Rattle.pw_tree.specs.TypedExpressions.{TypedExpression, TypedExpressions, constant, local, variable, designator, element, unary, binary, conditional, call, call_pointer, input, output, nil, cons}
-use Rattle.pw_tree.specs.States.{Value, number, pointer, holds, number_of, same_value, Locals, value_or_zero, State, with_input, with_output, Fault, index, division, null_call, checked, Outcome, gives, stops, and_then, choice}
+use Rattle.pw_tree.specs.States.{Value, number, pointer, holds, as_number, same_value, Locals, value_or_zero, State, with_input, with_output, Fault, index, division, null_call, checked, Outcome, gives, stops, and_then, chosen}
 use Rattle.pw_tree.specs.declared.operator.Un.{Un}
 use Rattle.pw_tree.specs.declared.operator.Un.TheVariants.{Bang}
 use Rattle.pw_tree.specs.declared.operator.Bin.{Bin}
@@ -16,7 +16,7 @@ pub record Context : Type 0 where
   pub self : Definition
   pub named : Ref → Definition
   pub called : Definition → List Value → State → Outcome Value
-  pub turns_left : ℕ
+  pub iterations_left : ℕ
 
 -- A check that fails stops the run, with the function whose body runs and the line.
 abbrev pub fails : {A : Type 0} → Context → Fault → ℕ → State → Outcome A
@@ -25,20 +25,20 @@ fails x fault line st = stops (checked fault x.self line) st
 -- The value of a unary operator.
 abbrev pub unary_value : Un → Value → Value
 unary_value Bang v = number (truth (not (holds v)))
-unary_value op v = number (unary_result op (number_of v))
+unary_value op v = number (unary_result op (as_number v))
 
 -- An operator that divides stops at the divisor 0.
 abbrev pub divided : Context → ℕ → Bin → Bool → ℕ → ℕ → State → Outcome Value
 divided x line op unsigned a b =
-    choice (nat_eq b 0) (fails x division line) (gives (number (binary_result op unsigned a b)))
+    chosen (nat_eq b 0) (fails x division line) (gives (number (binary_result op unsigned a b)))
 
 -- The value of a binary operator both of whose operands are evaluated.
 abbrev pub binary_value : Context → ℕ → Bin → Bool → Value → Value → State → Outcome Value
 binary_value x line Eq unsigned a b = gives (number (truth (same_value a b)))
 binary_value x line Ne unsigned a b = gives (number (truth (not (same_value a b))))
-binary_value x line Div unsigned a b = divided x line Div unsigned (number_of a) (number_of b)
-binary_value x line Rem unsigned a b = divided x line Rem unsigned (number_of a) (number_of b)
-binary_value x line op unsigned a b = gives (number (binary_result op unsigned (number_of a) (number_of b)))
+binary_value x line Div unsigned a b = divided x line Div unsigned (as_number a) (as_number b)
+binary_value x line Rem unsigned a b = divided x line Rem unsigned (as_number a) (as_number b)
+binary_value x line op unsigned a b = gives (number (binary_result op unsigned (as_number a) (as_number b)))
 
 -- The long that says whether the right operand of `&&` or `||` holds.
 abbrev pub truth_of : Value → State → Outcome Value
@@ -46,13 +46,13 @@ truth_of v = gives (number (truth (holds v)))
 
 -- What follows the left operand: `&&` and `||` evaluate the right one only where the left one does not decide.
 abbrev pub operated : Context → ℕ → Bin → Bool → Value → (State → Outcome Value) → State → Outcome Value
-operated x line AndAnd unsigned a right st = choice (holds a) (λ st. and_then (right st) truth_of) (gives (number 0)) st
-operated x line OrOr unsigned a right st = choice (holds a) (gives (number 1)) (λ st. and_then (right st) truth_of) st
+operated x line AndAnd unsigned a right st = chosen (holds a) (λ st. and_then (right st) truth_of) (gives (number 0)) st
+operated x line OrOr unsigned a right st = chosen (holds a) (gives (number 1)) (λ st. and_then (right st) truth_of) st
 operated x line op unsigned a right st = and_then (right st) (binary_value x line op unsigned a)
 
 -- The element of an array at an index, which is tested: as an unsigned long it is below the array's size.
 abbrev pub indexed : {A : Type 0} → Context → ℕ → ℕ → Value → (ℕ → State → Outcome A) → State → Outcome A
-indexed x size line v next = choice (nat_lt (number_of v) size) (next (number_of v)) (fails x index line)
+indexed x size line v next = chosen (nat_lt (as_number v) size) (next (as_number v)) (fails x index line)
 
 -- `__in()` takes the next byte of the input, or gives -1 at its end.
 abbrev pub next_byte : List ℕ → State → Outcome Value
@@ -78,13 +78,13 @@ abbrev mutual
   eval x (binary at op unsigned l r) locals st =
       and_then (eval x l locals st) (λ v. operated x at.line op unsigned v (eval x r locals))
   eval x (conditional at c a b) locals st =
-      and_then (eval x c locals st) (λ v. choice (holds v) (eval x a locals) (eval x b locals))
+      and_then (eval x c locals st) (λ v. chosen (holds v) (eval x a locals) (eval x b locals))
   eval x (call at f es) locals st = and_then (eval_all x es locals st) (x.called (x.named f))
   eval x (call_pointer at e es) locals st =
       and_then (eval_all x es locals st) (λ vs st. and_then (eval x e locals st) (call_through x at.line vs))
   eval x (input at) locals st = next_byte st.input st
   eval x (output at e) locals st =
-      and_then (eval x e locals st) (λ v st. gives (number 0) (with_output (number_of v) st))
+      and_then (eval x e locals st) (λ v st. gives (number 0) (with_output (as_number v) st))
 
   pub eval_all : Context → TypedExpressions → Locals → State → Outcome (List Value)
   eval_all x nil locals st = gives [] st

@@ -43,7 +43,7 @@ abbrev pub expressions : List Expression → Expressions
 expressions [] = nil
 expressions (e ∷ es) = cons e (expressions es)
 
--- One form at its place, with each operand's tree in the operand's stead.
+-- One form at its place, with each operand's tree in place of the operand.
 abbrev pub expression_form : ExprKind-F (Span → Expression) Expression → Span → Expression
 expression_form (ExprKind-F.Num value unsigned) at = constant at value unsigned
 expression_form (ExprKind-F.Word name) at = word at name

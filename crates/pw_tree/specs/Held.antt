@@ -4,7 +4,7 @@ use Rattle.pw_tree.specs.declared.operator.Bin.{Bin}
 use Rattle.pw_tree.specs.declared.operator.Bin.TheVariants.{Mul, Div, Rem, Add, Sub, Shl, Shr, Lt, Gt, Le, Ge, Eq, Ne, And, Xor, Or, AndAnd, OrOr}
 use Rattle.pw_tree.specs.TypedExpressions.{TypedExpression, TypedExpressions, constant, local, variable, designator, element, unary, binary, conditional, call, call_pointer, input, output, nil, cons}
 use Rattle.pw_tree.specs.TypedStatements.{TypedStatement, TypedStatements, OptionalTypedStatement, evaluate, set_local, set_variable, set_element, block, if_else, while_loop, do_loop, for_loop, returns, breaks, continues, absent, present}
-use Rattle.pw_tree.specs.TypedStatements as commands
+use Rattle.pw_tree.specs.TypedStatements as statement
 
 -- `&&` and `||` hold nothing while the right operand is evaluated
 abbrev pub holds_left : Bin → Bool
@@ -48,7 +48,7 @@ unfoldable mutual
   held (input at) = 0
   held (output at e) = held e
 
-  -- arguments are held as they come, behind the n that are held already; a call holds them all
+  -- arguments are held as they come, after the n that are held already; a call holds them all
   pub held_arguments : ℕ → TypedExpressions → ℕ
   held_arguments n nil = n
   held_arguments n (cons e es) = max (n + held e) (held_arguments (suc n) es)
@@ -62,6 +62,7 @@ unfoldable mutual
 abbrev pub held_element : TypedExpression → TypedExpression → ℕ
 held_element i e = max (held i) (1 + held e)
 
+-- the same of an expression that may be absent
 abbrev pub held_option : Option TypedExpression → ℕ
 held_option None = 0
 held_option (Some e) = held e
@@ -83,10 +84,12 @@ unfoldable mutual
   held_by breaks = 0
   held_by continues = 0
 
+  -- over those of several statements
   pub held_by_all : TypedStatements → ℕ
-  held_by_all commands.nil = 0
-  held_by_all (commands.cons s ss) = max (held_by s) (held_by_all ss)
+  held_by_all statement.nil = 0
+  held_by_all (statement.cons s ss) = max (held_by s) (held_by_all ss)
 
+  -- of a statement that may be absent
   pub held_by_maybe : OptionalTypedStatement → ℕ
   held_by_maybe absent = 0
   held_by_maybe (present s) = held_by s

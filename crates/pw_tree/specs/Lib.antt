@@ -21,4 +21,4 @@ pub mod Meaning
 pub mod Depends
 pub mod Binding
 pub mod Laws
-pub mod Nested
+pub mod Steps

@@ -5,7 +5,7 @@ use Rattle.pw_base.specs.Limits.{calls as calls_limit}
 use Rattle.pw_tree.specs.TypedStatements.{nil}
 use Rattle.pw_tree.specs.Units.{Function}
 use Rattle.pw_tree.specs.Names.{Project, Definition, Entity, function, object, resolved, function_at, variable_at}
-use Rattle.pw_tree.specs.States.{Value, number, pointer, zero_of, number_of, Locals, value_or_zero, State, depth, StopReason, checked, spent, Outcome, gives, stops, and_then, stepped}
+use Rattle.pw_tree.specs.States.{Value, number, pointer, zero_of, as_number, Locals, value_or_zero, State, depth, StopReason, checked, spent, Outcome, gives, stops, and_then, stepped}
 use Rattle.pw_tree.specs.Evaluation.{Context}
 use Rattle.pw_tree.specs.Execution.{Completion, returned, exec_all}
 use Rattle.pw_tree.specs.declared.ty.Ty.{Ty}
@@ -39,8 +39,8 @@ no_function = record {
 }
 
 -- The function that a pointer points to.
-abbrev pub callee_of : Project → Definition → Function
-callee_of project f = unwrap_or (function_at project f) no_function
+abbrev pub called_function : Project → Definition → Function
+called_function project f = unwrap_or (function_at project f) no_function
 
 -- The value that a body returns: falling off its end gives 0, or null, of the result's type.
 abbrev pub result_of : Ty → Completion → Value
@@ -57,17 +57,17 @@ entered_from zero f callee body st = stops (checked depth f callee.line) st
 entered_from (suc left) f callee body st = and_then (body (record st { calls = left })) (call_returns callee.sig.result)
 
 -- The locals of a function as its body begins: its arguments are the first ones.
-abbrev pub locals_of : List Value → Locals
-locals_of arguments i = slice_get arguments i
+abbrev pub locals_at_entry : List Value → Locals
+locals_at_entry arguments i = slice_get arguments i
 
 -- What a call comes to. It takes a step, then one of the calls left, runs the body, and gives the call back.
 -- The first number is no less than the steps left, so that none is left where it is 0.
 abbrev pub call_of : Project → ℕ → Definition → List Value → State → Outcome Value
 call_of project zero f arguments st = stops spent st
 call_of project (suc n) f arguments st =
-    let callee = callee_of project f in
-    let x : Context = record { self = f; named = named_in project f.in_module f.in_unit; called = call_of project n; turns_left = n } in
-    stepped (λ st. entered_from st.calls f callee (exec_all x callee.body (locals_of arguments)) st) st
+    let callee = called_function project f in
+    let x : Context = record { self = f; named = named_in project f.in_module f.in_unit; called = call_of project n; iterations_left = n } in
+    stepped (λ st. entered_from st.calls f callee (exec_all x callee.body (locals_at_entry arguments)) st) st
 
 -- The value of an element of an initialiser.
 abbrev pub initial_element : Project → ℕ → ℕ → Init → Value
@@ -106,7 +106,7 @@ pub record Run : Type 0 where
 
 -- What is seen of a run once it has come to an end.
 abbrev pub run_of : Outcome Value → Run
-run_of (gives v st) = record { output = st.output; rest = st.input; end = exit (number_of v) }
+run_of (gives v st) = record { output = st.output; rest = st.input; end = exit (as_number v) }
 run_of (stops why st) = record { output = st.output; rest = st.input; end = stopped why }
 
 -- The function that a run calls first: the program's `main`.

@@ -1,11 +1,13 @@
 -- What else holds of the trees of a unit that was read: where declarations stand, what the parts of a `for` are, how long a
--- function is, and how great numbers are.
+-- function is, which variables have initialisers, and how great numbers are.
 use Rattle.std.specs.Prelude.{◌≡◌, ℕ, ◌-◌, ◌^◌, ◌<◌, ◌≤◌, List, [], ◌∷◌, Option, Some, None, ⊤}
 use Rattle.std.specs.List.{AllByRecursion}
 use Rattle.pw_base.specs.Limits.{function_tokens}
 use Rattle.pw_tree.specs.declared.decl.InitItem.{InitItem}
 use Rattle.pw_tree.specs.declared.decl.InitKind.{InitKind}
 use Rattle.pw_tree.specs.declared.decl.InitKind.TheVariants.{Num, Word}
+use Rattle.pw_tree.specs.declared.decl.Linkage.{Linkage}
+use Rattle.pw_tree.specs.declared.decl.Linkage.TheVariants.{Plain, Extern, Static}
 use Rattle.pw_tree.specs.Types.{IsValueType}
 use Rattle.pw_tree.specs.Expressions.{Span, Expression, Expressions, constant, word, unary, binary, conditional, call, index, input, output}
 use Rattle.pw_tree.specs.Expressions as phrase
@@ -20,19 +22,21 @@ abbrev pub IsNoDeclaration : Statement → Type 0
 IsNoDeclaration (local at ty name e) = ⊥
 IsNoDeclaration s = ⊤
 
+-- nor is an `else`
 abbrev pub IsNoElseDeclaration : OptionalStatement → Type 0
 IsNoElseDeclaration absent = ⊤
 IsNoElseDeclaration (present s) = IsNoDeclaration s
 
 -- an expression or an assignment
-abbrev pub IsSimple : Statement → Type 0
-IsSimple (set at name i e) = ⊤
-IsSimple (evaluate at e) = ⊤
-IsSimple s = ⊥
+abbrev pub IsSimpleStatement : Statement → Type 0
+IsSimpleStatement (set at name i e) = ⊤
+IsSimpleStatement (evaluate at e) = ⊤
+IsSimpleStatement s = ⊥
 
+-- the same, or the declaration of a local
 abbrev pub IsSimpleOrDeclaration : Statement → Type 0
 IsSimpleOrDeclaration (local at ty name e) = ⊤
-IsSimpleOrDeclaration s = IsSimple s
+IsSimpleOrDeclaration s = IsSimpleStatement s
 
 -- the first part of a `for` is simple, or declares a local
 abbrev pub IsFirstPart : OptionalStatement → Type 0
@@ -42,7 +46,7 @@ IsFirstPart (present s) = IsSimpleOrDeclaration s
 -- the last part is simple
 abbrev pub IsLastPart : OptionalStatement → Type 0
 IsLastPart absent = ⊤
-IsLastPart (present s) = IsSimple s
+IsLastPart (present s) = IsSimpleStatement s
 
 unfoldable mutual
   -- A local is declared only as an item of a block, or as the first part of a `for`, whose parts are simple; and it is not void.
@@ -61,14 +65,17 @@ unfoldable mutual
   IsProper (breaks at) = ⊤
   IsProper (continues at) = ⊤
 
+  -- of several statements
   pub AreProper : Statements → Type 0
   AreProper nil = ⊤
   AreProper (cons s ss) = IsProper s × AreProper ss
 
+  -- of a statement that may be absent
   pub IsMaybeProper : OptionalStatement → Type 0
   IsMaybeProper absent = ⊤
   IsMaybeProper (present s) = IsProper s
 
+-- the statements of a definition are proper
 abbrev pub IsFormProper : DeclarationForm → Type 0
 IsFormProper (definition result params body) = AreProper body
 IsFormProper (prototype result params) = ⊤
@@ -81,6 +88,20 @@ abbrev pub IsShort : Declaration → DeclarationForm → Type 0
 IsShort d (definition result params body) = d.last - d.declarator ≤ function_tokens
 IsShort d (prototype result params) = ⊤
 IsShort d (variable ty size init) = ⊤
+
+-- ---- initialisers
+
+abbrev pub HasNoInitialiser : DeclarationForm → Type 0
+HasNoInitialiser (variable ty size None) = ⊤
+HasNoInitialiser (variable ty size (Some items)) = ⊥
+HasNoInitialiser (prototype result params) = ⊤
+HasNoInitialiser (definition result params body) = ⊤
+
+-- a variable that is declared `extern` has no initialiser
+abbrev pub MayBeInitialised : Linkage → DeclarationForm → Type 0
+MayBeInitialised Extern form = HasNoInitialiser form
+MayBeInitialised Plain form = ⊤
+MayBeInitialised Static form = ⊤
 
 -- ---- numbers
 
@@ -101,10 +122,12 @@ unfoldable mutual
   HasNumbers (input at) = HasLine at
   HasNumbers (output at e) = HasLine at × HasNumbers e
 
+  -- of several expressions
   pub HaveNumbers : Expressions → Type 0
   HaveNumbers phrase.nil = ⊤
   HaveNumbers (phrase.cons e es) = HasNumbers e × HaveNumbers es
 
+-- of an expression that may be absent
 abbrev pub HasOptionNumbers : Option Expression → Type 0
 HasOptionNumbers None = ⊤
 HasOptionNumbers (Some e) = HasNumbers e
@@ -126,22 +149,27 @@ unfoldable mutual
   HasStatementNumbers (breaks at) = ⊤
   HasStatementNumbers (continues at) = ⊤
 
+  -- of several statements
   pub HaveStatementNumbers : Statements → Type 0
   HaveStatementNumbers nil = ⊤
   HaveStatementNumbers (cons s ss) = HasStatementNumbers s × HaveStatementNumbers ss
 
+  -- of a statement that may be absent
   pub HasMaybeNumbers : OptionalStatement → Type 0
   HasMaybeNumbers absent = ⊤
   HasMaybeNumbers (present s) = HasStatementNumbers s
 
+-- a number in an initialiser has 64 bits
 abbrev pub HasElementNumber : InitKind → Type 0
 HasElementNumber (Num value) = value < 2 ^ 64
 HasElementNumber (Word name) = ⊤
 
+-- each number in an initialiser, where there is one
 abbrev pub HaveElementNumbers : Option (List InitItem) → Type 0
 HaveElementNumbers None = ⊤
 HaveElementNumbers (Some items) = AllByRecursion (λ item. HasElementNumber item.kind) items
 
+-- the numbers of what a declaration declares
 abbrev pub HasFormNumbers : DeclarationForm → Type 0
 HasFormNumbers (definition result params body) = HaveStatementNumbers body
 HasFormNumbers (prototype result params) = ⊤
@@ -149,9 +177,11 @@ HasFormNumbers (variable ty size init) = HaveElementNumbers init
 
 -- ---- declarations and units
 
+-- A declaration is proper, short, and its numbers are in their limits.
 pub record IsProperDeclaration (d : Declaration) : Type 0 where
   pub proper : IsFormProper d.form
   pub short : IsShort d d.form
+  pub initialiser : MayBeInitialised d.linkage d.form
   pub line : d.line < 2 ^ 32
   pub numbers : HasFormNumbers d.form
 

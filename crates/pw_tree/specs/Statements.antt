@@ -48,7 +48,7 @@ abbrev pub optional_statement : Option Statement → OptionalStatement
 optional_statement None = absent
 optional_statement (Some s) = present s
 
--- One form at its place, with each part's tree in the part's stead.
+-- One form at its place, with each part's tree in place of the part.
 abbrev pub statement_form : StmtKind-F (Span → Statement) Statement → Span → Statement
 statement_form StmtKind-F.Empty at = empty at
 statement_form (StmtKind-F.Block body) at = block at (statements body)

@@ -22,9 +22,9 @@ holds null = false
 holds (pointer f) = true
 
 -- The number that a value is; typed trees ask it of numbers alone.
-abbrev pub number_of : Value → ℕ
-number_of (number n) = n
-number_of _ = 0
+abbrev pub as_number : Value → ℕ
+as_number (number n) = n
+as_number _ = 0
 
 -- Two values are equal; two functions exactly if they are the same definition.
 abbrev pub same_value : Value → Value → Bool
@@ -43,8 +43,8 @@ value_or_zero ty (Some v) = v
 value_or_zero ty None = zero_of ty
 
 -- The locals with one of them set.
-abbrev pub with_local : Locals → ℕ → Option Value → Locals
-with_local locals i value = λ j. if nat_eq i j then value else locals j
+abbrev pub with_local_set : Locals → ℕ → Option Value → Locals
+with_local_set locals i value = λ j. if nat_eq i j then value else locals j
 
 -- The state of a run: the elements of the variables, of which one that is no array has element 0 alone; the input
 -- that is left and the output; how many steps and how many calls may still be taken.
@@ -94,9 +94,9 @@ and_then (gives result st) next = next result st
 and_then (stops why st) next = stops why st
 
 -- One of two evaluations, by a condition.
-abbrev pub choice : {A : Type 0} → Bool → (State → Outcome A) → (State → Outcome A) → State → Outcome A
-choice true first second st = first st
-choice false first second st = second st
+abbrev pub chosen : {A : Type 0} → Bool → (State → Outcome A) → (State → Outcome A) → State → Outcome A
+chosen true first second st = first st
+chosen false first second st = second st
 
 -- With n steps left: spent where n is 0, and else the evaluation with one step less.
 abbrev pub stepped_from : {A : Type 0} → ℕ → (State → Outcome A) → State → Outcome A

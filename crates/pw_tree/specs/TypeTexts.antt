@@ -15,7 +15,7 @@ letter_of (Fn k) = 48 + k
 abbrev pub text_of_function : Sig → List ℕ
 text_of_function sig = letter_of sig.result ∷ codes "(" ++ map letter_of sig.params ++ codes ")"
 
--- A variable's text is its type's letter; an array's has its size behind, as `l[16]`.
+-- A variable's text is its type's letter; an array's has its size after that, as `l[16]`.
 abbrev pub text_of_variable : Ty → Option ℕ → List ℕ
 text_of_variable ty None = letter_of ty ∷ []
 text_of_variable ty (Some count) = letter_of ty ∷ codes "[" ++ decimal count ++ codes "]"

@@ -69,7 +69,7 @@ abbrev pub typed_expressions : List TypedExpression → TypedExpressions
 typed_expressions [] = nil
 typed_expressions (e ∷ es) = cons e (typed_expressions es)
 
--- One form under its mark, with each operand's tree in the operand's stead.
+-- One form under its mark, with each operand's tree in place of the operand.
 abbrev pub typed_expression_form : TKind-F (Mark → TypedExpression) TypedExpression → Mark → TypedExpression
 typed_expression_form (TKind-F.Num value) at = constant at value
 typed_expression_form (TKind-F.Local i) at = local at i

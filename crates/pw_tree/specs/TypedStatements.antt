@@ -46,7 +46,7 @@ abbrev pub optional_typed_statement : Option TypedStatement → OptionalTypedSta
 optional_typed_statement None = absent
 optional_typed_statement (Some s) = present s
 
--- One form, with each part's tree in the part's stead.
+-- One form, with each part's tree in place of the part.
 abbrev pub typed_statement_form : TStmt-F TypedStatement → TypedStatement
 typed_statement_form (TStmt-F.Eval e) = evaluate (typed_expression_of e)
 typed_statement_form (TStmt-F.SetLocal i value) = set_local i (option_map typed_expression_of value)

@@ -19,12 +19,14 @@ is_number Ulong = true
 is_number Void = false
 is_number (Fn k) = false
 
+-- unsigned long
 abbrev pub is_unsigned : Ty → Bool
 is_unsigned Ulong = true
 is_unsigned Long = false
 is_unsigned Void = false
 is_unsigned (Fn k) = false
 
+-- no value
 abbrev pub is_void : Ty → Bool
 is_void Void = true
 is_void Long = false
@@ -38,6 +40,7 @@ is_pointer Void = false
 is_pointer Long = false
 is_pointer Ulong = false
 
+-- a pointer to functions of k parameters
 abbrev pub same_pointer_as : ℕ → Ty → Bool
 same_pointer_as k (Fn j) = nat_eq k j
 same_pointer_as k Void = false
@@ -71,11 +74,11 @@ common a b = if is_unsigned a || is_unsigned b then Ulong else Long
 -- ---- types that may stand in a declaration
 
 -- pointers are to functions with at most 6 parameters
-abbrev pub IsType : Ty → Type 0
-IsType Void = ⊤
-IsType Long = ⊤
-IsType Ulong = ⊤
-IsType (Fn k) = k ≤ parameters
+abbrev pub IsResultType : Ty → Type 0
+IsResultType Void = ⊤
+IsResultType Long = ⊤
+IsResultType Ulong = ⊤
+IsResultType (Fn k) = k ≤ parameters
 
 -- the same, and it is not void
 abbrev pub IsValueType : Ty → Type 0
@@ -112,6 +115,7 @@ pub record Operation : Type 0 where
 abbrev pub on_numbers : (Ty → Ty → Operation) → Ty → Ty → Option Operation
 on_numbers f l r = if is_number l && is_number r then Some (f l r) else None
 
+-- arithmetic has the type that both numbers become
 abbrev pub arithmetic : Ty → Ty → Operation
 arithmetic l r = record { ty = common l r; unsigned = is_unsigned l || is_unsigned r }
 
@@ -119,20 +123,22 @@ arithmetic l r = record { ty = common l r; unsigned = is_unsigned l || is_unsign
 abbrev pub shift : Ty → Ty → Operation
 shift l r = record { ty = l; unsigned = is_unsigned l }
 
+-- a comparison gives a long, and is unsigned where one of its sides is
 abbrev pub comparison : Ty → Ty → Operation
 comparison l r = record { ty = Long; unsigned = is_unsigned l || is_unsigned r }
 
 -- a long that no sign bears on
-abbrev pub truth : Operation
-truth = record { ty = Long; unsigned = false }
+abbrev pub truth_operation : Operation
+truth_operation = record { ty = Long; unsigned = false }
 
 -- `==` and `!=` also take two equal types of pointers
 abbrev pub equality : Ty → Ty → Option Operation
-equality l r = if same_pointers l r then Some truth else on_numbers comparison l r
+equality l r = if same_pointers l r then Some truth_operation else on_numbers comparison l r
 
+-- the type of each binary operator, where its operands have types that it takes
 abbrev pub binary_type : Bin → Ty → Ty → Option Operation
-binary_type AndAnd l r = Some truth
-binary_type OrOr l r = Some truth
+binary_type AndAnd l r = Some truth_operation
+binary_type OrOr l r = Some truth_operation
 binary_type Eq l r = equality l r
 binary_type Ne l r = equality l r
 binary_type Lt l r = on_numbers comparison l r

@@ -24,8 +24,8 @@ pub record TypedUnit : Type 0 where
   pub names : List Ext
 
 -- The plain definition of a function.
-abbrev pub function_of : TFun → Function
-function_of f = record {
+abbrev pub typed_function_of : TFun → Function
+typed_function_of f = record {
   name = f.name;
   global = f.global;
   sig = f.sig;
@@ -38,7 +38,7 @@ function_of f = record {
 -- The plain unit.
 abbrev pub unit_of : TUnit → TypedUnit
 unit_of unit = record {
-  functions = map function_of unit.funs;
+  functions = map typed_function_of unit.funs;
   variables = unit.vars;
   names = unit.names;
 }

@@ -14,7 +14,7 @@ use Rattle.pw_tree.specs.declared.ty.Ref.{Ref}
 use Rattle.pw_tree.specs.declared.ty.Ref.TheVariants.{Global, LocalFun, LocalVar}
 use Rattle.pw_tree.specs.declared.tunit.TVar.{TVar}
 use Rattle.pw_tree.specs.declared.tunit.Ext.{Ext}
-use Rattle.pw_tree.specs.Types.{IsType, IsValueType, AreValueTypes, IsArraySize, pointer_to}
+use Rattle.pw_tree.specs.Types.{IsResultType, IsValueType, AreValueTypes, IsArraySize, pointer_to}
 use Rattle.pw_tree.specs.TypedExpressions.{Mark, TypedExpression, TypedExpressions, constant, local, variable, designator, element, unary, binary, conditional, call, call_pointer, input, output, nil, cons, mark_of, type_of}
 use Rattle.pw_tree.specs.Held.{count}
 use Rattle.pw_tree.specs.TypeTexts.{text_of_function, text_of_variable}
@@ -29,6 +29,7 @@ pub data Class : Type 0 where
   number : Class
   pointer : ℕ → Class
 
+-- the class of a type
 abbrev pub class_of : Ty → Class
 class_of Void = nothing
 class_of Long = number
@@ -59,10 +60,11 @@ text_named name names = option_map (λ n. n.text) (find (λ n. bytes_eq n.name n
 
 -- A signature has a result's type, and at most 6 parameters, none of them void.
 pub record IsSignature (sig : Sig) : Type 0 where
-  pub result : IsType sig.result
+  pub result : IsResultType sig.result
   pub params : AreValueTypes sig.params
   pub few : length sig.params ≤ parameters
 
+-- the signature of a function with internal linkage
 abbrev pub static_sig : Function → Option Sig
 static_sig f = if f.global then None else Some f.sig
 
@@ -72,6 +74,7 @@ NamesFunction unit (Global name) sig = text_named name unit.names ≡ Some (text
 NamesFunction unit (LocalFun i) sig = option_and_then static_sig (slice_get unit.functions i) ≡ Some sig
 NamesFunction unit (LocalVar i) sig = ⊥
 
+-- A reference names a function, of a signature that a function may have.
 pub record IsFunction (unit : TypedUnit) (f : Ref) (sig : Sig) : Type 0 where
   pub types : IsSignature sig
   pub names : NamesFunction unit f sig
@@ -81,6 +84,7 @@ pub record Shape : Type 0 where
   pub ty : Ty
   pub size : Option ℕ
 
+-- the shape of a variable with internal linkage
 abbrev pub static_shape : TVar → Option Shape
 static_shape x = if x.global then None else Some (record { ty = x.ty; size = x.count })
 
@@ -90,6 +94,7 @@ NamesVariable unit (Global name) shape = text_named name unit.names ≡ Some (te
 NamesVariable unit (LocalVar i) shape = option_and_then static_shape (slice_get unit.variables i) ≡ Some shape
 NamesVariable unit (LocalFun i) shape = ⊥
 
+-- A reference names a variable or an array, of a shape that one may have.
 pub record IsVariable (unit : TypedUnit) (x : Ref) (shape : Shape) : Type 0 where
   pub type : IsValueType shape.ty
   pub size : IsArraySize shape.size
@@ -125,6 +130,7 @@ ArgumentsFit (ty ∷ tys) (cons e es) = (class e ≡ class_of ty) × ArgumentsFi
 ArgumentsFit [] (cons e es) = ⊥
 ArgumentsFit (ty ∷ tys) nil = ⊥
 
+-- each is a number
 unfoldable pub AreNumbers : TypedExpressions → Type 0
 AreNumbers nil = ⊤
 AreNumbers (cons e es) = (class e ≡ number) × AreNumbers es
@@ -178,6 +184,7 @@ ReadsKnown known e = ⊤
 
 -- ---- numbers
 
+-- a constant has 64 bits
 abbrev pub IsSmallConstant : TypedExpression → Type 0
 IsSmallConstant (constant at value) = value < 2 ^ 64
 IsSmallConstant e = ⊤
@@ -205,6 +212,7 @@ unfoldable mutual
   Throughout P (input at) = P (input at)
   Throughout P (output at e) = P (output at e) × Throughout P e
 
+  -- throughout several expressions
   pub ThroughoutAll : (TypedExpression → Type 0) → TypedExpressions → Type 0
   ThroughoutAll P nil = ⊤
   ThroughoutAll P (cons e es) = Throughout P e × ThroughoutAll P es
@@ -225,6 +233,7 @@ unfoldable mutual
   expressions_in (input at) = 1
   expressions_in (output at e) = suc (expressions_in e)
 
+  -- in several expressions
   pub expressions_in_all : TypedExpressions → ℕ
   expressions_in_all nil = 0
   expressions_in_all (cons e es) = expressions_in e + expressions_in_all es

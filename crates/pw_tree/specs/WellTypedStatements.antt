@@ -46,10 +46,12 @@ unfoldable mutual
   Everywhere P breaks = P breaks
   Everywhere P continues = P continues
 
+  -- in several statements
   pub EverywhereIn : (TypedStatement → Type 0) → TypedStatements → Type 0
   EverywhereIn P nil = ⊤
   EverywhereIn P (cons s ss) = Everywhere P s × EverywhereIn P ss
 
+  -- in a statement that may be absent
   pub EverywhereIf : (TypedStatement → Type 0) → OptionalTypedStatement → Type 0
   EverywhereIf P absent = ⊤
   EverywhereIf P (present s) = Everywhere P s
@@ -61,6 +63,7 @@ abbrev pub ReturnFits : Class → Option TypedExpression → Type 0
 ReturnFits result None = result ≡ nothing
 ReturnFits result (Some e) = IsValue result × (class e ≡ result)
 
+-- a condition is a value, where there is one
 abbrev pub IsCondition : Option TypedExpression → Type 0
 IsCondition None = ⊤
 IsCondition (Some e) = IsValue (class e)
@@ -92,15 +95,17 @@ pub record StatementFits (unit : TypedUnit) (result : Class) (classes : List Cla
 
 -- ---- the locals that are read
 
--- those known behind a statement of a list, or behind the first part of a `for`: one more where it sets or declares a local
+-- those known after a statement of a list, or after the first part of a `for`: one more where it sets or declares a local
 abbrev pub known_after : TypedStatement → List ℕ → List ℕ
 known_after (set_local i e) known = i ∷ known
 known_after s known = known
 
+-- those known after a statement that may be absent
 abbrev pub known_after_maybe : OptionalTypedStatement → List ℕ → List ℕ
 known_after_maybe absent known = known
 known_after_maybe (present s) known = known_after s known
 
+-- only these locals are read in an expression
 abbrev pub ExpressionReads : List ℕ → TypedExpression → Type 0
 ExpressionReads known e = Throughout (ReadsKnown known) e
 
@@ -125,10 +130,12 @@ unfoldable mutual
   StatementReads known breaks = ⊤
   StatementReads known continues = ⊤
 
+  -- each statement of a list reads what is known after those before it
   pub StatementsRead : List ℕ → TypedStatements → Type 0
   StatementsRead known nil = ⊤
   StatementsRead known (cons s ss) = StatementReads known s × StatementsRead (known_after s known) ss
 
+  -- of a statement that may be absent
   pub MaybeReads : List ℕ → OptionalTypedStatement → Type 0
   MaybeReads known absent = ⊤
   MaybeReads known (present s) = StatementReads known s
@@ -151,10 +158,12 @@ unfoldable mutual
   LeavesLoops in_loop breaks = in_loop ≡ true
   LeavesLoops in_loop continues = in_loop ≡ true
 
+  -- of several statements
   pub AllLeaveLoops : Bool → TypedStatements → Type 0
   AllLeaveLoops in_loop nil = ⊤
   AllLeaveLoops in_loop (cons s ss) = LeavesLoops in_loop s × AllLeaveLoops in_loop ss
 
+  -- of a statement that may be absent
   pub MaybeLeavesLoops : Bool → OptionalTypedStatement → Type 0
   MaybeLeavesLoops in_loop absent = ⊤
   MaybeLeavesLoops in_loop (present s) = LeavesLoops in_loop s
@@ -174,10 +183,12 @@ abbrev pub IsSimpleTypedLast : TypedStatement → Type 0
 IsSimpleTypedLast (set_local i None) = ⊥
 IsSimpleTypedLast s = IsSimpleTyped s
 
+-- the first part of a `for` is simple, where there is one
 abbrev pub IsTypedFirstPart : OptionalTypedStatement → Type 0
 IsTypedFirstPart absent = ⊤
 IsTypedFirstPart (present s) = IsSimpleTyped s
 
+-- the last part of a `for` is simple and no declaration, where there is one
 abbrev pub IsTypedLastPart : OptionalTypedStatement → Type 0
 IsTypedLastPart absent = ⊤
 IsTypedLastPart (present s) = IsSimpleTypedLast s
@@ -189,16 +200,19 @@ HasSimpleParts s = ⊤
 
 -- ---- numbers
 
+-- the line of `[` has 32 bits
 abbrev pub HasSmallLine : TypedStatement → Type 0
 HasSmallLine (set_element a size line i e) = line < 2 ^ 32
 HasSmallLine s = ⊤
 
+-- The numbers of a statement, and of the expressions right in it, are within their limits.
 pub record StatementHasSmallNumbers (s : TypedStatement) : Type 0 where
   pub line : HasSmallLine s
   pub expressions : OfExpressions (Throughout HasSmallNumbers) s
 
 -- ---- how many phrases
 
+-- in an expression that may be absent
 abbrev pub expressions_in_option : Option TypedExpression → ℕ
 expressions_in_option None = 0
 expressions_in_option (Some e) = expressions_in e
@@ -220,10 +234,12 @@ unfoldable mutual
   phrases_in breaks = 1
   phrases_in continues = 1
 
+  -- in several statements
   pub phrases_in_all : TypedStatements → ℕ
   phrases_in_all nil = 0
   phrases_in_all (cons s ss) = phrases_in s + phrases_in_all ss
 
+  -- in a statement that may be absent
   pub phrases_in_maybe : OptionalTypedStatement → ℕ
   phrases_in_maybe absent = 0
   phrases_in_maybe (present s) = phrases_in s

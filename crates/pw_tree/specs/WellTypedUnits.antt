@@ -62,6 +62,7 @@ abbrev pub Initialises : TypedUnit → Ty → Init → Type 0
 Initialises unit ty (Num value) = (class_of ty ≡ number) × (value < 2 ^ 64)
 Initialises unit ty (Fun f) = Points unit (record { ty = ty; line = 0 }) f
 
+-- an initialiser is no longer than the variable, and each element of it fits
 abbrev pub InitialiserFits : TypedUnit → TVar → Option (List Init) → Type 0
 InitialiserFits unit x None = ⊤
 InitialiserFits unit x (Some items) = (length items ≤ room x.count) × AllByRecursion (Initialises unit x.ty) items
@@ -78,6 +79,7 @@ pub record IsWellTypedVariable (unit : TypedUnit) (x : TVar) : Type 0 where
 abbrev pub FunctionIsNamed : List Ext → Function → Type 0
 FunctionIsNamed names f = f.global ≡ true → text_named f.name names ≡ Some (text_of_function f.sig)
 
+-- and so does a variable
 abbrev pub VariableIsNamed : List Ext → TVar → Type 0
 VariableIsNamed names x = x.global ≡ true → text_named x.name names ≡ Some (text_of_variable x.ty x.count)
 

@@ -8,8 +8,6 @@ mod laws;
 mod nested;
 mod operator;
 mod stmt;
-#[cfg(test)]
-mod tests;
 mod texpr;
 mod tstmt;
 mod tunit;

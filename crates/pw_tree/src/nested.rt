@@ -1,6 +1,6 @@
 //! Copies of what holds values of its own type, in a loop: such values nest deeper than the stack may.
 ghost use Rattle.std.specs.Prelude.{◌≡◌, IfOk, List, length, take, slice_get, option_copied, [], ◌∷◌, ◌++◌};
-ghost use Rattle.pw_tree.specs.Nested.{GoesOn, IsPopped, PassesPart, before};
+ghost use Rattle.pw_tree.specs.Steps.Nested.{GoesOn, IsPopped, PassesPart, put_before};
 
 use pw_base::NoMemory;
 use sqlite_items::{Boxed, Items};
@@ -128,7 +128,7 @@ pub(crate) fn part_of_for<'a, T>(
     body: &'a Boxed<T>,
     number: usize,
 ) -> Option<&'a T>
-    ensures { option_copied result ≡ slice_get (before first.now (before last.now (body.now ∷ []))) number }
+    ensures { option_copied result ≡ slice_get (put_before first.now (put_before last.now (body.now ∷ []))) number }
 {
     match part_before(first, number) {
         Ok(part) => Some(part),
@@ -145,7 +145,7 @@ pub(crate) fn part_of_if<'a, T>(
     no: &'a Option<Boxed<T>>,
     number: usize,
 ) -> Option<&'a T>
-    ensures { option_copied result ≡ slice_get (yes.now ∷ before no.now []) number }
+    ensures { option_copied result ≡ slice_get (yes.now ∷ put_before no.now []) number }
 {
     match number {
         0 => Some(yes.get()),

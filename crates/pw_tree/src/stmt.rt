@@ -1,7 +1,7 @@
 //! Statements as they are written.
 ghost use Rattle.std.specs.Prelude.{◌≡◌, IfOk, slice_get, option_copied, [], ◌∷◌};
 ghost use Rattle.pw_tree.specs.declared.stmt.StmtKind.TheVariants.{Set, If, For};
-ghost use Rattle.pw_tree.specs.Nested.{before, parts_of, parts_of_kind};
+ghost use Rattle.pw_tree.specs.Steps.Nested.{put_before, parts_of, parts_of_kind};
 
 use crate::expr::Expr;
 use crate::nested::{
@@ -93,7 +93,7 @@ fn copy_for(
     body: &Boxed<Stmt>,
     copies: Items<Stmt>,
 ) -> Result<StmtKind, NoMemory>
-    requires { copies ≡ before first.now (before last.now (body.now ∷ [])) }
+    requires { copies ≡ put_before first.now (put_before last.now (body.now ∷ [])) }
     ensures { IfOk result (λ copy. copy ≡ For first.now c.now last.now body.now) }
 {
     let mut copies = copies;
@@ -111,7 +111,7 @@ fn copy_if(
     no: &Option<Boxed<Stmt>>,
     copies: Items<Stmt>,
 ) -> Result<StmtKind, NoMemory>
-    requires { copies ≡ yes.now ∷ before no.now [] }
+    requires { copies ≡ yes.now ∷ put_before no.now [] }
     ensures { IfOk result (λ copy. copy ≡ If c.now yes.now no.now) }
 {
     let mut copies = copies;

@@ -1,7 +1,7 @@
 //! Typed statements.
 ghost use Rattle.std.specs.Prelude.{◌≡◌, IfOk, slice_get, option_copied, [], ◌∷◌};
 ghost use Rattle.pw_tree.specs.declared.tstmt.TStmt.TheVariants.{SetElem, If, For};
-ghost use Rattle.pw_tree.specs.Nested.{before, typed_parts_of};
+ghost use Rattle.pw_tree.specs.Steps.Nested.{put_before, typed_parts_of};
 
 use crate::nested::{
     Nested, copy_nested, only_copy, only_part, part_of_for, part_of_if, pop_boxed, pop_boxed_option,
@@ -79,7 +79,7 @@ impl TStmt {
         no: &Option<Boxed<TStmt>>,
         copies: Items<TStmt>,
     ) -> Result<TStmt, NoMemory>
-        requires { copies ≡ yes.now ∷ before no.now [] }
+        requires { copies ≡ yes.now ∷ put_before no.now [] }
         ensures { IfOk result (λ copy. copy ≡ If c.now yes.now no.now) }
     {
         let mut copies = copies;
@@ -97,7 +97,7 @@ impl TStmt {
         body: &Boxed<TStmt>,
         copies: Items<TStmt>,
     ) -> Result<TStmt, NoMemory>
-        requires { copies ≡ before first.now (before last.now (body.now ∷ [])) }
+        requires { copies ≡ put_before first.now (put_before last.now (body.now ∷ [])) }
         ensures { IfOk result (λ copy. copy ≡ For first.now c.now last.now body.now) }
     {
         let mut copies = copies;

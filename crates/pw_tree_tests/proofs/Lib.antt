@@ -1,2 +1,7 @@
+pub mod Countdown
+pub mod ArithmeticUnits
+pub mod ArrayUnits
+pub mod LoopUnits
+pub mod CallUnits
+pub mod ModuleUnits
 pub mod IllTyped
-pub mod WellTyped

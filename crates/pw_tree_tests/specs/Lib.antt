@@ -1,3 +1,8 @@
 pub mod Units
+pub mod Countdown
+pub mod ArithmeticUnits
+pub mod ArrayUnits
+pub mod LoopUnits
+pub mod CallUnits
+pub mod ModuleUnits
 pub mod IllTyped
-pub mod WellTyped

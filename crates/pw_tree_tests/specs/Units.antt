@@ -1,20 +1,27 @@
 -- Short forms of units.
-use Rattle.std.specs.Prelude.{ℕ, Bool, true, false, List, [], ◌∷◌}
+use Rattle.std.specs.Prelude.{ℕ, false, List, [], ◌∷◌}
 use Rattle.pw_tree.specs.TypedExpressions.{Mark}
 use Rattle.pw_tree.specs.TypedStatements.{TypedStatement, typed_statements}
 use Rattle.pw_tree.specs.Units.{Function, TypedUnit}
 use Rattle.pw_tree.specs.declared.ty.Ty.{Ty}
 use Rattle.pw_tree.specs.declared.ty.Ty.TheVariants.{Void, Long, Ulong, Fn}
 
+-- the marks of a long, an unsigned long, void, and a pointer to a function of k longs, at a line
 abbrev pub at : ℕ → Mark
 at line = record { ty = Long; line = line }
+
+abbrev pub at_unsigned : ℕ → Mark
+at_unsigned line = record { ty = Ulong; line = line }
+
+abbrev pub at_void : ℕ → Mark
+at_void line = record { ty = Void; line = line }
 
 abbrev pub at_pointer : ℕ → ℕ → Mark
 at_pointer k line = record { ty = Fn k; line = line }
 
 -- a static function `f` of so many longs, so many locals and this body
-abbrev pub function_of : List Ty → ℕ → List TypedStatement → Function
-function_of params locals body = record {
+abbrev pub static_function : List Ty → ℕ → List TypedStatement → Function
+static_function params locals body = record {
   name = 102 ∷ [];
   global = false;
   sig = record { result = Long; params = params };

@@ -1,6 +1,6 @@
 //! Faults of declarations.
 
-use crate::told::{Row, agree};
+use crate::answer::{Row, agree};
 use std::test::Fail;
 
 /// Values that do not fit a variable.

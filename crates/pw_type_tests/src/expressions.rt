@@ -1,6 +1,6 @@
 //! Faults of expressions.
 
-use crate::told::{Row, agree};
+use crate::answer::{Row, agree};
 use std::test::Fail;
 
 /// Values and operands of other types than are wanted.

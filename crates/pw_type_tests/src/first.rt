@@ -1,6 +1,6 @@
 //! Which of several faults is the first.
 
-use crate::told::{Row, agree};
+use crate::answer::{Row, agree};
 use std::test::Fail;
 
 /// Texts in which the place of a phrase breaks several rules.

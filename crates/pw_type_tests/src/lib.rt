@@ -2,6 +2,8 @@
 #![tactic(auto)]
 
 #[cfg(test)]
+mod answer;
+#[cfg(test)]
 mod declarations;
 #[cfg(test)]
 mod expressions;
@@ -15,7 +17,5 @@ mod names;
 mod references;
 #[cfg(test)]
 mod statements;
-#[cfg(test)]
-mod told;
 #[cfg(test)]
 mod units;

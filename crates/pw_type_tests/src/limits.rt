@@ -1,6 +1,6 @@
 //! The limits of a unit: each reached, and passed by one.
 
-use crate::told::{Row, agree, told};
+use crate::answer::{Row, agree, answer};
 use std::alloc::{AllocError, Global};
 use std::test::Fail;
 
@@ -48,24 +48,24 @@ fn push_many(text: &mut String, count: usize, part: &str) -> Result<(), AllocErr
     Ok(())
 }
 
-/// A text's front, a part so many times, and its end.
+/// The start of a text, a part so many times, and its end.
 fn with_many(
     alloc: Global,
-    front: &str,
+    start: &str,
     part: &str,
     count: usize,
     end: &str,
 ) -> Result<String, AllocError> {
     let mut text = String::new(alloc);
-    text.push_str(front)?;
+    text.push_str(start)?;
     push_many(&mut text, count, part)?;
     text.push_str(end)?;
     Ok(text)
 }
 
-/// A text's front, an expression that holds so many values, and its end.
-fn with_held(alloc: Global, front: &str, held: usize, end: &str) -> Result<String, AllocError> {
-    let mut text = with_many(alloc, front, "1 + (", held, "1")?;
+/// The start of a text, an expression that holds so many values, and its end.
+fn with_held(alloc: Global, start: &str, held: usize, end: &str) -> Result<String, AllocError> {
+    let mut text = with_many(alloc, start, "1 + (", held, "1")?;
     push_many(&mut text, held, ")")?;
     text.push_str(end)?;
     Ok(text)
@@ -104,10 +104,10 @@ fn a_function_has_at_most_120_parameters_and_locals(rt: HostRuntime) -> Result<(
             "Redeclared at line 1 token 605 of b",
         ),
     ];
-    for (front, count, end, expected) in rows {
-        let text = with_many(rt.alloc(), front, "{ long a; } ", count, end)?;
-        let told = told(&rt, rt.alloc(), text.as_str())?;
-        assert_eq!(rt; told.as_str(), expected, "{count} behind {front:?}");
+    for (start, count, end, expected) in rows {
+        let text = with_many(rt.alloc(), start, "{ long a; } ", count, end)?;
+        let answer = answer(&rt, rt.alloc(), text.as_str())?;
+        assert_eq!(rt; answer.as_str(), expected, "{count} after {start:?}");
     }
     Ok(())
 }
@@ -145,10 +145,10 @@ fn an_expression_holds_at_most_100_values(rt: HostRuntime) -> Result<(), Fail> {
             "TooDeep at line 1 token 414",
         ),
     ];
-    for (front, held, end, expected) in rows {
-        let text = with_held(rt.alloc(), front, held, end)?;
-        let told = told(&rt, rt.alloc(), text.as_str())?;
-        assert_eq!(rt; told.as_str(), expected, "{held} behind {front:?}");
+    for (start, held, end, expected) in rows {
+        let text = with_held(rt.alloc(), start, held, end)?;
+        let answer = answer(&rt, rt.alloc(), text.as_str())?;
+        assert_eq!(rt; answer.as_str(), expected, "{held} after {start:?}");
     }
     Ok(())
 }

@@ -1,6 +1,6 @@
 //! Faults of names.
 
-use crate::told::{Row, agree};
+use crate::answer::{Row, agree};
 use std::test::Fail;
 
 /// Names that are not visible, and static functions that are not defined.

@@ -1,6 +1,6 @@
 //! What a name means where it is used.
 
-use crate::told::{Row, push_bytes, typed};
+use crate::answer::{Row, push_bytes, typed};
 use pw_tree::{Ref, TKind, TStmt, TUnit};
 use std::alloc::{AllocError, Global};
 use std::test::Fail;

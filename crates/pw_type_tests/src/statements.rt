@@ -1,6 +1,6 @@
 //! Faults of statements.
 
-use crate::told::{Row, agree};
+use crate::answer::{Row, agree};
 use std::test::Fail;
 
 /// Statements that leave a function or a loop.

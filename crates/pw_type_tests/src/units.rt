@@ -1,6 +1,6 @@
 //! What typed units have.
 
-use crate::told::{Row, agree};
+use crate::answer::{Row, agree};
 use std::test::Fail;
 
 /// Texts without faults, and their functions, variables and external names.

@@ -7,7 +7,7 @@ use Rattle.pw_types.specs.Steps.Judging.{Judge}
 use Rattle.pw_types.specs.Steps.CheckingExpressions.{Valued}
 use Rattle.pw_types.specs.Steps.ResumingExpressions.{Gives, GivesWith}
 
--- judging p behind these uses is what q is behind others
+-- judging p after these uses is what q is after others
 pub given : (p q : Judge Valued) (old new : List ℕ) (result : Result Typed Refusal) → p old ≡ q new → Gives q result → GivesWith p old new result
 given p q old new (Ok t) same h = same ∙ ap (λ r. r new) h
 given p q old new (Err (refusals.Fault f)) same h = same ∙ ap (λ r. r new) h

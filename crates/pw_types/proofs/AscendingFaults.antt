@@ -1,4 +1,4 @@
--- The laws of the list of a unit's faults.
+-- The laws of the faults of a unit.
 use Rattle.std.proofs.Common.{◌≡◌, ℕ, ◌-◌, ◌≤◌, ◌<◌, List, [], ◌∷◌, length, map, arith, refl, sym, ap, subst, ◌∙◌, ◌⊎◌, inl, inr}
 use Rattle.std.specs.Prelude.{Some, All}
 use Rattle.std.proofs.lemmas.List.Elements.{All-nil, All-cons}
@@ -7,22 +7,25 @@ use Rattle.pw_tree.specs.Declarations.{Declaration, UntypedUnit}
 use Rattle.pw_tree.specs.Placed.{AreDeclarationsPlaced, IsParsed}
 use Rattle.pw_types.specs.declared.fault.Fault.{Fault}
 use Rattle.pw_types.specs.Faults.{first_of}
-use Rattle.pw_types.specs.Units.{files_behind, faults_of_declarations, faults_of}
-use Rattle.pw_types.specs.Nests.{Nested, walk, unit}
+use Rattle.pw_types.specs.Units.{files_after}
+use Rattle.pw_types.specs.Steps.UnitFaults.{faults_in_order}
+use Rattle.pw_types.specs.Steps.UnitFaults.{faults_of_declarations}
+use Rattle.pw_types.specs.Nests.{Nested, walk, unit, faults_of}
 use Rattle.pw_types.specs.Laws.{Precedes, FaultsAscend, FirstEndsFirst, FaultsAreWithin}
 use Rattle.pw_types.proofs.Standing.{Each, nil, cons, Sorted, sorted_pairs, Among, Orderly, walk_orderly, each_also}
 use Rattle.pw_types.proofs.Standing as standing
 use Rattle.pw_types.proofs.Gathering.{walk_is_flat}
 use Rattle.pw_types.proofs.StandingUnits.{unit_faults, unit_stands}
 
-walk_is : (u : UntypedUnit) → map (λ (m : Nested). m.fault) (walk 0 (unit u)) ≡ faults_of u
-walk_is u = walk_is_flat 0 (unit u) ∙ unit_faults u
+-- the checker meets them in their order
+pub faults_are : (u : UntypedUnit) → faults_of u ≡ faults_in_order u
+faults_are u = walk_is_flat 0 (unit u) ∙ unit_faults u
 
 orderly : (u : UntypedUnit) → IsParsed u → Orderly 0 0 (length u.lines - 1) (walk 0 (unit u))
 orderly u w = walk_orderly 0 (unit_stands u w)
 
 pub faults_ascend : FaultsAscend
-faults_ascend u w = (sym (walk_is u), sorted_pairs (orderly u w).sorted)
+faults_ascend u w = sorted_pairs (orderly u w).sorted
 
 -- ---- the first of them
 
@@ -44,8 +47,7 @@ first_is_least f (standing.cons {m = m} {ms = ms} h s) e =
     (each_fault (λ g. m.fault.at ≤ g.at) (each_also (λ n p. no_later m n p) h)))
 
 pub first_ends_first : FirstEndsFirst
-first_ends_first u f w e =
-    subst (All (λ g. f.at ≤ g.at)) (walk_is u) (first_is_least f (orderly u w).sorted (subst (λ fs. first_of fs ≡ Some f) (sym (walk_is u)) e))
+first_ends_first u f w e = first_is_least f (orderly u w).sorted e
 
 -- ---- where they are
 
@@ -55,16 +57,15 @@ unfolding AreDeclarationsPlaced
 no_declarations [] n e p = refl
 no_declarations (d ∷ ds) n e p = absurd (omega (arith, e, p.0.to))
 
-no_faults : (u : UntypedUnit) → u.declarations ≡ [] → faults_of u ≡ []
-unfolding faults_of_declarations files_behind
-no_faults u e = ap (λ ds. faults_of (record u { declarations = ds })) e
+no_faults : (u : UntypedUnit) → u.declarations ≡ [] → faults_in_order u ≡ []
+unfolding faults_of_declarations files_after
+no_faults u e = ap (λ ds. faults_in_order (record u { declarations = ds })) e
 
 within_or_none : (u : UntypedUnit) → IsParsed u → (length u.lines ≡ 0) ⊎ (0 < length u.lines) → All (λ f. f.at < length u.lines) (faults_of u)
 within_or_none u w (inl e) =
-    subst (All (λ f. f.at < length u.lines)) (sym (no_faults u (no_declarations u.declarations (length u.lines) e w.placed))) (All-nil _)
+    subst (All (λ f. f.at < length u.lines)) (sym (faults_are u ∙ no_faults u (no_declarations u.declarations (length u.lines) e w.placed))) (All-nil _)
 within_or_none u w (inr some) =
-    subst (All (λ f. f.at < length u.lines)) (walk_is u)
-    (each_fault (λ f. f.at < length u.lines) (each_also (λ m a. omega (arith, a.to)) (orderly u w).among))
+    each_fault (λ f. f.at < length u.lines) (each_also (λ m a. omega (arith, a.to)) (orderly u w).among)
 
 pub faults_are_within : FaultsAreWithin
 faults_are_within u w = within_or_none u w (eq-zero-or-pos (length u.lines))

@@ -6,7 +6,7 @@ use Rattle.pw_tree.specs.TypedExpressions.{TypedExpression, typed_expression_of}
 use Rattle.pw_tree.specs.Statements.{set}
 use Rattle.pw_tree.specs.Placed.{set_end, index_end}
 use Rattle.pw_tree.specs.TypedStatements.{TypedStatement}
-use Rattle.pw_tree.specs.TypedStatements as command
+use Rattle.pw_tree.specs.TypedStatements as tree
 use Rattle.pw_tree.specs.declared.ty.Ty.{Ty}
 use Rattle.pw_tree.specs.declared.ty.Ref.{Ref}
 use Rattle.pw_tree.specs.declared.texpr.TExpr.{TExpr}
@@ -24,19 +24,20 @@ use Rattle.pw_tree.specs.Types.{is_number}
 use Rattle.pw_types.specs.Faults.{broken, broken_by}
 use Rattle.pw_types.specs.Scopes.{Scope, Meaning, meaning}
 use Rattle.pw_tree.specs.Held.{held, held_by, held_element}
-use Rattle.pw_types.specs.Uses.{uses, uses_of_meaning}
+use Rattle.pw_types.specs.Steps.Uses.{uses, uses_of_meaning, uses_by}
 use Rattle.pw_types.specs.Typed.{typed, array_of_meaning, array_of_kind, array_named}
 use Rattle.pw_types.specs.Typed as typed_trees
-use Rattle.pw_types.specs.Expressions.{has_type, faults}
-use Rattle.pw_types.specs.Blocks.{uses_by}
-use Rattle.pw_types.specs.Statements.{faults_of_target, faults_of_array, faults_by, type_of_target, type_of_kind, holds_too_many, element_holds_too_many, is_unknown_target, has_other_index, set_element_holds_too_many}
+use Rattle.pw_types.specs.Expressions.{has_type}
+use Rattle.pw_types.specs.Steps.ExpressionFaults.{faults}
+use Rattle.pw_types.specs.Statements.{faults_of_target, faults_of_array, type_of_target, type_of_kind, holds_too_many, element_holds_too_many, is_unknown_target, has_other_index, set_element_holds_too_many}
+use Rattle.pw_types.specs.Steps.StatementFaults.{faults_by}
 use Rattle.pw_types.specs.TypedStatements.{typed_expression, typed_statement, assigned, element_assigned, bracket_line}
 use Rattle.pw_types.specs.Steps.CheckingStatements.{WalkResult, block_of, outcome_at, judged_at, setting_of}
 use Rattle.pw_types.specs.Steps.StatementValues.{Notes, IsValue}
 use Rattle.pw_types.specs.Steps.StatementTargets.{IsFile, IsLocal, IsArray, IsIndex, IsElementValue, faults_of_index, faults_of_element_value, holds_too_many_beside}
-use Rattle.pw_types.proofs.EnclosingStatements.{same, in_front, tree_is}
+use Rattle.pw_types.proofs.EnclosingStatements.{same, on_left, tree_is}
 use Rattle.pw_types.proofs.SimpleStatements.{noted}
-use Rattle.pw_types.proofs.Failing.{fails_in_front, fails_as}
+use Rattle.pw_types.proofs.Failing.{fails_on_left, fails_as}
 use Rattle.pw_types.specs.Steps.Refusals.{Fails}
 
 -- ---- what is noted by several
@@ -44,8 +45,8 @@ use Rattle.pw_types.specs.Steps.Refusals.{Fails}
 pub zero_held : (n : ℕ) → max 0 n ≡ n
 zero_held n = omega arith
 
-pub notes_behind : (us vs : List ℕ) (k : ℕ) (a b c : Walk) → Notes us 0 a b → Notes vs k b c → Notes (us ++ vs) k a c
-notes_behind us vs k a b c first second = record {
+pub notes_after : (us vs : List ℕ) (k : ℕ) (a b c : Walk) → Notes us 0 a b → Notes vs k b c → Notes (us ++ vs) k a c
+notes_after us vs k a b c first second = record {
   scope = second.scope ∙ first.scope;
   start = second.start ∙ first.start;
   count = second.count ∙ first.count;
@@ -56,7 +57,7 @@ notes_behind us vs k a b c first second = record {
 -- a statement that declares nothing, without faults
 pub comes_to : (f : List Fault) (c d : TypedStatement) (us vs : List ℕ) (old new : Walk)
     → f ≡ [] → c ≡ d → us ≡ vs → Notes vs (held_by d) old new
-    → let w : WalkResult = record { faults = f; command = c; used = old.used.items ++ us; held = max old.held (held_by c); block = block_of old } in
+    → let w : WalkResult = record { faults = f; typed = c; used = old.used.items ++ us; held = max old.held (held_by c); block = block_of old } in
     w ≡ judged_at d new
 comes_to f c d us vs old new none is uses notes =
     same none is (ap (λ (u : List ℕ). old.used.items ++ u) uses) (ap (λ (x : TypedStatement). max old.held (held_by x)) is) refl
@@ -71,17 +72,17 @@ faults_at scope ty e end = faults scope (roles.Assigned ty) e ++ broken rules.To
 pub sets_local : (x : Given) (old new : Walk) (at : Span) (name : List ℕ) (e : Expression) (n : ℕ) (ty : Ty) (t : TExpr)
     → faults_of_target old.scope name at.first ≡ [] → IsLocal old.scope name n ty
     → faults_at old.scope (Some ty) e (set_end x.in_head at) ≡ [] → IsValue e old new t
-    → outcome_at x old (set at name None e) ≡ judged_at (command.typed_statement_of (kinds.SetLocal n (Some t))) new
+    → outcome_at x old (set at name None e) ≡ judged_at (tree.typed_statement_of (kinds.SetLocal n (Some t))) new
 unfolding faults_by typed_statement uses_by held_by
 sets_local x old new at name e n ty t free target none value =
     let is = tree_is old.scope e (typed_expression_of t) value.tree in
     let value_faults : faults_at old.scope (type_of_target (meaning old.scope name)) e (set_end x.in_head at) ≡ [] =
     ap (λ (m : Meaning). faults_at old.scope (type_of_target m) e (set_end x.in_head at)) target.means
     ∙ (ap (λ (u : Ty). faults_at old.scope (Some u) e (set_end x.in_head at)) (sym target.type_is) ∙ none) in
-    comes_to _ (assigned old.scope (meaning old.scope name) (typed_expression old.scope e)) (command.set_local n (Some (typed_expression_of t))) _ (uses old.scope e) old new
-    (in_front free ∙ value_faults)
+    comes_to _ (assigned old.scope (meaning old.scope name) (typed_expression old.scope e)) (tree.set_local n (Some (typed_expression_of t))) _ (uses old.scope e) old new
+    (on_left free ∙ value_faults)
     (ap (λ (m : Meaning). assigned old.scope m (typed_expression old.scope e)) target.means
-    ∙ (ap (λ (k : ℕ). command.set_local k (Some (typed_expression old.scope e))) (sym target.number) ∙ ap (λ (v : TypedExpression). command.set_local n (Some v)) is))
+    ∙ (ap (λ (k : ℕ). tree.set_local k (Some (typed_expression old.scope e))) (sym target.number) ∙ ap (λ (v : TypedExpression). tree.set_local n (Some v)) is))
     (ap (λ (m : Meaning). uses_of_meaning old.scope m ++ uses old.scope e) target.means)
     value.notes
     ∙ ap (λ (c : TypedStatement). judged_at c new) (sym (command_of-SetLocal n (Some t)))
@@ -89,7 +90,7 @@ sets_local x old new at name e n ty t free target none value =
 pub sets_variable : (x : Given) (old mid new : Walk) (at : Span) (name : List ℕ) (e : Expression) (n : ℕ) (r : Ref) (ty : Ty) (t : TExpr)
     → faults_of_target old.scope name at.first ≡ [] → IsFile old.scope name n r ty None → Notes (n ∷ []) 0 old mid
     → faults_at mid.scope (Some ty) e (set_end x.in_head at) ≡ [] → IsValue e mid new t
-    → outcome_at x old (set at name None e) ≡ judged_at (command.typed_statement_of (kinds.SetVar r t)) new
+    → outcome_at x old (set at name None e) ≡ judged_at (tree.typed_statement_of (kinds.SetVar r t)) new
 unfolding faults_by typed_statement uses_by held_by
 sets_variable x old mid new at name e n r ty t free target note none value =
     let f = target.file in
@@ -98,18 +99,18 @@ sets_variable x old mid new at name e n r ty t free target note none value =
     let value_faults : faults_at old.scope (type_of_target (meaning old.scope name)) e (set_end x.in_head at) ≡ [] =
     ap (λ (u : Option Ty). faults_at old.scope u e (set_end x.in_head at)) kind
     ∙ (ap (λ (s : Scope). faults_at s (Some ty) e (set_end x.in_head at)) (sym note.scope) ∙ none) in
-    comes_to _ (assigned old.scope (meaning old.scope name) (typed_expression old.scope e)) (command.set_variable r (typed_expression_of t)) _ ((n ∷ []) ++ uses mid.scope e) old new
-    (in_front free ∙ value_faults)
+    comes_to _ (assigned old.scope (meaning old.scope name) (typed_expression old.scope e)) (tree.set_variable r (typed_expression_of t)) _ ((n ∷ []) ++ uses mid.scope e) old new
+    (on_left free ∙ value_faults)
     (ap (λ (m : Meaning). assigned old.scope m (typed_expression old.scope e)) target.means
-    ∙ (ap (λ (u : Ref). command.set_variable u (typed_expression old.scope e)) (sym target.reference) ∙ ap (λ (v : TypedExpression). command.set_variable r v) is))
+    ∙ (ap (λ (u : Ref). tree.set_variable u (typed_expression old.scope e)) (sym target.reference) ∙ ap (λ (v : TypedExpression). tree.set_variable r v) is))
     (ap (λ (m : Meaning). uses_of_meaning old.scope m ++ uses old.scope e) target.means
     ∙ (ap (λ (k : ℕ). k ∷ uses old.scope e) (sym target.number) ∙ ap (λ (s : Scope). n ∷ uses s e) (sym note.scope)))
-    (notes_behind (n ∷ []) (uses mid.scope e) (held (typed_expression_of t)) old mid new note value.notes)
+    (notes_after (n ∷ []) (uses mid.scope e) (held (typed_expression_of t)) old mid new note value.notes)
     ∙ ap (λ (c : TypedStatement). judged_at c new) (sym (command_of-SetVar r t))
 
 -- ---- an element
 
--- more than 100 values, where what the index holds is told up to 101
+-- more than 100 values, where what the index holds is counted up to 101
 pub capped : (h v : ℕ) → nat_lt 100 (max (min h 101) (1 + v)) ≡ nat_lt 100 (max h (1 + v))
 capped h v = grind (arith, nat_tests)
 
@@ -120,9 +121,9 @@ not_broken : (at : ℕ) (b : Bool) → broken rules.TooDeep at b ≡ [] → b �
 not_broken at true none = cc
 not_broken at false none = refl
 
-none_behind : (xs ys : List Fault) → xs ++ ys ≡ [] → ys ≡ []
-none_behind [] ys none = none
-none_behind (f ∷ xs) ys none = cc
+none_after : (xs ys : List Fault) → xs ++ ys ≡ [] → ys ≡ []
+none_after [] ys none = none
+none_after (f ∷ xs) ys none = cc
 
 none_before : (xs ys : List Fault) → xs ++ ys ≡ [] → xs ≡ []
 none_before [] ys none = refl
@@ -158,7 +159,7 @@ same_index : (scope : Scope) (at : Span) (name : List ℕ) (i : Expression) → 
     → faults_of_index_of scope at name i ≡ faults_of_index scope at i
 same_index scope at name i free =
     ap (λ (b : Bool). faults scope roles.Value i ++ broken rules.Operands (index_end at i) (b && has_type (λ t. not (is_number t)) (typed scope i)))
-    (is_there at.first (array_named scope name) (none_behind (broken_by rules.Unknown at.first name (is_unknown_target scope name)) _ free))
+    (is_there at.first (array_named scope name) (none_after (broken_by rules.Unknown at.first name (is_unknown_target scope name)) _ free))
 
 -- the faults of the value that an element of an array of this name is assigned
 abbrev rest_of_faults : Scope → List ℕ → Expression → Expression → ℕ → List Fault
@@ -197,8 +198,8 @@ module _ (x : Given) (old noted mid : Walk) (at : Span) (name : List ℕ) (i e :
   pub all_faults : faults_by (setting_of x) (block_of old) (set at name (Some i) e) ≡ rest_of_faults old.scope name i e (set_end x.in_head at)
   unfolding faults_by
   all_faults =
-      in_front p.free ∙ (sym (append_assoc (faults old.scope roles.Value i) _ _)
-      ∙ in_front (same_index old.scope at name i p.free ∙ (ap (λ (s : Scope). faults_of_index s at i) (sym p.note.scope) ∙ p.index_free)))
+      on_left p.free ∙ (sym (append_assoc (faults old.scope roles.Value i) _ _)
+      ∙ on_left (same_index old.scope at name i p.free ∙ (ap (λ (s : Scope). faults_of_index s at i) (sym p.note.scope) ∙ p.index_free)))
 
   pub value_fails : (stop : Refusal) → Fails (faults_of_element_value mid.scope index.held a.ty e (set_end x.in_head at)) stop
       → Fails (faults_by (setting_of x) (block_of old) (set at name (Some i) e)) stop
@@ -207,7 +208,7 @@ module _ (x : Given) (old noted mid : Walk) (at : Span) (name : List ℕ) (i e :
   pub sets_element : (new : Walk) (value : TExpr) (line : ℕ)
       → faults_of_element_value mid.scope index.held a.ty e (set_end x.in_head at) ≡ [] → IsElementValue index.held e mid new value
       → line ≡ slice_index_or x.lines.now (suc at.first) 0
-      → outcome_at x old (set at name (Some i) e) ≡ judged_at (command.typed_statement_of (kinds.SetElem a.reference a.size line index.tree value)) new
+      → outcome_at x old (set at name (Some i) e) ≡ judged_at (tree.typed_statement_of (kinds.SetElem a.reference a.size line index.tree value)) new
   unfolding typed_statement uses_by held_by
   sets_element new value line value_none value_is line_is =
       let it = typed_expression_of index.tree in
@@ -217,23 +218,23 @@ module _ (x : Given) (old noted mid : Walk) (at : Span) (name : List ℕ) (i e :
       let few : nat_lt 100 (max (min (held it) 101) (1 + held vt)) ≡ false =
       ap (λ (n : ℕ). nat_lt 100 (max n (1 + held vt))) (sym p.index_is.held)
       ∙ (sym (ap (holds_too_many_beside index.held) value_is.tree)
-      ∙ not_broken end _ (none_behind (faults mid.scope (roles.Assigned (Some a.ty)) e) _ value_none)) in
+      ∙ not_broken end _ (none_after (faults mid.scope (roles.Assigned (Some a.ty)) e) _ value_none)) in
       let most : max index.held (1 + held vt) ≡ held_element it vt =
       ap (λ (n : ℕ). max n (1 + held vt)) p.index_is.held ∙ exact (held it) (held vt) (sym (capped (held it) (held vt)) ∙ few) in
       comes_to _ (element_assigned (array_named old.scope name) (bracket_line (setting_of x) at) (typed_expression old.scope i) (typed_expression old.scope e))
-      (command.set_element a.reference a.size line it vt)
+      (tree.set_element a.reference a.size line it vt)
       _ ((a.number ∷ []) ++ (uses noted.scope i ++ uses mid.scope e)) old new
       (all_faults ∙ (sym (value_faults end) ∙ value_none))
       (ap (λ (o : Option typed_trees.Array). element_assigned o (bracket_line (setting_of x) at) (typed_expression old.scope i) (typed_expression old.scope e)) array
-      ∙ (ap (λ (l : ℕ). command.set_element a.reference a.size l (typed_expression old.scope i) (typed_expression old.scope e)) (sym line_is)
-      ∙ (ap (λ (v : TypedExpression). command.set_element a.reference a.size line v (typed_expression old.scope e)) (tree_is old.scope i it index_tree)
-      ∙ ap (λ (v : TypedExpression). command.set_element a.reference a.size line it v) (tree_is old.scope e vt value_tree))))
+      ∙ (ap (λ (l : ℕ). tree.set_element a.reference a.size l (typed_expression old.scope i) (typed_expression old.scope e)) (sym line_is)
+      ∙ (ap (λ (v : TypedExpression). tree.set_element a.reference a.size line v (typed_expression old.scope e)) (tree_is old.scope i it index_tree)
+      ∙ ap (λ (v : TypedExpression). tree.set_element a.reference a.size line it v) (tree_is old.scope e vt value_tree))))
       (ap (λ (m : Meaning). uses_of_meaning old.scope m ++ (uses old.scope i ++ uses old.scope e)) p.target.means
       ∙ (ap (λ (k : ℕ). k ∷ (uses old.scope i ++ uses old.scope e)) (sym p.target.number)
       ∙ (ap (λ (s : Scope). a.number ∷ (uses s i ++ uses old.scope e)) (sym p.note.scope)
       ∙ ap (λ (s : Scope). a.number ∷ (uses noted.scope i ++ uses s e)) (sym from))))
-      (notes_behind (a.number ∷ []) (uses noted.scope i ++ uses mid.scope e) (held_element it vt) old noted new p.note
-      (notes_behind (uses noted.scope i) (uses mid.scope e) (held_element it vt) noted mid new p.index_is.notes
+      (notes_after (a.number ∷ []) (uses noted.scope i ++ uses mid.scope e) (held_element it vt) old noted new p.note
+      (notes_after (uses noted.scope i) (uses mid.scope e) (held_element it vt) noted mid new p.index_is.notes
       (subst (λ (n : ℕ). Notes (uses mid.scope e) n mid new) most value_is.notes)))
       ∙ ap (λ (c : TypedStatement). judged_at c new) (sym (command_of-SetElem a.reference a.size line index.tree value))
 
@@ -243,5 +244,5 @@ pub index_fails : (x : Given) (old noted : Walk) (at : Span) (name : List ℕ) (
 unfolding faults_by
 index_fails x old noted at name i e us stop free note is =
     let here = fails_as _ _ stop (ap (λ (s : Scope). faults_of_index s at i) note.scope ∙ sym (same_index old.scope at name i free)) is in
-    fails_as _ _ stop (append_assoc (faults old.scope roles.Value i) _ _ ∙ sym (in_front free))
-    (fails_in_front (faults_of_index_of old.scope at name i) (rest_of_faults old.scope name i e (set_end x.in_head at)) stop here)
+    fails_as _ _ stop (append_assoc (faults old.scope roles.Value i) _ _ ∙ sym (on_left free))
+    (fails_on_left (faults_of_index_of old.scope at name i) (rest_of_faults old.scope name i e (set_end x.in_head at)) stop here)

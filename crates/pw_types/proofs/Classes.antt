@@ -8,7 +8,7 @@ use Rattle.pw_tree.specs.declared.operator.Un.{Un}
 use Rattle.pw_tree.specs.declared.operator.Un.TheVariants.{Neg, Plus, Not, Bang}
 use Rattle.pw_tree.specs.declared.operator.Bin.{Bin}
 use Rattle.pw_tree.specs.declared.operator.Bin.TheVariants.{Mul, Div, Rem, Add, Sub, Shl, Shr, Lt, Gt, Le, Ge, Eq, Ne, And, Xor, Or, AndAnd, OrOr}
-use Rattle.pw_tree.specs.Types.{is_number, is_void, is_pointer, is_unsigned, same_pointers, converts, common, Operation, on_numbers, arithmetic, shift, comparison, truth, equality, unary_type, binary_type, choice_type}
+use Rattle.pw_tree.specs.Types.{is_number, is_void, is_pointer, is_unsigned, same_pointers, converts, common, Operation, on_numbers, arithmetic, shift, comparison, truth_operation, equality, unary_type, binary_type, choice_type}
 use Rattle.pw_tree.specs.WellTypedExpressions.{Class, nothing, number, pointer, class_of, IsValue, OperandFits, OperandsFit}
 
 pub number_class : (ty : Ty) → is_number ty ≡ true → class_of ty ≡ number
@@ -114,8 +114,8 @@ shift_numbers a b o h = numbers_by shift a b o (is_number a) (is_number b) refl 
 comparison_numbers : (a b : Ty) (o : Operation) → on_numbers comparison a b ≡ Some o → OfNumbers a b o
 comparison_numbers a b o h = numbers_by comparison a b o (is_number a) (is_number b) refl refl (λ _. refl) h
 
-truth_class : (o : Operation) → Some truth ≡ Some o → class_of o.ty ≡ number
-truth_class o h = let e : truth ≡ o = cc in subst (λ (z : Operation). class_of z.ty ≡ number) e refl
+truth_class : (o : Operation) → Some truth_operation ≡ Some o → class_of o.ty ≡ number
+truth_class o h = let e : truth_operation ≡ o = cc in subst (λ (z : Operation). class_of z.ty ≡ number) e refl
 
 record EqualClasses (a b ty : Ty) : Type 0 where
   pub result : class_of ty ≡ number
@@ -125,7 +125,7 @@ record EqualClasses (a b ty : Ty) : Type 0 where
 number_value : (c : Class) → c ≡ number → IsValue c
 number_value c h = subst IsValue (sym h) tt
 
-equal_by : (a b : Ty) (o : Operation) (x : Bool) → same_pointers a b ≡ x → (if x then Some truth else on_numbers comparison a b) ≡ Some o →
+equal_by : (a b : Ty) (o : Operation) (x : Bool) → same_pointers a b ≡ x → (if x then Some truth_operation else on_numbers comparison a b) ≡ Some o →
     EqualClasses a b o.ty
 equal_by a b o true e h = record { result = truth_class o h; left = same_value a b e; right = sym (same_class a b e) }
 equal_by a b o false e h =

@@ -1,4 +1,4 @@
--- The functions and variables that a unit without faults defines: each stands among the names at file level with its kind and
+-- The functions and variables that a unit without faults defines: each stands among the names at file scope with its kind and
 -- linkage, and each name that is defined there is one of them.
 use Rattle.std.proofs.Common.{◌≡◌, ℕ, suc, ◌+◌, Bool, true, false, ◌||◌, ◌&&◌, not, cond, if◌then◌else◌, List, [], ◌∷◌, ◌++◌, map, Option, Some, None, refl, sym, ap, subst, ◌∙◌, arith, inl, inr, ◌⊎◌, bytes_eq, append_assoc}
 use Rattle.std.specs.Prelude.{⊤}
@@ -14,9 +14,10 @@ use Rattle.pw_types.specs.declared.names.File.{File}
 use Rattle.pw_types.specs.Faults.{broken, broken_by}
 use Rattle.pw_types.specs.Reserved.{is_reserved}
 use Rattle.pw_types.specs.Scopes.{file_named, with_file}
-use Rattle.pw_types.specs.Declarations.{is_external, is_extern, defines, kind_of, conflicts, first_of, declared_by, is_redefined, Whole, faults_of_declaration, elements_of, faults_of_parameters, parameters_in, is_definition_of_function, is_too_large, faults_of_form, file_scope}
-use Rattle.pw_types.specs.Units.{is_function, files_behind, faults_of_declarations}
-use Rattle.pw_types.proofs.Empty.{front_empty, back_empty}
+use Rattle.pw_types.specs.Declarations.{is_external, is_extern, defines, kind_of, conflicts, first_of, declared_by, is_redefined, Whole, elements_of, parameters_in, is_definition_of_function, is_too_large, file_scope}
+use Rattle.pw_types.specs.Steps.UnitFaults.{faults_of_declaration, faults_of_parameters, faults_of_form, faults_of_declarations}
+use Rattle.pw_types.specs.Units.{is_function, files_after}
+use Rattle.pw_types.proofs.Empty.{left_empty, right_empty}
 use Rattle.pw_types.proofs.NoFaults.{not_broken, not_broken_by}
 use Rattle.pw_types.proofs.KeyedFiles.{named}
 use Rattle.pw_types.proofs.SameKinds.{no_conflict_linkage, no_conflict_kind}
@@ -40,22 +41,22 @@ declares_well w files elements d none =
     let conflict = broken_by rules.Conflict d.declarator d.name (conflicts d (file_named d.name files)) in
     let large = broken rules.ArraySize d.declarator (is_too_large elements d) in
     let form = faults_of_form w.lines (file_scope w (declared_by d files)) d.form in
-    let b : reserved ++ (params ++ (conflict ++ (large ++ form))) ≡ [] = back_empty redeclared _ none in
-    let c : params ++ (conflict ++ (large ++ form)) ≡ [] = back_empty reserved _ b in
-    let e : conflict ++ (large ++ form) ≡ [] = back_empty params _ c in
-    let f : large ++ form ≡ [] = back_empty conflict _ e in
+    let b : reserved ++ (params ++ (conflict ++ (large ++ form))) ≡ [] = right_empty redeclared _ none in
+    let c : params ++ (conflict ++ (large ++ form)) ≡ [] = right_empty reserved _ b in
+    let e : conflict ++ (large ++ form) ≡ [] = right_empty params _ c in
+    let f : large ++ form ≡ [] = right_empty conflict _ e in
     record {
-      agrees = not_broken_by rules.Conflict d.declarator d.name (conflicts d (file_named d.name files)) (front_empty conflict (large ++ form) e);
+      agrees = not_broken_by rules.Conflict d.declarator d.name (conflicts d (file_named d.name files)) (left_empty conflict (large ++ form) e);
       first = not_broken_by rules.Redeclared d.name_at d.name (is_redefined d (file_named d.name files))
-          (front_empty redeclared (reserved ++ (params ++ (conflict ++ (large ++ form)))) none);
-      params = front_empty params (conflict ++ (large ++ form)) c;
-      large = not_broken rules.ArraySize d.declarator (is_too_large elements d) (front_empty large form f);
-      form = back_empty large form f;
+          (left_empty redeclared (reserved ++ (params ++ (conflict ++ (large ++ form)))) none);
+      params = left_empty params (conflict ++ (large ++ form)) c;
+      large = not_broken rules.ArraySize d.declarator (is_too_large elements d) (left_empty large form f);
+      form = right_empty large form f;
     }
 
 -- ---- entries
 
--- the definition of a function, as a name at file level
+-- the definition of a function, as a name at file scope
 abbrev pub function_entry : Declaration → DeclarationForm → List File
 function_entry d (definition result params body) = first_of d ∷ []
 function_entry d (prototype result params) = []
@@ -379,18 +380,18 @@ module _ (w : Whole) (elements : ℕ) (d : Declaration) (files : List File) (goo
 
 pub all_defined : (w : Whole) (files : List File) (elements : ℕ) (ds : List Declaration) (functions variables : List File) →
     faults_of_declarations w files elements ds ≡ [] → AreDefined files functions variables →
-    AreDefined (files_behind files ds) (functions ++ function_entries ds) (variables ++ variable_entries ds)
-unfolding faults_of_declarations files_behind
+    AreDefined (files_after files ds) (functions ++ function_entries ds) (variables ++ variable_entries ds)
+unfolding faults_of_declarations files_after
 all_defined w files elements [] functions variables none a =
     subst (λ l. AreDefined files l (variables ++ [])) (sym (append-nil functions))
     (subst (λ l. AreDefined files functions l) (sym (append-nil variables)) a)
 all_defined w files elements (d ∷ ds) functions variables none a =
-    let here = adds_by w elements d files (declares_well w files elements d (front_empty _ _ none)) functions variables a d.form refl in
+    let here = adds_by w elements d files (declares_well w files elements d (left_empty _ _ none)) functions variables a d.form refl in
     let f = function_entry d d.form in
     let v = variable_entry d d.form in
-    let later = all_defined w (declared_by d files) (elements + elements_of d) ds (functions ++ f) (variables ++ v) (back_empty _ _ none) here in
-    subst (λ l. AreDefined (files_behind (declared_by d files) ds) l (variables ++ (v ++ variable_entries ds))) (append_assoc functions f (function_entries ds))
-    (subst (λ l. AreDefined (files_behind (declared_by d files) ds) ((functions ++ f) ++ function_entries ds) l) (append_assoc variables v (variable_entries ds)) later)
+    let later = all_defined w (declared_by d files) (elements + elements_of d) ds (functions ++ f) (variables ++ v) (right_empty _ _ none) here in
+    subst (λ l. AreDefined (files_after (declared_by d files) ds) l (variables ++ (v ++ variable_entries ds))) (append_assoc functions f (function_entries ds))
+    (subst (λ l. AreDefined (files_after (declared_by d files) ds) ((functions ++ f) ++ function_entries ds) l) (append_assoc variables v (variable_entries ds)) later)
 
 -- at the start there are none
 pub none_defined : AreDefined [] [] []

@@ -6,7 +6,7 @@ use Rattle.pw_tree.specs.Expressions.{Span, Expression, expression_of}
 use Rattle.pw_tree.specs.TypedExpressions.{typed_expression_of}
 use Rattle.pw_tree.specs.Statements.{Statement, Statements, OptionalStatement, block, if_else, while_loop, do_loop, for_loop, nil, cons, absent, present, optional_statement, statement_of, statements_of}
 use Rattle.pw_tree.specs.TypedStatements.{TypedStatement}
-use Rattle.pw_tree.specs.TypedStatements as command
+use Rattle.pw_tree.specs.TypedStatements as tree
 use Rattle.pw_tree.specs.declared.expr.Expr.{Expr}
 use Rattle.pw_tree.specs.declared.stmt.Stmt.{Stmt}
 use Rattle.pw_tree.specs.declared.texpr.TExpr.{TExpr}
@@ -22,11 +22,11 @@ use Rattle.pw_types.specs.declared.statement_step.Outer.{Outer}
 use Rattle.pw_types.specs.declared.statement_step.StatementForm.{StatementForm}
 use Rattle.pw_types.specs.declared.statement_step.StatementForm.TheVariants as forms
 use Rattle.pw_types.specs.Blocks.{Setting, body, head, Block}
-use Rattle.pw_types.specs.Statements.{faults_of_whole, faults_of_option, faults_by}
-use Rattle.pw_types.specs.Steps.CheckingStatements.{WalkResult, outcome, block_of, outer_at, outcome_at, judged_at, setting_of, resumed_at, leave, behind_first_at, typed_maybe, block_at}
+use Rattle.pw_types.specs.Steps.StatementFaults.{faults_of_whole, faults_of_option, faults_by}
+use Rattle.pw_types.specs.Steps.CheckingStatements.{WalkResult, outcome, block_of, outer_at, outcome_at, judged_at, setting_of, resumed_at, leave, after_first_at, typed_maybe, block_at}
 use Rattle.pw_types.specs.Steps.StatementValues.{Notes, IsValue, IsMaybeValue, JudgesValue, JudgesMaybeValue}
 use Rattle.pw_types.proofs.EnclosingStatements.{tree_is, block_begins, block_of_none, if_begins, while_begins, do_begins, for_begins, for_begins_bare, for_goes_on, for_has_no_last}
-use Rattle.pw_types.proofs.Failing.{fails_of, fails_in_front}
+use Rattle.pw_types.proofs.Failing.{fails_of, fails_on_left}
 use Rattle.pw_types.specs.Steps.Refusals.{Fails}
 
 -- ---- values
@@ -44,7 +44,7 @@ maybe_value_fails role e old new stop is = fails_of {A = Option TExpr} (faults_o
 noted_block : (us : List ℕ) (k : ℕ) (old new : Walk) → Notes us k old new → block_of old ≡ block_of new
 noted_block us k old new notes = let a = notes.scope in let b = notes.start in let d = notes.count in cc
 
--- behind a condition
+-- after a condition
 pub noted_part : (y : Setting) (us : List ℕ) (k : ℕ) (old new : Walk) (s : Statement) → Notes us k old new
     → outcome y (block_of old) (old.used.items ++ us) (max old.held k) s ≡ outcome y (block_of new) new.used.items new.held s
 noted_part y us k old new s notes =
@@ -85,12 +85,12 @@ enters_while x x' o old new at c s t none value o_is x_is =
 pub if_fails : (x : Given) (old new : Walk) (at : Span) (c : Expression) (a : Statement) (d : OptionalStatement) (stop : Refusal) → JudgesValue roles.Value c old new (Err stop)
     → Fails (faults_by (setting_of x) (block_of old) (if_else at c a d)) stop
 unfolding faults_by
-if_fails x old new at c a d stop is = fails_in_front _ _ stop (value_fails roles.Value c old new stop is)
+if_fails x old new at c a d stop is = fails_on_left _ _ stop (value_fails roles.Value c old new stop is)
 
 pub while_fails : (x : Given) (old new : Walk) (at : Span) (c : Expression) (s : Statement) (stop : Refusal) → JudgesValue roles.Value c old new (Err stop)
     → Fails (faults_by (setting_of x) (block_of old) (while_loop at c s)) stop
 unfolding faults_by
-while_fails x old new at c s stop is = fails_in_front _ _ stop (value_fails roles.Value c old new stop is)
+while_fails x old new at c s stop is = fails_on_left _ _ stop (value_fails roles.Value c old new stop is)
 
 -- a part that is entered at once
 entered_at_once : (form : StatementForm) (o : Outer) (x x' y : Given) (old new : Walk) (s : Statement) → o ≡ outer_at x old → x' ≡ y
@@ -133,11 +133,11 @@ enters_block x x' o old at ss s rest done ss_is done_is o_is x_is =
     ∙ ap (λ (ts : List TStmt). block_at ts rest o (outcome_at x' (record old { start = o.visible }) (statement_of s))) (sym done_is)))))
 
 pub enters_no_block : (x : Given) (old : Walk) (at : Span) (ss : Statements) (done : List TStmt) → ss ≡ nil → done ≡ []
-    → outcome_at x old (block at ss) ≡ judged_at (command.typed_statement_of (kinds.Block done)) old
+    → outcome_at x old (block at ss) ≡ judged_at (tree.typed_statement_of (kinds.Block done)) old
 enters_no_block x old at ss done ss_is done_is =
     ap (λ (ts : Statements). outcome_at x old (block at ts)) ss_is
     ∙ (block_of_none (setting_of x) (block_of old) old.used.items old.held at
-    ∙ ap (λ (c : TypedStatement). judged_at c old) (sym (command_of-Block []) ∙ ap (λ (ts : List TStmt). command.typed_statement_of (kinds.Block ts)) (sym done_is)))
+    ∙ ap (λ (c : TypedStatement). judged_at c old) (sym (command_of-Block []) ∙ ap (λ (ts : List TStmt). tree.typed_statement_of (kinds.Block ts)) (sym done_is)))
 
 -- ---- `for`
 
@@ -160,34 +160,34 @@ enters_for x x' o old at m first c last s m_is o_is x_is =
     ∙ entered_at_once (forms.First c last s) o x x' (record x { in_head = true }) old (record old { start = o.visible }) (statement_of first) o_is x_is))
 
 pub enters_bare_for : (x : Given) (o : Outer) (old : Walk) (at : Span) (m : OptionalStatement) (c : Option Expression) (last : OptionalStatement) (s : Statement) → m ≡ absent → o ≡ outer_at x old
-    → outcome_at x old (for_loop at m c last s) ≡ behind_first_at o command.absent c last s (record old { start = o.visible })
+    → outcome_at x old (for_loop at m c last s) ≡ after_first_at o tree.absent c last s (record old { start = o.visible })
 enters_bare_for x o old at m c last s m_is o_is =
     ap (λ (l : OptionalStatement). outcome_at x old (for_loop at l c last s)) m_is
-    ∙ (for_begins_bare (setting_of x) (block_of old) old.used.items old.held at c last s (command.block command.nil)
-    ∙ ap (λ (p : Outer). behind_first_at p command.absent c last s (record old { start = p.visible })) (sym o_is))
+    ∙ (for_begins_bare (setting_of x) (block_of old) old.used.items old.held at c last s (tree.block tree.nil)
+    ∙ ap (λ (p : Outer). after_first_at p tree.absent c last s (record old { start = p.visible })) (sym o_is))
 
 pub goes_to_last : (o : Outer) (x' : Given) (old new : Walk) (first : Option TStmt) (c : Option Expression) (m : OptionalStatement) (last : Stmt) (s : Bor Stmt) (t : Option TExpr)
     → m ≡ present (statement_of last) → faults_of_option old.scope roles.Value c ≡ [] → IsMaybeValue c old new t → x' ≡ record o.setting { in_head = true }
-    → behind_first_at o (typed_maybe first) c m (statement_of s.now) old
+    → after_first_at o (typed_maybe first) c m (statement_of s.now) old
     ≡ resumed_at o (forms.Last first t s) (outcome_at x' new (statement_of last))
 goes_to_last o x' old new first c m last s t m_is none value x_is =
-    ap (λ (l : OptionalStatement). behind_first_at o (typed_maybe first) c l (statement_of s.now) old) m_is
-    ∙ (for_goes_on (setting_of o.setting) (leave o.start o.visible) (typed_maybe first) c (statement_of last) (statement_of s.now) (command.block command.nil)
+    ap (λ (l : OptionalStatement). after_first_at o (typed_maybe first) c l (statement_of s.now) old) m_is
+    ∙ (for_goes_on (setting_of o.setting) (leave o.start o.visible) (typed_maybe first) c (statement_of last) (statement_of s.now) (tree.block tree.nil)
     (block_of old) old.used.items old.held (option_map typed_expression_of t) none value.tree
     ∙ (ap (resumed_at o (forms.Last first t s)) (noted_part (head (setting_of o.setting)) _ _ old new (statement_of last) value.notes)
     ∙ ap (λ (z : Given). resumed_at o (forms.Last first t s) (outcome_at z new (statement_of last))) (sym x_is)))
 
 pub goes_to_body : (o : Outer) (x' : Given) (old new : Walk) (first : Option TStmt) (c : Option Expression) (m : OptionalStatement) (s : Stmt) (t : Option TExpr)
     → m ≡ absent → faults_of_option old.scope roles.Value c ≡ [] → IsMaybeValue c old new t → x' ≡ record o.setting { in_loop = true; in_head = false }
-    → behind_first_at o (typed_maybe first) c m (statement_of s) old
+    → after_first_at o (typed_maybe first) c m (statement_of s) old
     ≡ resumed_at o (forms.For first t None) (outcome_at x' new (statement_of s))
 goes_to_body o x' old new first c m s t m_is none value x_is =
-    ap (λ (l : OptionalStatement). behind_first_at o (typed_maybe first) c l (statement_of s) old) m_is
-    ∙ (for_has_no_last (setting_of o.setting) (leave o.start o.visible) (typed_maybe first) c (statement_of s) (command.block command.nil)
+    ap (λ (l : OptionalStatement). after_first_at o (typed_maybe first) c l (statement_of s) old) m_is
+    ∙ (for_has_no_last (setting_of o.setting) (leave o.start o.visible) (typed_maybe first) c (statement_of s) (tree.block tree.nil)
     (block_of old) old.used.items old.held (option_map typed_expression_of t) none value.tree
     ∙ (ap (resumed_at o (forms.For first t None)) (noted_part (body (setting_of o.setting)) _ _ old new (statement_of s) value.notes)
     ∙ ap (λ (z : Given). resumed_at o (forms.For first t None) (outcome_at z new (statement_of s))) (sym x_is)))
 
-pub for_fails : (o : Outer) (old new : Walk) (first : command.OptionalTypedStatement) (c : Option Expression) (last : OptionalStatement) (s : Statement) (stop : Refusal) → JudgesMaybeValue roles.Value c old new (Err stop)
-    → let w : WalkResult = behind_first_at o first c last s old in Fails w.faults stop
-for_fails o old new first c last s stop is = fails_in_front _ _ stop (maybe_value_fails roles.Value c old new stop is)
+pub for_fails : (o : Outer) (old new : Walk) (first : tree.OptionalTypedStatement) (c : Option Expression) (last : OptionalStatement) (s : Statement) (stop : Refusal) → JudgesMaybeValue roles.Value c old new (Err stop)
+    → let w : WalkResult = after_first_at o first c last s old in Fails w.faults stop
+for_fails o old new first c last s stop is = fails_on_left _ _ stop (maybe_value_fails roles.Value c old new stop is)

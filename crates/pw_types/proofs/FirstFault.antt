@@ -5,7 +5,7 @@ use Rattle.pw_tree.specs.Declarations.{UntypedUnit}
 use Rattle.pw_tree.specs.Placed.{IsParsed}
 use Rattle.pw_types.specs.declared.fault.Fault.{Fault}
 use Rattle.pw_types.specs.Faults.{first_of}
-use Rattle.pw_types.specs.Units.{faults_of}
+use Rattle.pw_types.specs.Nests.{faults_of}
 use Rattle.pw_types.proofs.AscendingFaults.{faults_are_within}
 
 -- what holds of all holds of the first

@@ -10,7 +10,7 @@ use Rattle.pw_tree.specs.TypedExpressions.{TypedExpression, TypedExpressions, ty
 use Rattle.pw_tree.specs.TypedExpressions as tree
 use Rattle.pw_tree.specs.Units.{TypedUnit}
 use Rattle.pw_tree.specs.Held.{count}
-use Rattle.pw_tree.specs.Placed.{span_of, behind, IsPlaced, ArePlaced}
+use Rattle.pw_tree.specs.Placed.{span_of, token_after, IsPlaced, ArePlaced}
 use Rattle.pw_tree.specs.Proper.{HasNumbers, HaveNumbers}
 use Rattle.pw_tree.specs.WellTypedExpressions.{Class, number, pointer, class_of, IsFunction, IsVariable, HasClass, Calls, CallsPointer, Points, ArgumentsFit, AreNumbers, HasFittingParts, IsKnown, ReadsKnown, HasSmallNumbers, Throughout, ThroughoutAll, expressions_in, expressions_in_all}
 use Rattle.pw_types.specs.declared.names.Kind.TheVariants.{Function, Variable}
@@ -18,7 +18,7 @@ use Rattle.pw_types.specs.declared.names.File.{File}
 use Rattle.pw_types.specs.declared.names.Local.{Local}
 use Rattle.pw_types.specs.Scopes.{Scope, Meaning, missing, a_local, declared, meaning, local_or, local_named, file_named, declared_or_missing, function_reference, variable_reference}
 use Rattle.pw_types.specs.Typed.{mark, constant_type}
-use Rattle.pw_types.specs.Uses.{file_number, uses_of_meaning, uses, uses_of_all}
+use Rattle.pw_types.specs.Steps.Uses.{file_number, uses_of_meaning, uses, uses_of_all}
 use Rattle.pw_types.proofs.KeyedFiles.{named}
 use Rattle.pw_types.proofs.StandingExpressions.{placed_within}
 use Rattle.pw_types.proofs.Classes.{number_class, value_class, converted_class, unary_classes, binary_classes, choice_classes}
@@ -73,7 +73,7 @@ pub record LocalsFit (classes : List Class) (known : List ℕ) (scope : Scope) :
   pub classes_are : (name : List ℕ) (l : Local) → local_named name scope.locals ≡ Some l → slice_get classes l.number ≡ Some (class_of l.ty)
   pub known_are : (name : List ℕ) (l : Local) → local_named name scope.locals ≡ Some l → IsKnown known l.number
 
--- The names at file level that are used are those of the unit's functions and variables.
+-- The names at file scope that are used are those of the unit's functions and variables.
 pub record FilesFit (unit : TypedUnit) (used : List ℕ) (scope : Scope) : Type 0 where
   pub function : (f : File) (sig : Sig) → file_named f.name scope.files ≡ Some f → f.kind ≡ Function sig →
       IsAmong used (file_number f.name scope.files) → IsFunction unit (function_reference scope f) sig
@@ -249,7 +249,7 @@ mutual
   unfolding expressions_in IsPlaced
 
   pub expression_counted : {scope : Scope} {e : Expression} {t : TypedExpression} (low high : ℕ) → Sound scope e t → IsPlaced low high e →
-      expressions_in t + (span_of e).first ≤ behind e
+      expressions_in t + (span_of e).first ≤ token_after e
   expression_counted low high (sound_constant at value unsigned) p = omega (arith, p.some)
   expression_counted low high (sound_local at name l is) p = omega (arith, p.some)
   expression_counted low high (sound_variable at name f ty is kind) p = omega (arith, p.some)

@@ -21,17 +21,18 @@ use Rattle.pw_types.specs.declared.names.Kind.TheVariants.{Function}
 use Rattle.pw_types.specs.declared.names.File.{File}
 use Rattle.pw_types.specs.declared.names.Local.{Local}
 use Rattle.pw_types.specs.Scopes.{Scope, local_named}
-use Rattle.pw_types.specs.Blocks.{Setting, part, body, head, Block, inner, behind, behind_maybe, locals_in, locals_in_all, locals_in_maybe, uses_by_all}
-use Rattle.pw_types.specs.Statements.{faults_by_all}
-use Rattle.pw_types.specs.Declarations.{signature, local_of, locals_of, faults_of_parameters, outermost, setting, Whole, file_scope}
+use Rattle.pw_types.specs.Blocks.{Setting, part, body, head, Block, inner, after, after_maybe, locals_in, locals_in_all, locals_in_maybe}
+use Rattle.pw_types.specs.Steps.Uses.{uses_by_all}
+use Rattle.pw_types.specs.Steps.StatementFaults.{faults_by_all}
+use Rattle.pw_types.specs.Declarations.{signature, local_of, locals_of, outermost, setting, Whole, file_scope}
+use Rattle.pw_types.specs.Steps.UnitFaults.{faults_of_parameters}
 use Rattle.pw_types.specs.Units.{typed_function}
 use Rattle.pw_types.specs.Steps.Texts.{HasText}
 use Rattle.pw_types.proofs.Parameters.{few_parameters}
 use Rattle.pw_types.proofs.Fitting.{AreAmong, LocalsFit, FilesFit}
 use Rattle.pw_types.proofs.SoundStatements.{IsSound, AreSound, IsMaybeSound, statements_sound}
 use Rattle.pw_types.proofs.SoundShapes.{AreSmallLines, all_leave_loops, all_simple_parts, all_small_numbers, all_few_held, all_counted}
-use Rattle.pw_types.proofs.SoundLocals.{types_in, types_in_all, types_in_maybe, all_types_count, HaveClasses, have_left, have_right, classes_from, count_behind, count_behind_maybe, Place, last_proper, all_flow}
-use Rattle.pw_types.proofs.FittingUnits.{signature_of}
+use Rattle.pw_types.proofs.SoundLocals.{types_in, types_in_all, types_in_maybe, all_types_count, HaveClasses, have_left, have_right, classes_from, count_after, count_after_maybe, Place, last_proper, all_flow}
 
 -- ---- how many locals
 
@@ -45,16 +46,16 @@ mutual
   bounded x b (set at name i e) h few = omega arith
   bounded x b (evaluate at e) h few = omega arith
   bounded x b (if_else at c a d) h few =
-      let n = count_behind b a in
-      let m : (behind a b).count ≤ 120 = omega (arith, n, bounded (part x) b a h.1 few) in
-      omega (arith, n, maybe_bounded (part x) (behind a b) d h.2 m)
+      let n = count_after b a in
+      let m : (after a b).count ≤ 120 = omega (arith, n, bounded (part x) b a h.1 few) in
+      omega (arith, n, maybe_bounded (part x) (after a b) d h.2 m)
   bounded x b (while_loop at c s) h few = bounded (body x) b s h.1 few
   bounded x b (do_loop at s c) h few = bounded (body x) b s h.0 few
   bounded x b (for_loop at first c last s) h few =
-      let b1 : Block = behind_maybe first (inner b) in
-      let b2 : Block = behind_maybe last b1 in
-      let n1 : b1.count ≡ b.count + locals_in_maybe first = count_behind_maybe (inner b) first in
-      let n2 : b2.count ≡ b1.count + locals_in_maybe last = count_behind_maybe b1 last in
+      let b1 : Block = after_maybe first (inner b) in
+      let b2 : Block = after_maybe last b1 in
+      let n1 : b1.count ≡ b.count + locals_in_maybe first = count_after_maybe (inner b) first in
+      let n2 : b2.count ≡ b1.count + locals_in_maybe last = count_after_maybe b1 last in
       let m1 : b1.count ≤ 120 = omega (arith, n1, maybe_bounded (head x) (inner b) first h.0 few) in
       let m2 : b2.count ≤ 120 = omega (arith, n2, maybe_bounded (head x) b1 last h.2 m1) in
       omega (arith, n1, n2, bounded (body x) b2 s h.3 m2)
@@ -65,9 +66,9 @@ mutual
   all_bounded : (x : Setting) (b : Block) (ss : Statements) → AreSound x b ss → b.count ≤ 120 → b.count + locals_in_all ss ≤ 120
   all_bounded x b nil h few = omega arith
   all_bounded x b (cons s ss) h few =
-      let n = count_behind b s in
-      let m : (behind s b).count ≤ 120 = omega (arith, n, bounded x b s h.0 few) in
-      omega (arith, n, all_bounded x (behind s b) ss h.1 m)
+      let n = count_after b s in
+      let m : (after s b).count ≤ 120 = omega (arith, n, bounded x b s h.0 few) in
+      omega (arith, n, all_bounded x (after s b) ss h.1 m)
 
   maybe_bounded : (x : Setting) (b : Block) (s : OptionalStatement) → IsMaybeSound x b s → b.count ≤ 120 → b.count + locals_in_maybe s ≤ 120
   maybe_bounded x b absent h few = omega arith
@@ -217,7 +218,7 @@ module _ (unit : TypedUnit) (used : List ℕ) (w : Whole) (files : List File) (d
       (have_right classes 0 (length params) types (types_in_all ss) (omega (arith, count_types)) (classes_from [] locals 0 refl)) u proper sound in
       let counted = all_counted x b ss (suc d.declarator) d.last (omega arith) (omega arith) refl placed sound in
       record {
-        signature = signature_of (Function (signature result params)) (signature result params) refl text;
+        signature = text;
         line = line;
         few_locals = all_bounded x b ss sound (omega arith);
         few_held = all_few_held x b ss sound;
@@ -227,7 +228,7 @@ module _ (unit : TypedUnit) (used : List ℕ) (w : Whole) (files : List File) (d
         classes = classes;
         are_classes = record {
           each = omega (arith, length-map locals class_of, length-append types (types_in_all ss), count_types, all_types_count ss);
-          values = value_classes locals (both_values types (types_in_all ss) text.1 (all_value_types ss proper));
+          values = value_classes locals (both_values types (types_in_all ss) text.params (all_value_types ss proper));
           parameters = taken types (types_in_all ss);
         };
         fits = flow.fits;

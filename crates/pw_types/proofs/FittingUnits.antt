@@ -1,4 +1,4 @@
--- What names at file level mean in the typed unit of a unit without faults: its functions and variables by number, and the
+-- What names at file scope mean in the typed unit of a unit without faults: its functions and variables by number, and the
 -- external names by their texts.
 use Rattle.std.proofs.Common.{◌≡◌, ℕ, zero, suc, ◌+◌, ◌-◌, ◌≤◌, Bool, true, false, ◌||◌, ◌&&◌, not, cond, if◌then◌else◌, List, [], ◌∷◌, ◌++◌, length, map, find, Option, Some, None, is_some, refl, sym, ap, subst, ◌∙◌, arith, inl, inr, ◌⊎◌, bytes_eq}
 use Rattle.std.specs.Prelude.{⊤, option_and_then, slice_get, nat_eq}
@@ -22,9 +22,11 @@ use Rattle.pw_types.specs.declared.names.Kind.TheVariants.{Function, Variable}
 use Rattle.pw_types.specs.declared.names.File.{File}
 use Rattle.pw_types.specs.Faults.{broken_by}
 use Rattle.pw_types.specs.Scopes.{Scope, file_named, number_of, function_reference, variable_reference}
-use Rattle.pw_types.specs.Uses.{file_number}
+use Rattle.pw_types.specs.Steps.Uses.{file_number, is_kept_by_number, names_by_number, uses_of_declarations}
 use Rattle.pw_types.specs.Declarations.{Whole, file_scope, is_external, is_extern, defines, kind_of, first_of, declared_by}
-use Rattle.pw_types.specs.Units.{function_in, variable_in, without, each_once, functions_of, variables_of, whole_of, files_behind, is_function, lacks_definition, faults_of_lacking, typed_functions_of, typed_variable, typed_variables_of, typed_functions, typed_variables, text_of_kind, is_kept, external_names, uses_of_declarations, faults_of, faults_of_declarations, typed_unit}
+use Rattle.pw_types.specs.Units.{function_in, variable_in, without, each_once, functions_of, variables_of, whole_of, files_after, is_function, lacks_definition, faults_of_lacking, typed_functions_of, typed_variable, typed_variables_of, typed_functions, typed_variables, text_of_kind}
+use Rattle.pw_types.specs.Steps.CheckingUnits.{unit_by_number}
+use Rattle.pw_types.specs.Steps.UnitFaults.{faults_of_declarations}
 use Rattle.pw_types.specs.Steps.Texts.{HasText, HaveTexts}
 use Rattle.pw_types.proofs.Fitting.{IsAmong, FilesFit}
 use Rattle.pw_types.proofs.JoinedFiles.{bytes_same, names_of, Stays, stays}
@@ -55,40 +57,40 @@ stays_further name f old new last s t = record {
   still_defined = λ d. t.still_defined (s.still_defined d);
 }
 
-stays_behind : (name : List ℕ) (f : File) (files : List File) (ds : List Declaration) → file_named name files ≡ Some f → Stays name f files (files_behind files ds)
-unfolding files_behind
-stays_behind name f files [] h = stays_itself name f files h
-stays_behind name f files (d ∷ ds) h =
+pub stays_after : (name : List ℕ) (f : File) (files : List File) (ds : List Declaration) → file_named name files ≡ Some f → Stays name f files (files_after files ds)
+unfolding files_after
+stays_after name f files [] h = stays_itself name f files h
+stays_after name f files (d ∷ ds) h =
     let s = stays name f (first_of d) files h in
-    stays_further name f files (declared_by d files) (files_behind (declared_by d files) ds) s
-    (stays_behind name s.now (declared_by d files) ds s.there)
+    stays_further name f files (declared_by d files) (files_after (declared_by d files) ds) s
+    (stays_after name s.now (declared_by d files) ds s.there)
 
 module _ (w : Whole) (unit : TypedUnit) (used : List ℕ) (files : List File) (ds : List Declaration)
-    (fit : FilesFit unit used (file_scope w (files_behind files ds))) where
+    (fit : FilesFit unit used (file_scope w (files_after files ds))) where
   same_function : (f g : File) → f.name ≡ g.name → f.external ≡ g.external →
-      function_reference (file_scope w (files_behind files ds)) f ≡ function_reference (file_scope w files) g
+      function_reference (file_scope w (files_after files ds)) f ≡ function_reference (file_scope w files) g
   same_function f g n e = λ i. if e i then Global (n i) else LocalFun (number_of (n i) w.functions)
 
   same_variable : (f g : File) → f.name ≡ g.name → f.external ≡ g.external →
-      variable_reference (file_scope w (files_behind files ds)) f ≡ variable_reference (file_scope w files) g
+      variable_reference (file_scope w (files_after files ds)) f ≡ variable_reference (file_scope w files) g
   same_variable f g n e = λ i. if e i then Global (n i) else LocalVar (number_of (n i) w.variables)
 
-  own_there : (f : File) (s : Stays f.name f files (files_behind files ds)) → file_named s.now.name (files_behind files ds) ≡ Some s.now
-  own_there f s = subst (λ n. file_named n (files_behind files ds) ≡ Some s.now) (sym s.same_name) s.there
+  own_there : (f : File) (s : Stays f.name f files (files_after files ds)) → file_named s.now.name (files_after files ds) ≡ Some s.now
+  own_there f s = subst (λ n. file_named n (files_after files ds) ≡ Some s.now) (sym s.same_name) s.there
 
-  own_number : (f : File) (s : Stays f.name f files (files_behind files ds)) → IsAmong used (file_number f.name files) → IsAmong used (file_number s.now.name (files_behind files ds))
+  own_number : (f : File) (s : Stays f.name f files (files_after files ds)) → IsAmong used (file_number f.name files) → IsAmong used (file_number s.now.name (files_after files ds))
   own_number f s u =
-      subst (λ n. IsAmong used (file_number n (files_behind files ds))) (sym s.same_name) (subst (IsAmong used) (sym s.same_number) u)
+      subst (λ n. IsAmong used (file_number n (files_after files ds))) (sym s.same_name) (subst (IsAmong used) (sym s.same_number) u)
 
   -- names fit at each moment
   pub fit_before : FilesFit unit used (file_scope w files)
   fit_before = record {
     function = λ f sig there kind u.
-        let s = stays_behind f.name f files ds there in
+        let s = stays_after f.name f files ds there in
         subst (λ r. IsFunction unit r sig) (same_function s.now f s.same_name s.same_linkage)
         (fit.function s.now sig (own_there f s) (s.same_kind ∙ kind) (own_number f s u));
     variable = λ f ty size there kind u.
-        let s = stays_behind f.name f files ds there in
+        let s = stays_after f.name f files ds there in
         subst (λ r. IsVariable unit r (record { ty = ty; size = size })) (same_variable s.now f s.same_name s.same_linkage)
         (fit.variable s.now ty size (own_there f s) (s.same_kind ∙ kind) (own_number f s u));
   }
@@ -258,20 +260,14 @@ kept_by true false false p (inl q) = cc
 kept_by true false false p (inr q) = cc
 kept_by false d l p q = cc
 
-signature_by : (sig : Sig) → HasText (Function sig) → IsSignature sig
-signature_by sig h = record { result = h.0; params = h.1; few = h.2 }
-
-pub signature_of : (k : Kind) (sig : Sig) → k ≡ Function sig → HasText k → IsSignature sig
-signature_of k sig is h = signature_by sig (subst HasText is h)
-
-module _ (u : UntypedUnit) (texts : HaveTexts (files_behind [] u.declarations))
-    (lacking : find lacks_definition (files_behind [] u.declarations) ≡ None)
-    (a : AreDefined (files_behind [] u.declarations) (function_entries u.declarations) (variable_entries u.declarations)) where
+module _ (u : UntypedUnit) (texts : HaveTexts (files_after [] u.declarations))
+    (lacking : find lacks_definition (files_after [] u.declarations) ≡ None)
+    (a : AreDefined (files_after [] u.declarations) (function_entries u.declarations) (variable_entries u.declarations)) where
   abbrev w : Whole
   w = whole_of u
 
   abbrev final : List File
-  final = files_behind [] u.declarations
+  final = files_after [] u.declarations
 
   abbrev used : List ℕ
   used = uses_of_declarations w [] u.declarations
@@ -296,7 +292,7 @@ module _ (u : UntypedUnit) (texts : HaveTexts (files_behind [] u.declarations))
 
   external_text : (name : List ℕ) (f : File) → file_named name final ≡ Some f → f.external ≡ true →
       (f.defined ≡ true) ⊎ (list_any (λ n. nat_eq n (0 + file_number name final)) used ≡ true) →
-      text_named name (external_names used 0 final) ≡ Some (text_of_kind f.kind)
+      text_named name (names_by_number used 0 final) ≡ Some (text_of_kind f.kind)
   external_text name f there external why = text_of_name used name 0 f final there (kept_by f.external f.defined _ external why)
 
   use_at : (name : List ℕ) → IsAmong used (file_number name final) → list_any (λ n. nat_eq n (0 + file_number name final)) used ≡ true
@@ -337,21 +333,21 @@ module _ (u : UntypedUnit) (texts : HaveTexts (files_behind [] u.declarations))
       ∙ (λ j. Some (record { ty = ty_is j; size = size_is j }))
 
   function_by : (f : File) (sig : Sig) (b : Bool) → f.external ≡ b → file_named f.name final ≡ Some f → f.kind ≡ Function sig →
-      IsAmong used (file_number f.name final) → NamesFunction (typed_unit u) (if b then Global f.name else LocalFun (number_of f.name w.functions)) sig
+      IsAmong used (file_number f.name final) → NamesFunction (unit_by_number u) (if b then Global f.name else LocalFun (number_of f.name w.functions)) sig
   function_by f sig true is there kind h = external_text f.name f there is (inr (use_at f.name h)) ∙ ap (λ k. Some (text_of_kind k)) kind
   function_by f sig false is there kind h = static_function f sig there kind is
 
   variable_by : (f : File) (ty : Ty) (size : Option ℕ) (b : Bool) → f.external ≡ b → file_named f.name final ≡ Some f → f.kind ≡ Variable ty size →
       IsAmong used (file_number f.name final) →
-      NamesVariable (typed_unit u) (if b then Global f.name else LocalVar (number_of f.name w.variables)) (record { ty = ty; size = size })
+      NamesVariable (unit_by_number u) (if b then Global f.name else LocalVar (number_of f.name w.variables)) (record { ty = ty; size = size })
   variable_by f ty size true is there kind h = external_text f.name f there is (inr (use_at f.name h)) ∙ ap (λ k. Some (text_of_kind k)) kind
   variable_by f ty size false is there kind h = static_variable f ty size there kind is
 
-  -- At the end, names at file level mean the unit's functions and variables.
-  pub fit_at_end : FilesFit (typed_unit u) used (file_scope w final)
+  -- At the end, names at file scope mean the unit's functions and variables.
+  pub fit_at_end : FilesFit (unit_by_number u) used (file_scope w final)
   fit_at_end = record {
     function = λ f sig there kind h. record {
-      types = signature_of f.kind sig kind (text_of_file f.name final f texts there);
+      types = subst HasText kind (text_of_file f.name final f texts there);
       names = function_by f sig f.external refl there kind h;
     };
     variable = λ f ty size there kind h.
@@ -359,21 +355,21 @@ module _ (u : UntypedUnit) (texts : HaveTexts (files_behind [] u.declarations))
         record { type = t.0; size = t.1; names = variable_by f ty size f.external refl there kind h };
   }
 
-  function_is_named : (g : TypedFunction) → StandsIn final (entry_of_function g) → FunctionIsNamed (external_names used 0 final) g
+  function_is_named : (g : TypedFunction) → StandsIn final (entry_of_function g) → FunctionIsNamed (names_by_number used 0 final) g
   function_is_named g s external =
       external_text g.name s.file s.there (sym s.linkage ∙ external) (inl s.defined) ∙ ap (λ k. Some (text_of_kind k)) (sym s.kind)
 
-  variable_is_named : (x : TVar) → StandsIn final (entry_of_variable x) → VariableIsNamed (external_names used 0 final) x
+  variable_is_named : (x : TVar) → StandsIn final (entry_of_variable x) → VariableIsNamed (names_by_number used 0 final) x
   variable_is_named x s external =
       external_text x.name s.file s.there (sym s.linkage ∙ external) (inl s.defined) ∙ ap (λ k. Some (text_of_kind k)) (sym s.kind)
 
   pub functions_named : (gs : List TypedFunction) → AllByRecursion (StandsIn final) (map entry_of_function gs) →
-      AllByRecursion (FunctionIsNamed (external_names used 0 final)) gs
+      AllByRecursion (FunctionIsNamed (names_by_number used 0 final)) gs
   functions_named [] h = tt
   functions_named (g ∷ gs) h = (function_is_named g h.0, functions_named gs h.1)
 
   pub variables_named : (xs : List TVar) → AllByRecursion (StandsIn final) (map entry_of_variable xs) →
-      AllByRecursion (VariableIsNamed (external_names used 0 final)) xs
+      AllByRecursion (VariableIsNamed (names_by_number used 0 final)) xs
   variables_named [] h = tt
   variables_named (x ∷ xs) h = (variable_is_named x h.0, variables_named xs h.1)
 

@@ -27,12 +27,13 @@ use Rattle.pw_types.specs.declared.names.File.{File}
 use Rattle.pw_types.specs.Faults.{broken, broken_by}
 use Rattle.pw_types.specs.Scopes.{Scope, Meaning, missing, a_local, declared, meaning, function_reference}
 use Rattle.pw_types.specs.Typed.{Designated, function_named, function_of_meaning, function_of_kind}
-use Rattle.pw_types.specs.Uses.{uses_of_meaning, uses_of_name, file_number}
+use Rattle.pw_types.specs.Steps.Uses.{uses_of_meaning, uses_of_name, file_number, uses_of_element, uses_of_elements, uses_of_initialiser}
 use Rattle.pw_types.specs.Declarations as declarations
-use Rattle.pw_types.specs.Declarations.{is_extern, defines, elements_of_form, elements_of, is_too_large, points_to, does_not_initialise, name_in, is_unknown_name, is_wrong_element, faults_of_element, faults_of_elements, faults_of_initialiser, uses_of_element, uses_of_elements, uses_of_initialiser, Whole, file_scope, declared_by, faults_of_declaration}
-use Rattle.pw_types.specs.Units.{designated_or, element_of, elements_in, typed_variable, typed_variables_of, typed_variables, faults_of_declarations}
+use Rattle.pw_types.specs.Declarations.{is_extern, defines, elements_of_form, elements_of, is_too_large, points_to, does_not_initialise, name_in, is_unknown_name, is_wrong_element, faults_of_element, Whole, file_scope, declared_by}
+use Rattle.pw_types.specs.Steps.UnitFaults.{faults_of_elements, faults_of_initialiser, faults_of_declaration, faults_of_declarations}
+use Rattle.pw_types.specs.Units.{designated_or, element_of, elements_in, typed_variable, typed_variables_of, typed_variables}
 use Rattle.pw_types.specs.Steps.Texts.{HasText}
-use Rattle.pw_types.proofs.Empty.{front_empty, back_empty}
+use Rattle.pw_types.proofs.Empty.{left_empty, right_empty}
 use Rattle.pw_types.proofs.NoFaults.{or_left, or_right, not_broken}
 use Rattle.pw_types.proofs.Fitting.{IsAmong, AreAmong, among_left, among_right, own_file, FilesFit}
 use Rattle.pw_types.proofs.SameKinds.{same_type_is}
@@ -84,12 +85,12 @@ module _ (unit : TypedUnit) (used : List ℕ) (scope : Scope) (fit : FilesFit un
   unfolding faults_of_elements uses_of_elements
   elements_fit size n [] few none small u = (omega arith, tt)
   elements_fit size n (item ∷ items) few none small u =
-      let own : faults_of_element scope ty size n item ≡ [] = front_empty _ _ none in
+      let own : faults_of_element scope ty size n item ≡ [] = left_empty _ _ none in
       let wrong : is_wrong_element scope ty size n item.kind ≡ false =
       not_broken rules.Initialiser item.last (is_wrong_element scope ty size n item.kind)
-      (back_empty (broken_by rules.Unknown item.last (name_in item.kind) (is_unknown_name scope item.kind)) _ own) in
+      (right_empty (broken_by rules.Unknown item.last (name_in item.kind) (is_unknown_name scope item.kind)) _ own) in
       let less : n < size = within size n (or_right _ _ wrong) in
-      let later = elements_fit size (suc n) items less (back_empty (faults_of_element scope ty size n item) _ none) small.1
+      let later = elements_fit size (suc n) items less (right_empty (faults_of_element scope ty size n item) _ none) small.1
       (among_right used (uses_of_element scope item.kind) (uses_of_elements scope items) u) in (
         omega (arith, later.0),
         (one_element item.kind small.0 (or_left _ _ wrong) (among_left used (uses_of_element scope item.kind) (uses_of_elements scope items) u), later.1),
@@ -145,9 +146,9 @@ pub few_elements : (w : Whole) (files : List File) (elements : ℕ) (ds : List D
 unfolding typed_variables faults_of_declarations
 few_elements w files elements [] few none = omega arith
 few_elements w files elements (d ∷ ds) few none =
-    let g = declares_well w files elements d (front_empty (faults_of_declaration w files elements d) _ none) in
+    let g = declares_well w files elements d (left_empty (faults_of_declaration w files elements d) _ none) in
     let now : elements + elements_of d ≤ 262144 = few_by elements (elements_of d) _ few g.large in
-    let later = few_elements w (declared_by d files) (elements + elements_of d) ds now (back_empty (faults_of_declaration w files elements d) _ none) in
+    let later = few_elements w (declared_by d files) (elements + elements_of d) ds now (right_empty (faults_of_declaration w files elements d) _ none) in
     let here : sum_by (λ (x : TVar). room x.count) (typed_variables_of w (declared_by d files) d d.form) ≡ elements_of d = elements_by w (declared_by d files) d d.form in
     let both = sum_by-append (λ (x : TVar). room x.count) (typed_variables_of w (declared_by d files) d d.form) (typed_variables w (declared_by d files) ds) in
     omega (arith, later, here, both)

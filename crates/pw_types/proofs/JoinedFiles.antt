@@ -1,4 +1,4 @@
--- How a declaration changes the names at file level: what stands there stays, under its number, and one of its name is marked.
+-- How a declaration changes the names at file scope: what stands there stays, under its number, and one of its name is marked.
 use Rattle.std.proofs.Common.{◌≡◌, ℕ, zero, suc, ◌+◌, Bool, true, false, ◌||◌, not, cond, if◌then◌else◌, List, [], ◌∷◌, ◌++◌, map, find, Option, Some, None, is_some, refl, sym, ap, subst, ◌∙◌, arith, inl, inr, bytes_eq}
 use Rattle.std.specs.Prelude.{⊤, option_map}
 use Rattle.std.specs.List.{prefix_len, AllByRecursion, IsDistinct}
@@ -7,7 +7,7 @@ use Rattle.std.proofs.lemmas.Bool.{cases_Bool}
 use Rattle.pw_types.specs.declared.names.Kind.{Kind}
 use Rattle.pw_types.specs.declared.names.File.{File}
 use Rattle.pw_types.specs.Scopes.{file_named, marked, with_file}
-use Rattle.pw_types.specs.Uses.{file_number}
+use Rattle.pw_types.specs.Steps.Uses.{file_number}
 use Rattle.pw_types.proofs.KeyedFiles.{named}
 
 pub bytes_same : (a b : List ℕ) → bytes_eq a b ≡ true → a ≡ b
@@ -135,7 +135,7 @@ stays_by false name f g files h = stays_before name f g files h
 pub stays : (name : List ℕ) (f g : File) (files : List File) → file_named name files ≡ Some f → Stays name f files (with_file g files)
 stays name f g files h = stays_by (is_some (file_named g.name files)) name f g files h
 
--- ---- what stands under a name behind a declaration
+-- ---- what stands under a name after a declaration
 
 -- the file of a declared name
 abbrev pub joined_file : File → Option File → File

@@ -1,4 +1,4 @@
--- A map of the names at file level by their bytes, and the list of these.
+-- A map of the names at file scope by their bytes, and the list of these.
 use Rattle.std.proofs.Common.{◌≡◌, ℕ, ◌+◌, Bool, true, false, cond, not, ◌||◌, List, [], ◌∷◌, ◌++◌, map, Option, Some, None, refl, sym, ap, subst, ◌∙◌, position, is_some, if◌then◌else◌}
 use Rattle.std.specs.List.{AllByRecursion, IsDistinct, position_or_len}
 use Rattle.std.specs.Map.{keys_of, values_of, lookup, set_value}
@@ -9,7 +9,7 @@ use Rattle.indexmap.specs.IndexMap.{IndexMap, insert_entry}
 use Rattle.indexmap.proofs.CallerLemmas.{insert_entry-new}
 use Rattle.pw_types.specs.declared.names.File.{File}
 use Rattle.pw_types.specs.Scopes.{file_named, marked, with_file}
-use Rattle.pw_types.specs.Uses.{file_number}
+use Rattle.pw_types.specs.Steps.Uses.{file_number}
 use Rattle.pw_types.specs.Steps.Lookups.{AreKeyed}
 use Rattle.pw_types.proofs.Places.{by_answer, some_is, none_is_some, place}
 

@@ -1,4 +1,4 @@
--- What a statement declares is not visible behind the statement that it stands in.
+-- What a statement declares is not visible after the statement that it stands in.
 use Rattle.std.proofs.Common.{◌≡◌, ℕ, ◌+◌, ◌≤◌, List, [], ◌∷◌, ◌++◌, length, take, refl, sym, ap, ◌∙◌, add-zero, add-one, arith}
 use Rattle.std.proofs.lemmas.List.{take-append-le, length-append}
 use Rattle.std.proofs.Math.Seq.{take-length}
@@ -6,14 +6,14 @@ use Rattle.pw_tree.specs.declared.ty.Ty.{Ty}
 use Rattle.pw_tree.specs.Statements.{Statement, Statements, OptionalStatement, empty, block, local, set, evaluate, if_else, while_loop, do_loop, for_loop, returns, breaks, continues, nil, cons, absent, present}
 use Rattle.pw_types.specs.declared.names.Local.{Local}
 use Rattle.pw_types.specs.Scopes.{Scope}
-use Rattle.pw_types.specs.Blocks.{Block, inner, declaring, locals_in, locals_in_all, locals_in_maybe, past, behind, behind_maybe}
-use Rattle.pw_types.specs.Steps.CheckingStatements.{leave, behind_all}
+use Rattle.pw_types.specs.Blocks.{Block, inner, declaring, locals_in, locals_in_all, locals_in_maybe, past, after, after_maybe}
+use Rattle.pw_types.specs.Steps.CheckingStatements.{leave, after_all}
 
 -- the scope in which the first n locals are visible
 abbrev pub first_locals : ℕ → Scope → Scope
 first_locals n scope = record scope { locals = take n scope.locals }
 
--- From a block to another behind it: the first n locals stay, and k more are declared.
+-- From a block to another after it: the first n locals stay, and k more are declared.
 pub record Keeps (n : ℕ) (b : Block) (k : ℕ) (b' : Block) : Type 0 where
   pub within : n ≤ length b'.scope.locals
   pub scope : first_locals n b'.scope ≡ first_locals n b.scope
@@ -44,7 +44,7 @@ then_keeps n k m a b c first second = record {
   count = omega (arith, first.count, second.count);
 }
 
-pub keeps : (n : ℕ) (s : Statement) (b : Block) → n ≤ length b.scope.locals → Keeps n b (locals_in s) (behind s b)
+pub keeps : (n : ℕ) (s : Statement) (b : Block) → n ≤ length b.scope.locals → Keeps n b (locals_in s) (after s b)
 unfolding locals_in
 keeps n (empty at) b within = stays n b within
 keeps n (block at ss) b within = passes n _ b within
@@ -59,19 +59,19 @@ keeps n (returns at e) b within = stays n b within
 keeps n (breaks at) b within = stays n b within
 keeps n (continues at) b within = stays n b within
 
-pub keeps_maybe : (n : ℕ) (s : OptionalStatement) (b : Block) → n ≤ length b.scope.locals → Keeps n b (locals_in_maybe s) (behind_maybe s b)
+pub keeps_maybe : (n : ℕ) (s : OptionalStatement) (b : Block) → n ≤ length b.scope.locals → Keeps n b (locals_in_maybe s) (after_maybe s b)
 unfolding locals_in_maybe
 keeps_maybe n absent b within = stays n b within
 keeps_maybe n (present s) b within = keeps n s b within
 
-pub keeps_all : (n : ℕ) (ss : Statements) (b : Block) → n ≤ length b.scope.locals → Keeps n b (locals_in_all ss) (behind_all ss b)
-unfolding locals_in_all behind_all
+pub keeps_all : (n : ℕ) (ss : Statements) (b : Block) → n ≤ length b.scope.locals → Keeps n b (locals_in_all ss) (after_all ss b)
+unfolding locals_in_all after_all
 keeps_all n nil b within = stays n b within
 keeps_all n (cons s ss) b within =
     let first = keeps n s b within in
-    then_keeps n (locals_in s) (locals_in_all ss) b (behind s b) (behind_all ss (behind s b)) first (keeps_all n ss (behind s b) first.within)
+    then_keeps n (locals_in s) (locals_in_all ss) b (after s b) (after_all ss (after s b)) first (keeps_all n ss (after s b) first.within)
 
--- the block round a statement, behind it, where n locals were visible
+-- the block round a statement, after it, where n locals were visible
 pub left : (b b' : Block) (k : ℕ) → Keeps (length b.scope.locals) b k b' → leave b.start (length b.scope.locals) b' ≡ past k b
 left b b' k kept =
     let scope : first_locals (length b.scope.locals) b'.scope ≡ b.scope =
@@ -83,6 +83,6 @@ left b b' k kept =
 pub left_inner : (b b' : Block) (k : ℕ) → Keeps (length b.scope.locals) (inner b) k b' → leave b.start (length b.scope.locals) b' ≡ past k b
 left_inner b b' k kept = left b b' k (record { within = kept.within; scope = kept.scope; count = kept.count })
 
--- behind no declaration
+-- after no declaration
 pub past_none : (b : Block) → past 0 b ≡ b
 past_none b = ap (λ (n : ℕ). let r : Block = record b { count = n } in r) (add-zero b.count)

@@ -2,11 +2,11 @@ pub mod Empty
 pub mod Parameters
 pub mod TypeTexts
 pub mod UnitTexts
-pub mod Told
+pub mod JudgedPhrases
 pub mod OwnRules
-pub mod FormsTold
-pub mod NamesTold
-pub mod CallsTold
+pub mod JudgedForms
+pub mod JudgedNames
+pub mod JudgedCalls
 pub mod ExpressionLaw
 pub mod Trees
 pub mod Keys
@@ -55,6 +55,9 @@ pub mod NamedTexts
 pub mod SameKinds
 pub mod DefinedNames
 pub mod FittingUnits
+pub mod NotedReferences
+pub mod NotedUnits
 pub mod FittingFunctions
 pub mod FittingVariables
 pub mod WellTyped
+pub mod Checked

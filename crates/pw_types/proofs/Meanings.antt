@@ -1,9 +1,9 @@
--- What a name means, from what the locals and the names at file level say.
+-- What a name means, from what the locals and the names at file scope say.
 use Rattle.std.proofs.Common.{◌≡◌, ℕ, List, Some, None, sym, ap, ◌∙◌}
 use Rattle.pw_types.specs.declared.names.File.{File}
 use Rattle.pw_types.specs.declared.names.Local.{Local}
 use Rattle.pw_types.specs.Scopes.{Scope, missing, a_local, meaning, local_named, file_named, local_or, declared_or_missing}
-use Rattle.pw_types.specs.Uses.{file_number}
+use Rattle.pw_types.specs.Steps.Uses.{file_number}
 use Rattle.pw_types.specs.Steps.Lookups.{IsDeclared}
 use Rattle.pw_types.proofs.KeyedFiles.{named}
 

@@ -9,13 +9,13 @@ use Rattle.pw_tree.specs.WellTypedExpressions.{text_named}
 use Rattle.pw_types.specs.declared.names.Kind.{Kind}
 use Rattle.pw_types.specs.declared.names.File.{File}
 use Rattle.pw_types.specs.Scopes.{file_named}
-use Rattle.pw_types.specs.Uses.{file_number}
-use Rattle.pw_types.specs.Units.{text_of_kind, is_kept, external_names}
+use Rattle.pw_types.specs.Steps.Uses.{file_number, is_kept_by_number, names_by_number}
+use Rattle.pw_types.specs.Units.{text_of_kind}
 use Rattle.pw_types.specs.Steps.Texts.{HasText, HaveTexts}
 use Rattle.pw_types.proofs.TypeTexts.{kind_text}
 use Rattle.pw_types.proofs.JoinedFiles.{names_of}
 
--- one name of the list, and the names behind it
+-- one name of the list, and the names after it
 abbrev row : File → List Ext → List Ext
 row f others = record { name = f.name; text = text_of_kind f.kind } ∷ others
 
@@ -28,42 +28,42 @@ text_here true name f g others k b e =
 text_here false name f g others k b e = cc
 
 -- where it is another
-text_behind : (keep : Bool) (name : List ℕ) (f : File) (others : List Ext) → bytes_eq f.name name ≡ false →
+text_after : (keep : Bool) (name : List ℕ) (f : File) (others : List Ext) → bytes_eq f.name name ≡ false →
     text_named name (if keep then row f others else others) ≡ text_named name others
-text_behind true name f others b =
+text_after true name f others b =
     ap (λ c. option_map (λ (n : Ext). n.text) (cond c (Some (record { name = f.name; text = text_of_kind f.kind })) (find (λ (n : Ext). bytes_eq n.name name) others))) b
-text_behind false name f others b = refl
+text_after false name f others b = refl
 
 module _ (used : List ℕ) (name : List ℕ) where
   named_here : (n : ℕ) (f g : File) (gs : List File) (b : Bool) → bytes_eq g.name name ≡ b → b ≡ true →
-      cond b (Some g) (file_named name gs) ≡ Some f → is_kept used (n + cond (not b) (1 + file_number name gs) 0) f ≡ true →
-      text_named name (external_names used n (g ∷ gs)) ≡ Some (text_of_kind f.kind)
-  unfolding external_names
+      cond b (Some g) (file_named name gs) ≡ Some f → is_kept_by_number used (n + cond (not b) (1 + file_number name gs) 0) f ≡ true →
+      text_named name (names_by_number used n (g ∷ gs)) ≡ Some (text_of_kind f.kind)
+  unfolding names_by_number
   named_here n f g gs true is t h k =
       let e : g ≡ f = cc in
-      let kept : is_kept used n g ≡ true =
-      subst (λ (x : File). is_kept used n x ≡ true) (sym e) (subst (λ m. is_kept used m f ≡ true) (let z : n + 0 ≡ n = omega arith in z) k) in
-      text_here (is_kept used n g) name g f (external_names used (suc n) gs) kept is e
+      let kept : is_kept_by_number used n g ≡ true =
+      subst (λ (x : File). is_kept_by_number used n x ≡ true) (sym e) (subst (λ m. is_kept_by_number used m f ≡ true) (let z : n + 0 ≡ n = omega arith in z) k) in
+      text_here (is_kept_by_number used n g) name g f (names_by_number used (suc n) gs) kept is e
   named_here n f g gs false is t h k = cc
 
-  named_behind : (n : ℕ) (f g : File) (gs : List File) (b : Bool) → bytes_eq g.name name ≡ b → b ≡ false →
-      (file_named name gs ≡ Some f → is_kept used (suc n + file_number name gs) f ≡ true →
-      text_named name (external_names used (suc n) gs) ≡ Some (text_of_kind f.kind)) →
-      cond b (Some g) (file_named name gs) ≡ Some f → is_kept used (n + cond (not b) (1 + file_number name gs) 0) f ≡ true →
-      text_named name (external_names used n (g ∷ gs)) ≡ Some (text_of_kind f.kind)
-  unfolding external_names
-  named_behind n f g gs true is t others h k = cc
-  named_behind n f g gs false is t others h k =
-      text_behind (is_kept used n g) name g (external_names used (suc n) gs) is
-      ∙ others h (subst (λ m. is_kept used m f ≡ true) (let z : n + (1 + file_number name gs) ≡ suc n + file_number name gs = omega arith in z) k)
+  named_after : (n : ℕ) (f g : File) (gs : List File) (b : Bool) → bytes_eq g.name name ≡ b → b ≡ false →
+      (file_named name gs ≡ Some f → is_kept_by_number used (suc n + file_number name gs) f ≡ true →
+      text_named name (names_by_number used (suc n) gs) ≡ Some (text_of_kind f.kind)) →
+      cond b (Some g) (file_named name gs) ≡ Some f → is_kept_by_number used (n + cond (not b) (1 + file_number name gs) 0) f ≡ true →
+      text_named name (names_by_number used n (g ∷ gs)) ≡ Some (text_of_kind f.kind)
+  unfolding names_by_number
+  named_after n f g gs true is t others h k = cc
+  named_after n f g gs false is t others h k =
+      text_after (is_kept_by_number used n g) name g (names_by_number used (suc n) gs) is
+      ∙ others h (subst (λ m. is_kept_by_number used m f ≡ true) (let z : n + (1 + file_number name gs) ≡ suc n + file_number name gs = omega arith in z) k)
 
   -- a name that is kept has its kind's text
-  pub text_of_name : (n : ℕ) (f : File) (fs : List File) → file_named name fs ≡ Some f → is_kept used (n + file_number name fs) f ≡ true →
-      text_named name (external_names used n fs) ≡ Some (text_of_kind f.kind)
+  pub text_of_name : (n : ℕ) (f : File) (fs : List File) → file_named name fs ≡ Some f → is_kept_by_number used (n + file_number name fs) f ≡ true →
+      text_named name (names_by_number used n fs) ≡ Some (text_of_kind f.kind)
   text_of_name n f [] h k = cc
   text_of_name n f (g ∷ gs) h k = elim (cases_Bool (bytes_eq g.name name)) [
     | inl same ↦ named_here n f g gs (bytes_eq g.name name) refl same h k
-    | inr other ↦ named_behind n f g gs (bytes_eq g.name name) refl other (text_of_name (suc n) f gs) h k
+    | inr other ↦ named_after n f g gs (bytes_eq g.name name) refl other (text_of_name (suc n) f gs) h k
   ]
 
 -- ---- the names differ
@@ -71,35 +71,35 @@ module _ (used : List ℕ) (name : List ℕ) where
 abbrev pub names_in : List Ext → List (List ℕ)
 names_in names = map (λ n. n.name) names
 
-all_apart : (used : List ℕ) (n : ℕ) (P : List ℕ → Type 0) (fs : List File) → AllByRecursion P (names_of fs) → AllByRecursion P (names_in (external_names used n fs))
-unfolding external_names
+all_apart : (used : List ℕ) (n : ℕ) (P : List ℕ → Type 0) (fs : List File) → AllByRecursion P (names_of fs) → AllByRecursion P (names_in (names_by_number used n fs))
+unfolding names_by_number
 all_apart used n P [] h = tt
-all_apart used n P (f ∷ fs) h = elim (cases_Bool (is_kept used n f)) [
-  | inl kept ↦ subst (λ b. AllByRecursion P (names_in (if b then row f (external_names used (suc n) fs) else external_names used (suc n) fs))) (sym kept)
+all_apart used n P (f ∷ fs) h = elim (cases_Bool (is_kept_by_number used n f)) [
+  | inl kept ↦ subst (λ b. AllByRecursion P (names_in (if b then row f (names_by_number used (suc n) fs) else names_by_number used (suc n) fs))) (sym kept)
       (h.0, all_apart used (suc n) P fs h.1)
-  | inr left ↦ subst (λ b. AllByRecursion P (names_in (if b then row f (external_names used (suc n) fs) else external_names used (suc n) fs))) (sym left)
+  | inr left ↦ subst (λ b. AllByRecursion P (names_in (if b then row f (names_by_number used (suc n) fs) else names_by_number used (suc n) fs))) (sym left)
       (all_apart used (suc n) P fs h.1)
 ]
 
-pub names_apart : (used : List ℕ) (n : ℕ) (fs : List File) → IsDistinct bytes_eq (names_of fs) → IsDistinct bytes_eq (names_in (external_names used n fs))
-unfolding external_names IsDistinct
+pub names_apart : (used : List ℕ) (n : ℕ) (fs : List File) → IsDistinct bytes_eq (names_of fs) → IsDistinct bytes_eq (names_in (names_by_number used n fs))
+unfolding names_by_number IsDistinct
 names_apart used n [] h = tt
-names_apart used n (f ∷ fs) h = elim (cases_Bool (is_kept used n f)) [
-  | inl kept ↦ subst (λ b. IsDistinct bytes_eq (names_in (if b then row f (external_names used (suc n) fs) else external_names used (suc n) fs))) (sym kept)
+names_apart used n (f ∷ fs) h = elim (cases_Bool (is_kept_by_number used n f)) [
+  | inl kept ↦ subst (λ b. IsDistinct bytes_eq (names_in (if b then row f (names_by_number used (suc n) fs) else names_by_number used (suc n) fs))) (sym kept)
       (all_apart used (suc n) (λ y. bytes_eq f.name y ≡ false) fs h.0, names_apart used (suc n) fs h.1)
-  | inr left ↦ subst (λ b. IsDistinct bytes_eq (names_in (if b then row f (external_names used (suc n) fs) else external_names used (suc n) fs))) (sym left)
+  | inr left ↦ subst (λ b. IsDistinct bytes_eq (names_in (if b then row f (names_by_number used (suc n) fs) else names_by_number used (suc n) fs))) (sym left)
       (names_apart used (suc n) fs h.1)
 ]
 
 -- ---- the texts
 
-pub texts_are : (used : List ℕ) (n : ℕ) (fs : List File) → HaveTexts fs → AllByRecursion (λ n. IsTypeText n.text) (external_names used n fs)
-unfolding external_names HaveTexts
+pub texts_are : (used : List ℕ) (n : ℕ) (fs : List File) → HaveTexts fs → AllByRecursion (λ n. IsTypeText n.text) (names_by_number used n fs)
+unfolding names_by_number HaveTexts
 texts_are used n [] h = tt
-texts_are used n (f ∷ fs) h = elim (cases_Bool (is_kept used n f)) [
-  | inl kept ↦ subst (λ b. AllByRecursion (λ n. IsTypeText n.text) (if b then row f (external_names used (suc n) fs) else external_names used (suc n) fs)) (sym kept)
+texts_are used n (f ∷ fs) h = elim (cases_Bool (is_kept_by_number used n f)) [
+  | inl kept ↦ subst (λ b. AllByRecursion (λ n. IsTypeText n.text) (if b then row f (names_by_number used (suc n) fs) else names_by_number used (suc n) fs)) (sym kept)
       (kind_text f.kind h.0, texts_are used (suc n) fs h.1)
-  | inr left ↦ subst (λ b. AllByRecursion (λ n. IsTypeText n.text) (if b then row f (external_names used (suc n) fs) else external_names used (suc n) fs)) (sym left)
+  | inr left ↦ subst (λ b. AllByRecursion (λ n. IsTypeText n.text) (if b then row f (names_by_number used (suc n) fs) else names_by_number used (suc n) fs)) (sym left)
       (texts_are used (suc n) fs h.1)
 ]
 

@@ -7,8 +7,9 @@ use Rattle.pw_types.specs.declared.role.Role.TheVariants.{Value, Callee, Base, W
 use Rattle.pw_types.specs.Faults.{broken, broken_by}
 use Rattle.pw_types.specs.Scopes.{Scope}
 use Rattle.pw_types.specs.Typed.{function_of, parameters_of}
-use Rattle.pw_types.specs.Expressions.{end_of, word_of, callee_in, unless_direct, is_unknown, is_no_value, has_other_operands, has_other_count, has_other_argument, is_not_callable, is_no_array, needs_index, does_not_fit, own, faults, faults_of_arguments}
-use Rattle.pw_types.proofs.Empty.{front_empty, back_empty}
+use Rattle.pw_types.specs.Expressions.{end_of, word_of, callee_in, is_unknown, is_no_value, has_other_operands, has_other_count, has_other_argument, is_not_callable, is_no_array, needs_index, does_not_fit, own}
+use Rattle.pw_types.specs.Steps.ExpressionFaults.{unless_direct, faults, faults_of_arguments}
+use Rattle.pw_types.proofs.Empty.{left_empty, right_empty}
 
 -- ---- tests
 
@@ -54,23 +55,23 @@ pub record NoOwn (scope : Scope) (role : Role) (e : Expression) : Type 0 where
 pub no_own : (scope : Scope) (role : Role) (e : Expression) → own scope role e ≡ [] → NoOwn scope role e
 unfolding own
 no_own scope role e none =
-    let b = back_empty _ _ none in
-    let c = back_empty _ _ b in
-    let d = back_empty _ _ c in
-    let f = back_empty _ _ d in
-    let g = back_empty _ _ f in
-    let h = back_empty _ _ g in
-    let i = back_empty _ _ h in
-    let j = back_empty _ _ i in
+    let b = right_empty _ _ none in
+    let c = right_empty _ _ b in
+    let d = right_empty _ _ c in
+    let f = right_empty _ _ d in
+    let g = right_empty _ _ f in
+    let h = right_empty _ _ g in
+    let i = right_empty _ _ h in
+    let j = right_empty _ _ i in
     record {
-      known = not_broken_by _ (end_of e) (word_of e) (is_unknown scope e) (front_empty _ _ none);
-      value = not_broken _ (end_of e) (is_no_value scope role e) (front_empty _ _ b);
-      operands = not_broken _ (end_of e) (has_other_operands scope e) (front_empty _ _ c);
-      count = not_broken _ (end_of e) (has_other_count scope e) (front_empty _ _ d);
-      argument = not_broken _ (end_of e) (has_other_argument scope role e) (front_empty _ _ f);
-      callable = not_broken _ (end_of e) (is_not_callable scope role e) (front_empty _ _ g);
-      array = not_broken _ (end_of e) (is_no_array scope role e) (front_empty _ _ h);
-      index = not_broken _ (end_of e) (needs_index scope role e) (front_empty _ _ i);
+      known = not_broken_by _ (end_of e) (word_of e) (is_unknown scope e) (left_empty _ _ none);
+      value = not_broken _ (end_of e) (is_no_value scope role e) (left_empty _ _ b);
+      operands = not_broken _ (end_of e) (has_other_operands scope e) (left_empty _ _ c);
+      count = not_broken _ (end_of e) (has_other_count scope e) (left_empty _ _ d);
+      argument = not_broken _ (end_of e) (has_other_argument scope role e) (left_empty _ _ f);
+      callable = not_broken _ (end_of e) (is_not_callable scope role e) (left_empty _ _ g);
+      array = not_broken _ (end_of e) (is_no_array scope role e) (left_empty _ _ h);
+      index = not_broken _ (end_of e) (needs_index scope role e) (left_empty _ _ i);
       fits = not_broken _ (end_of e) (does_not_fit scope role e) j;
     }
 
@@ -79,16 +80,16 @@ pub own_none : (scope : Scope) (role : Role) (e : Expression) → faults scope r
 unfolding faults
 own_none scope role (constant at value unsigned) none = none
 own_none scope role (word at name) none = none
-own_none scope role (unary at op e) none = back_empty (faults scope Value e) _ none
-own_none scope role (binary at op l r) none = back_empty (faults scope Value r) _ (back_empty (faults scope Value l) _ none)
+own_none scope role (unary at op e) none = right_empty (faults scope Value e) _ none
+own_none scope role (binary at op l r) none = right_empty (faults scope Value r) _ (right_empty (faults scope Value l) _ none)
 own_none scope role (conditional at c a b) none =
-    back_empty (faults scope Value b) _ (back_empty (faults scope Value a) _ (back_empty (faults scope Value c) _ none))
+    right_empty (faults scope Value b) _ (right_empty (faults scope Value a) _ (right_empty (faults scope Value c) _ none))
 own_none scope role (call at f es) none =
-    back_empty (faults_of_arguments scope (parameters_of (callee_in scope f)) es) _
-    (back_empty (unless_direct (function_of scope f) (faults scope Callee f)) _ none)
-own_none scope role (index at b i) none = back_empty (faults scope Value i) _ (back_empty (faults scope Base b) _ none)
+    right_empty (faults_of_arguments scope (parameters_of (callee_in scope f)) es) _
+    (right_empty (unless_direct (function_of scope f) (faults scope Callee f)) _ none)
+own_none scope role (index at b i) none = right_empty (faults scope Value i) _ (right_empty (faults scope Base b) _ none)
 own_none scope role (input at) none = none
-own_none scope role (output at e) none = back_empty (faults scope Written e) _ none
+own_none scope role (output at e) none = right_empty (faults scope Written e) _ none
 
 pub breaks_none : (scope : Scope) (role : Role) (e : Expression) → faults scope role e ≡ [] → NoOwn scope role e
 breaks_none scope role e none = no_own scope role e (own_none scope role e none)

@@ -21,7 +21,7 @@ use Rattle.pw_types.specs.Declarations.{faults_of_parameter_name, does_not_initi
 use Rattle.pw_types.specs.Units.{faults_of_lacking}
 use Rattle.pw_types.specs.Laws.{rank}
 
--- Each is at this token, and its rule comes before the next one's: all behind the rule of rank `low`, none behind that of `high`.
+-- Each is at this token, and its rule comes before the next one's: all after the rule of rank `low`, none after that of `high`.
 pub data Rises : ℕ → ℕ → ℕ → List Fault → Type 0 where
   ends : {at low high : ℕ} → low ≤ high → Rises at low high []
   goes : {at low high : ℕ} {f : Fault} {fs : List Fault} → f.at ≡ at → low < rank f.rule → Rises at (rank f.rule) high fs →

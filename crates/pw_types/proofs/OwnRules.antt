@@ -21,7 +21,7 @@ use Rattle.pw_tree.specs.TypedExpressions.{type_of}
 use Rattle.pw_types.specs.Expressions.{is_base, is_callee, needs_value, has_type, end_of, is_word, word_of, is_unknown, has_other_operands, has_other_count, own}
 use Rattle.pw_types.specs.Steps.Judging.{Judge, pure}
 use Rattle.pw_types.specs.Steps.CheckingExpressions.{Valued, capped, head, fault_under, is_other_argument, is_other_value, rule_where, finished_by, finished, of_type}
-use Rattle.pw_types.proofs.Told.{full, Told, faulty, fits, rule_then}
+use Rattle.pw_types.proofs.JudgedPhrases.{full, Judged, faulty, fits, rule_then}
 
 -- ---- the list of own faults
 
@@ -75,10 +75,10 @@ own_rules scope (Assigned None) e = refl
 own_rules scope (Assigned (Some to)) e = refl
 
 pub by_rules : {t : Option TypedExpression} {us : List ℕ} {p : Judge Valued} (scope : Scope) (role : Role) (e : Expression)
-    → Told role (rules_by role (end_of e) (word_of e) (is_word e) (is_unknown scope e) (function_of scope e) (array_of scope e) (typed scope e)
+    → Judged role (rules_by role (end_of e) (word_of e) (is_word e) (is_unknown scope e) (function_of scope e) (array_of scope e) (typed scope e)
     (has_other_operands scope e) (has_other_count scope e)) t us p
-    → Told role (own scope role e) t us p
-by_rules {t} {us} {p} scope role e h = subst (λ fs. Told role fs t us p) (own_rules scope role e) h
+    → Judged role (own scope role e) t us p
+by_rules {t} {us} {p} scope role e h = subst (λ fs. Judged role fs t us p) (own_rules scope role e) h
 
 -- those of an expression that is no name
 abbrev pub rules_of : Role → ℕ → Option TypedExpression → Bool → Bool → List Fault
@@ -108,9 +108,9 @@ same_rules (Assigned (Some to)) at v other_count = simp (or-false, append-nil)
 
 -- ---- what judging makes of it
 
-finished_told : (role : Role) (at : Span) (v : TypedExpression) (other_count : Bool)
-    → Told role (rules_of_type role at.last (type_of v) other_count) (Some v) [] (finished_by (head role at) other_count (full v))
-finished_told role at v other_count =
+finished_judged : (role : Role) (at : Span) (v : TypedExpression) (other_count : Bool)
+    → Judged role (rules_of_type role at.last (type_of v) other_count) (Some v) [] (finished_by (head role at) other_count (full v))
+finished_judged role at v other_count =
     let h : Head = head role at in
     let ty : Ty = type_of v in
     let p : Judge Valued = pure (full v) in
@@ -132,12 +132,12 @@ finished_told role at v other_count =
     rule_then {fs = []} h rules.AssignType (is_other_value role ty) None p (λ _. fits role v (record { pointer = pointer; no_base = no_base })))))))
 
 -- an expression with a type
-pub typed_told : (role : Role) (at : Span) (v : TypedExpression) (other_count : Bool) (n : ℕ) → n ≡ capped (held v)
-    → Told role (rules_of role at.last (Some v) false other_count) (Some v) [] (finished_by (head role at) other_count (record { tree = v; held = n }))
-typed_told role at v other_count n holds =
-    let P : List Fault → Type 0 = λ fs. Told role fs (Some v) [] (finished_by (head role at) other_count (full v)) in
-    let Q : ℕ → Type 0 = λ m. Told role (rules_of role at.last (Some v) false other_count) (Some v) [] (finished_by (head role at) other_count (record { tree = v; held = m })) in
-    subst Q (sym holds) (subst P (same_rules role at.last v other_count) (finished_told role at v other_count))
+pub typed_judged : (role : Role) (at : Span) (v : TypedExpression) (other_count : Bool) (n : ℕ) → n ≡ capped (held v)
+    → Judged role (rules_of role at.last (Some v) false other_count) (Some v) [] (finished_by (head role at) other_count (record { tree = v; held = n }))
+typed_judged role at v other_count n holds =
+    let P : List Fault → Type 0 = λ fs. Judged role fs (Some v) [] (finished_by (head role at) other_count (full v)) in
+    let Q : ℕ → Type 0 = λ m. Judged role (rules_of role at.last (Some v) false other_count) (Some v) [] (finished_by (head role at) other_count (record { tree = v; held = m })) in
+    subst Q (sym holds) (subst P (same_rules role at.last v other_count) (finished_judged role at v other_count))
 
 -- one whose operands have other types
 other_operands_first : (role : Role) (at : Span) (other_count : Bool)
@@ -151,10 +151,10 @@ other_operands_first Written at other_count = refl
 other_operands_first (Assigned want) at other_count = refl
 
 -- an operator, by the type that its operands give it
-pub of_type_told : {A : Type 0} (role : Role) (at : Span) (o : Option A) (tree : A → TypedExpression) (v : A → Valued)
+pub of_type_judged : {A : Type 0} (role : Role) (at : Span) (o : Option A) (tree : A → TypedExpression) (v : A → Valued)
     → ((a : A) → v a ≡ full (tree a))
-    → Told role (rules_of role at.last (option_map tree o) (is_none o) false) (option_map tree o) [] (of_type (head role at) o v)
-of_type_told role at None tree v is = faulty (fault_under (head role at) rules.Operands) (other_operands_first role at false) (λ used. refl)
-of_type_told role at (Some a) tree v is =
-    let P : Valued → Type 0 = λ w. Told role (rules_of role at.last (Some (tree a)) false false) (Some (tree a)) [] (finished (head role at) w) in
-    subst P (sym (is a)) (typed_told role at (tree a) false _ refl)
+    → Judged role (rules_of role at.last (option_map tree o) (is_none o) false) (option_map tree o) [] (of_type (head role at) o v)
+of_type_judged role at None tree v is = faulty (fault_under (head role at) rules.Operands) (other_operands_first role at false) (λ used. refl)
+of_type_judged role at (Some a) tree v is =
+    let P : Valued → Type 0 = λ w. Judged role (rules_of role at.last (Some (tree a)) false false) (Some (tree a)) [] (finished (head role at) w) in
+    subst P (sym (is a)) (typed_judged role at (tree a) false _ refl)

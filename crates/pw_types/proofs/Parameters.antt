@@ -6,8 +6,9 @@ use Rattle.pw_tree.specs.declared.decl.Param.{Param}
 use Rattle.pw_types.specs.declared.names.Local.{Local}
 use Rattle.pw_types.specs.declared.rule.Rule.TheVariants as rules
 use Rattle.pw_types.specs.Faults.{broken}
-use Rattle.pw_types.proofs.Empty.{front_empty, back_empty}
-use Rattle.pw_types.specs.Declarations.{faults_of_parameter_name, faults_of_parameters, local_of}
+use Rattle.pw_types.proofs.Empty.{left_empty, right_empty}
+use Rattle.pw_types.specs.Declarations.{faults_of_parameter_name, local_of}
+use Rattle.pw_types.specs.Steps.UnitFaults.{faults_of_parameters}
 use Rattle.pw_types.specs.Steps.CheckingDeclarations.{faults_by_number}
 
 one_name : (number : ℕ) (before : List Local) (at : ℕ) (name : Option (List ℕ))
@@ -40,8 +41,8 @@ few_parameters is_definition before [] few none = omega arith
 few_parameters is_definition before (p ∷ ps) few none =
     let others = faults_of_parameters is_definition (before ++ local_of (length before) p ∷ []) ps in
     let limit = broken rules.TooManyParameters p.last (nat_le 6 (length before)) in
-    let behind : limit ++ others ≡ [] = back_empty (faults_of_parameter_name is_definition (length before) before p.last p.name) (limit ++ others) none in
-    let here : length before < 6 = not_many p.last (length before) (front_empty limit others behind) in
+    let after : limit ++ others ≡ [] = right_empty (faults_of_parameter_name is_definition (length before) before p.last p.name) (limit ++ others) none in
+    let here : length before < 6 = not_many p.last (length before) (left_empty limit others after) in
     let longer = one_longer before (local_of (length before) p) in
-    let later : length (before ++ local_of (length before) p ∷ []) + length ps ≤ 6 = few_parameters is_definition (before ++ local_of (length before) p ∷ []) ps (omega arith) (back_empty limit others behind) in
+    let later : length (before ++ local_of (length before) p ∷ []) + length ps ≤ 6 = few_parameters is_definition (before ++ local_of (length before) p ∷ []) ps (omega arith) (right_empty limit others after) in
     omega arith

@@ -25,7 +25,7 @@ module _ {X : Type 0} (test : X → Bool) (xs : List X) where
       by true h = sym (some_is _ _ h)
       by false h = none_is_some i h
 
-  -- it stands nowhere, which is behind the last
+  -- it stands nowhere, which is after the last
   pub nowhere : position test xs ≡ None → position_or_len test xs ≡ length xs
   nowhere = by (nat_lt (position_or_len test xs) (length xs)) refl
     where

@@ -17,14 +17,15 @@ use Rattle.pw_types.specs.Faults.{first_of}
 use Rattle.pw_types.specs.Scopes.{Scope}
 use Rattle.pw_tree.specs.Held.{held}
 use Rattle.pw_types.specs.Typed.{array_of, typed}
-use Rattle.pw_types.specs.Uses.{uses}
-use Rattle.pw_types.specs.Expressions.{is_base, faults}
+use Rattle.pw_types.specs.Steps.Uses.{uses}
+use Rattle.pw_types.specs.Expressions.{is_base}
+use Rattle.pw_types.specs.Steps.ExpressionFaults.{faults}
 use Rattle.pw_types.specs.Steps.Judged.{JudgesExpression}
 use Rattle.pw_types.specs.Steps.Judging.{JudgeResult, Judge, and_then}
 use Rattle.pw_types.specs.Steps.CheckingExpressions.{Valued, checked}
 use Rattle.pw_types.specs.Steps.ResumingExpressions.{valued, resumed, resume, continued, GivesWith, Continues, ContinuesWith, size, frame_size, step_size, frames_size}
-use Rattle.pw_types.proofs.Told.{full, Told, sound, faulty}
-use Rattle.pw_types.proofs.ExpressionLaw.{told}
+use Rattle.pw_types.proofs.JudgedPhrases.{full, Judged, sound, faulty}
+use Rattle.pw_types.proofs.ExpressionLaw.{expression_judged}
 
 -- ---- frames
 
@@ -48,7 +49,7 @@ size_last (g ∷ fs) f = ap (λ n. frame_size g + n) (size_last fs f) ∙ sym (a
 
 -- ---- turns of the loop
 
--- w is the outcome of the whole: a part is judged behind one frame more
+-- w is the outcome of the whole: a part is judged with one frame more
 pub at_part : {w : JudgeResult Valued} (scope : Scope) (fs gs : List ExpressionFrame) (step : ExpressionStep) (used : List ℕ) (f : ExpressionFrame) (role : Role) (e : Bor Expr)
     → w ≡ resume scope fs (continued scope step used) → step ≡ Part f role e → gs ≡ fs ++ f ∷ []
     → w ≡ resume scope gs (checked scope role (expression_of e.now) used)
@@ -114,7 +115,7 @@ ok_value : {a b : Valued} {us vs : List ℕ} → ◌≡◌ {A = JudgeResult Valu
 ok_value {a} {b} {us} {vs} h = let e : ◌≡◌ {A = Valued × List ℕ} (a, us) (b, vs) = cc in (ap (λ p. p.0) e, ap (λ p. p.1) e)
 
 meant : (scope : Scope) (role : Role) (e : Expression) (old new : List ℕ) (t : Typed)
-    → Told role (faults scope role e) (typed scope e) (uses scope e) (checked scope role e)
+    → Judged role (faults scope role e) (typed scope e) (uses scope e) (checked scope role e)
     → checked scope role e old ≡ Ok (valued t, new) → JudgesExpression scope role e old new (Ok t)
 meant scope role e old new t (sound v none tree fit is) h =
     let same = ok_value (sym (is old) ∙ h) in
@@ -130,7 +131,7 @@ meant scope role e old new t (faulty f first is) h =
     let clash : ◌≡◌ {A = JudgeResult Valued} (Err f) (Ok (valued t, new)) = sym (is old) ∙ h in cc
 
 blamed : (scope : Scope) (role : Role) (e : Expression) (old : List ℕ) (f : Fault)
-    → Told role (faults scope role e) (typed scope e) (uses scope e) (checked scope role e)
+    → Judged role (faults scope role e) (typed scope e) (uses scope e) (checked scope role e)
     → checked scope role e old ≡ Err f → first_of (faults scope role e) ≡ Some f
 blamed scope role e old f (sound v none tree fit is) h =
     let clash : ◌≡◌ {A = JudgeResult Valued} (Ok (full v, old ++ uses scope e)) (Err f) = sym (is old) ∙ h in cc
@@ -141,8 +142,8 @@ blamed scope role e old f (faulty g first is) h =
 -- what judging from left to right gives is the typed tree, or the first fault
 pub judged : (scope : Scope) (role : Role) (e : Expression) (old new : List ℕ) (result : Result Typed Refusal)
     → (is_base role ≡ true → array_of scope e ≡ None) → GivesWith (checked scope role e) old new result → JudgesExpression scope role e old new result
-judged scope role e old new (Ok t) base h = meant scope role e old new t (told scope role e base) h
-judged scope role e old new (Err (stop.Fault f)) base h = blamed scope role e old f (told scope role e base) h
+judged scope role e old new (Ok t) base h = meant scope role e old new t (expression_judged scope role e base) h
+judged scope role e old new (Err (stop.Fault f)) base h = blamed scope role e old f (expression_judged scope role e base) h
 judged scope role e old new (Err stop.NoMemory) base h = h
 
 -- what is asked of a base is asked where the role is one

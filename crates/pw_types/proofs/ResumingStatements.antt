@@ -1,11 +1,11 @@
--- Behind its last part a statement is judged; behind another it waits for the next.
+-- After its last part a statement is judged; after another it waits for the next.
 use Rattle.std.proofs.Common.{◌≡◌, ℕ, ◌<◌, false, IfOk, List, [], ◌∷◌, ◌++◌, map, Option, Some, None, Result, Err, refl, sym, ap, ◌∙◌, subst}
 use Rattle.std.proofs.lemmas.List.{map-append}
 use Rattle.pw_tree.specs.Expressions.{Expression}
 use Rattle.pw_tree.specs.TypedExpressions.{typed_expression_of}
 use Rattle.pw_tree.specs.Statements.{Statements, OptionalStatement, nil, cons, absent, present, statement_of, statements_of}
 use Rattle.pw_tree.specs.TypedStatements.{TypedStatement}
-use Rattle.pw_tree.specs.TypedStatements as command
+use Rattle.pw_tree.specs.TypedStatements as tree
 use Rattle.pw_tree.specs.declared.stmt.Stmt.{Stmt}
 use Rattle.pw_tree.specs.declared.texpr.TExpr.{TExpr}
 use Rattle.pw_tree.specs.declared.tstmt.TStmt.{TStmt}
@@ -22,7 +22,7 @@ use Rattle.pw_types.specs.declared.statement_step.StatementFrame.{StatementFrame
 use Rattle.pw_types.specs.declared.statement_step.StatementStep.{StatementStep}
 use Rattle.pw_types.specs.Steps.StatementWeights.{weight_of_form, weight_of_step}
 use Rattle.pw_types.specs.Blocks.{Block}
-use Rattle.pw_types.specs.Statements.{faults_of_whole}
+use Rattle.pw_types.specs.Steps.StatementFaults.{faults_of_whole}
 use Rattle.pw_types.specs.Steps.CheckingStatements.{WalkResult, judged, block_of, outcome_at, judged_at, setting_of, resumed_at, leave, block_at, rest_of_block, rest_of_if, rest_of_do, Leaves, Finishes, Steps, resumed, IsWhole}
 use Rattle.pw_types.specs.Steps.StatementValues.{IsValue, JudgesValue}
 use Rattle.pw_types.proofs.EnclosingStatements.{same, tree_is, block_ends, block_goes_on, if_ends, if_goes_on, do_ends}
@@ -39,24 +39,24 @@ left_as o c d old new is left = same refl is (sym left.used) (sym left.held) (sy
 
 -- ---- blocks
 
-mapped : (done all : List TStmt) (t : TStmt) → all ≡ done ++ t ∷ [] → map command.typed_statement_of done ++ command.typed_statement_of t ∷ [] ≡ map command.typed_statement_of all
-mapped done all t is = sym (map-append command.typed_statement_of done (t ∷ [])) ∙ ap (map command.typed_statement_of) (sym is)
+mapped : (done all : List TStmt) (t : TStmt) → all ≡ done ++ t ∷ [] → map tree.typed_statement_of done ++ tree.typed_statement_of t ∷ [] ≡ map tree.typed_statement_of all
+mapped done all t is = sym (map-append tree.typed_statement_of done (t ∷ [])) ∙ ap (map tree.typed_statement_of) (sym is)
 
 pub block_is_done : (o : Outer) (old new : Walk) (done all : List TStmt) (t : TStmt) (rest : List Stmt)
     → statements_of rest ≡ nil → all ≡ done ++ t ∷ [] → Leaves o old new
-    → block_at done rest o (judged_at (command.typed_statement_of t) old) ≡ judged_at (command.typed_statement_of (kinds.Block all)) new
+    → block_at done rest o (judged_at (tree.typed_statement_of t) old) ≡ judged_at (tree.typed_statement_of (kinds.Block all)) new
 block_is_done o old new done all t rest none all_is left =
-    ap (λ (ss : Statements). rest_of_block (setting_of o.setting) (leave o.start o.visible) (map command.typed_statement_of done) ss (judged_at (command.typed_statement_of t) old)) none
-    ∙ (block_ends (setting_of o.setting) (leave o.start o.visible) (map command.typed_statement_of done) (command.typed_statement_of t) (block_of old) old.used.items old.held
+    ap (λ (ss : Statements). rest_of_block (setting_of o.setting) (leave o.start o.visible) (map tree.typed_statement_of done) ss (judged_at (tree.typed_statement_of t) old)) none
+    ∙ (block_ends (setting_of o.setting) (leave o.start o.visible) (map tree.typed_statement_of done) (tree.typed_statement_of t) (block_of old) old.used.items old.held
     ∙ left_as o _ _ old new
-    (ap (λ (cs : List TypedStatement). command.block (command.typed_statements cs)) (mapped done all t all_is) ∙ sym (command_of-Block all)) left)
+    (ap (λ (cs : List TypedStatement). tree.block (tree.typed_statements cs)) (mapped done all t all_is) ∙ sym (command_of-Block all)) left)
 
 pub block_waits : (o : Outer) (x' : Given) (old : Walk) (done all : List TStmt) (t : TStmt) (rest more : List Stmt) (s : Stmt)
     → statements_of rest ≡ cons (statement_of s) (statements_of more) → all ≡ done ++ t ∷ [] → x' ≡ record o.setting { in_head = false }
-    → block_at done rest o (judged_at (command.typed_statement_of t) old) ≡ block_at all more o (outcome_at x' old (statement_of s))
+    → block_at done rest o (judged_at (tree.typed_statement_of t) old) ≡ block_at all more o (outcome_at x' old (statement_of s))
 block_waits o x' old done all t rest more s rest_is all_is x_is =
-    ap (λ (ss : Statements). rest_of_block (setting_of o.setting) (leave o.start o.visible) (map command.typed_statement_of done) ss (judged_at (command.typed_statement_of t) old)) rest_is
-    ∙ (block_goes_on (setting_of o.setting) (leave o.start o.visible) (map command.typed_statement_of done) (statement_of s) (statements_of more) (command.typed_statement_of t)
+    ap (λ (ss : Statements). rest_of_block (setting_of o.setting) (leave o.start o.visible) (map tree.typed_statement_of done) ss (judged_at (tree.typed_statement_of t) old)) rest_is
+    ∙ (block_goes_on (setting_of o.setting) (leave o.start o.visible) (map tree.typed_statement_of done) (statement_of s) (statements_of more) (tree.typed_statement_of t)
     (block_of old) old.used.items old.held
     ∙ (ap (λ (cs : List TypedStatement). rest_of_block (setting_of o.setting) (leave o.start o.visible) cs (statements_of more) (outcome_at (record o.setting { in_head = false }) old (statement_of s)))
     (mapped done all t all_is)
@@ -65,44 +65,44 @@ block_waits o x' old done all t rest more s rest_is all_is x_is =
 -- ---- `if`
 
 pub if_is_done : (o : Outer) (old new : Walk) (c : TExpr) (a : TStmt) (d : OptionalStatement) → d ≡ absent → Leaves o old new
-    → rest_of_if (setting_of o.setting) (leave o.start o.visible) (typed_expression_of c) d (judged_at (command.typed_statement_of a) old)
-    ≡ judged_at (command.typed_statement_of (kinds.If c a None)) new
+    → rest_of_if (setting_of o.setting) (leave o.start o.visible) (typed_expression_of c) d (judged_at (tree.typed_statement_of a) old)
+    ≡ judged_at (tree.typed_statement_of (kinds.If c a None)) new
 if_is_done o old new c a d none left =
-    ap (λ (m : OptionalStatement). rest_of_if (setting_of o.setting) (leave o.start o.visible) (typed_expression_of c) m (judged_at (command.typed_statement_of a) old)) none
-    ∙ (if_ends (setting_of o.setting) (leave o.start o.visible) (typed_expression_of c) (command.typed_statement_of a) (block_of old) old.used.items old.held
+    ap (λ (m : OptionalStatement). rest_of_if (setting_of o.setting) (leave o.start o.visible) (typed_expression_of c) m (judged_at (tree.typed_statement_of a) old)) none
+    ∙ (if_ends (setting_of o.setting) (leave o.start o.visible) (typed_expression_of c) (tree.typed_statement_of a) (block_of old) old.used.items old.held
     ∙ left_as o _ _ old new (sym (command_of-If c a None)) left)
 
 pub if_waits : (o : Outer) (x' : Given) (old : Walk) (c : TExpr) (a : TStmt) (d : OptionalStatement) (s : Stmt)
     → d ≡ present (statement_of s) → x' ≡ record o.setting { in_head = false }
-    → rest_of_if (setting_of o.setting) (leave o.start o.visible) (typed_expression_of c) d (judged_at (command.typed_statement_of a) old)
+    → rest_of_if (setting_of o.setting) (leave o.start o.visible) (typed_expression_of c) d (judged_at (tree.typed_statement_of a) old)
     ≡ resumed_at o (forms.Else c a) (outcome_at x' old (statement_of s))
 if_waits o x' old c a d s d_is x_is =
-    ap (λ (m : OptionalStatement). rest_of_if (setting_of o.setting) (leave o.start o.visible) (typed_expression_of c) m (judged_at (command.typed_statement_of a) old)) d_is
-    ∙ (if_goes_on (setting_of o.setting) (leave o.start o.visible) (typed_expression_of c) (statement_of s) (command.typed_statement_of a) (block_of old) old.used.items old.held
+    ap (λ (m : OptionalStatement). rest_of_if (setting_of o.setting) (leave o.start o.visible) (typed_expression_of c) m (judged_at (tree.typed_statement_of a) old)) d_is
+    ∙ (if_goes_on (setting_of o.setting) (leave o.start o.visible) (typed_expression_of c) (statement_of s) (tree.typed_statement_of a) (block_of old) old.used.items old.held
     ∙ ap (λ (z : Given). resumed_at o (forms.Else c a) (outcome_at z old (statement_of s))) (sym x_is))
 
 pub else_is_done : (o : Outer) (old new : Walk) (c : TExpr) (a b : TStmt) → Leaves o old new
-    → resumed_at o (forms.Else c a) (judged_at (command.typed_statement_of b) old) ≡ judged_at (command.typed_statement_of (kinds.If c a (Some b))) new
+    → resumed_at o (forms.Else c a) (judged_at (tree.typed_statement_of b) old) ≡ judged_at (tree.typed_statement_of (kinds.If c a (Some b))) new
 else_is_done o old new c a b left = left_as o _ _ old new (sym (command_of-If c a (Some b))) left
 
 -- ---- loops
 
 pub while_is_done : (o : Outer) (old new : Walk) (c : TExpr) (s : TStmt) → Leaves o old new
-    → resumed_at o (forms.While c) (judged_at (command.typed_statement_of s) old) ≡ judged_at (command.typed_statement_of (kinds.While c s)) new
+    → resumed_at o (forms.While c) (judged_at (tree.typed_statement_of s) old) ≡ judged_at (tree.typed_statement_of (kinds.While c s)) new
 while_is_done o old new c s left = left_as o _ _ old new (sym (command_of-While c s)) left
 
 pub do_is_done : (o : Outer) (old mid new : Walk) (c : Expression) (s : TStmt) (t : TExpr) → Leaves o old mid
     → faults_of_whole mid.scope roles.Value c ≡ [] → IsValue c mid new t
-    → rest_of_do (leave o.start o.visible) c (judged_at (command.typed_statement_of s) old) ≡ judged_at (command.typed_statement_of (kinds.Do s t)) new
+    → rest_of_do (leave o.start o.visible) c (judged_at (tree.typed_statement_of s) old) ≡ judged_at (tree.typed_statement_of (kinds.Do s t)) new
 do_is_done o old mid new c s t left none value =
     ap (λ (b : Block). of_block b old.used.items old.held) (sym left.block)
     ∙ (ap (λ (u : List ℕ). of_block (block_of mid) u old.held) (sym left.used)
     ∙ (ap (λ (h : ℕ). of_block (block_of mid) mid.used.items h) (sym left.held)
-    ∙ (do_ends (λ b. b) c (command.typed_statement_of s) (block_of mid) mid.used.items mid.held (typed_expression_of t) none (tree_is mid.scope c (typed_expression_of t) value.tree)
+    ∙ (do_ends (λ b. b) c (tree.typed_statement_of s) (block_of mid) mid.used.items mid.held (typed_expression_of t) none (tree_is mid.scope c (typed_expression_of t) value.tree)
     ∙ (noted _ _ _ mid new value.notes ∙ ap (λ (d : TypedStatement). judged_at d new) (sym (command_of-Do s t))))))
   where
     of_block : Block → List ℕ → ℕ → WalkResult
-    of_block b u h = rest_of_do (λ b'. b') c (judged (command.typed_statement_of s) b u h)
+    of_block b u h = rest_of_do (λ b'. b') c (judged (tree.typed_statement_of s) b u h)
 
 pub do_fails : (o : Outer) (old mid new : Walk) (c : Expression) (s : TypedStatement) (stop : Refusal) → Leaves o old mid → JudgesValue roles.Value c mid new (Err stop)
     → let w : WalkResult = rest_of_do (leave o.start o.visible) c (judged_at s old) in Fails w.faults stop
@@ -110,22 +110,22 @@ do_fails o old mid new c s stop left is =
     fails_as _ _ stop (ap (λ (b : Block). faults_of_whole b.scope roles.Value c) left.block) (value_fails roles.Value c mid new stop is)
 
 pub for_is_done : (o : Outer) (old new : Walk) (first : Option TStmt) (c : Option TExpr) (last : Option TStmt) (s : TStmt) → Leaves o old new
-    → resumed_at o (forms.For first c last) (judged_at (command.typed_statement_of s) old) ≡ judged_at (command.typed_statement_of (kinds.For first c last s)) new
+    → resumed_at o (forms.For first c last) (judged_at (tree.typed_statement_of s) old) ≡ judged_at (tree.typed_statement_of (kinds.For first c last s)) new
 for_is_done o old new first c last s left = left_as o _ _ old new (sym (command_of-For first c last s)) left
 
 -- ---- what is said of a form is said of the frame
 
 module _ (f : StatementFrame) (form : StatementForm) (is : f.form ≡ form) where
   pub resumed_as : (w : WalkResult) (new : Walk) (r : Result StatementStep Refusal) → Steps (resumed_at f.outer form w) new r → Steps (resumed f w) new r
-  resumed_as w new r told = subst (λ (g : StatementForm). Steps (resumed_at f.outer g w) new r) (sym is) told
+  resumed_as w new r holds = subst (λ (g : StatementForm). Steps (resumed_at f.outer g w) new r) (sym is) holds
 
   pub less_resumed : (r : Result StatementStep Refusal) → IfOk r (λ step. weight_of_step step < weight_of_form form) → IfOk r (λ step. weight_of_step step < weight_of_form f.form)
-  less_resumed r told = subst (λ (g : StatementForm). IfOk r (λ step. weight_of_step step < weight_of_form g)) (sym is) told
+  less_resumed r holds = subst (λ (g : StatementForm). IfOk r (λ step. weight_of_step step < weight_of_form g)) (sym is) holds
 
-  -- a statement that is judged behind this part
+  -- a statement that is judged after this part
   pub resumed_whole : (w : WalkResult) (new : Walk) (r : Result TStmt Refusal) (r' : Result StatementStep Refusal) → IsWhole r r' → Finishes (resumed_at f.outer form w) new r
       → Steps (resumed f w) new r'
-  resumed_whole w new r r' whole told = resumed_as w new r' (finished_steps _ new r r' whole told)
+  resumed_whole w new r r' whole holds = resumed_as w new r' (finished_steps _ new r r' whole holds)
 
   pub less_whole : (r : Result TStmt Refusal) (r' : Result StatementStep Refusal) → IsWhole r r' → 0 < weight_of_form form
       → IfOk r' (λ step. weight_of_step step < weight_of_form f.form)

@@ -19,8 +19,9 @@ use Rattle.pw_types.specs.declared.names.Kind.TheVariants.{Function, Variable}
 use Rattle.pw_types.specs.declared.names.File.{File}
 use Rattle.pw_types.specs.Scopes.{Scope, Meaning, missing, a_local, declared, meaning, function_reference, variable_reference}
 use Rattle.pw_types.specs.Typed.{mark, constant_type, typed_file, typed_name, Array, array_of, array_of_meaning, array_of_kind, Designated, function_of, function_of_meaning, function_of_kind, Callee as Called, direct, through, pointer_of_type, pointer_callee, callee_of, parameters_of, called, typed_unary, typed_binary, typed_choice, typed_element, with_both, with_three, both_trees, typed, typed_all}
-use Rattle.pw_types.specs.Expressions.{is_base, is_missing, is_judged, is_word, has_type, how_many, callee_in, first_parameter, other_parameters, unless_direct, faults, faults_of_arguments}
-use Rattle.pw_types.proofs.Empty.{front_empty, back_empty}
+use Rattle.pw_types.specs.Expressions.{is_base, is_missing, is_judged, is_word, has_type, how_many, callee_in, first_parameter, other_parameters}
+use Rattle.pw_types.specs.Steps.ExpressionFaults.{unless_direct, faults, faults_of_arguments}
+use Rattle.pw_types.proofs.Empty.{left_empty, right_empty}
 use Rattle.pw_types.proofs.NoFaults.{or_left, or_right, NoOwn, breaks_none}
 use Rattle.pw_types.proofs.Sound.{HasValue, IsNumeric, Sound, sound_constant, sound_local, sound_variable, sound_function, sound_element, sound_unary, sound_binary, sound_conditional, sound_call, sound_pointer, sound_input, sound_output, AllSound, sound_nil, sound_cons}
 
@@ -408,35 +409,35 @@ mutual
   sound_of scope role (word at name) none base =
       name_by scope role at name (breaks_none scope role (word at name) none) base (meaning scope name) refl
   sound_of scope role (unary at op e) none base =
-      unary_by scope role at op e (breaks_none scope role (unary at op e) none) (sound_of scope Value e (front_empty _ _ none) no_base)
+      unary_by scope role at op e (breaks_none scope role (unary at op e) none) (sound_of scope Value e (left_empty _ _ none) no_base)
   sound_of scope role (binary at op l r) none base =
-      let later = back_empty _ _ none in
+      let later = right_empty _ _ none in
       binary_by scope role at op l r (breaks_none scope role (binary at op l r) none)
-      (sound_of scope Value l (front_empty _ _ none) no_base) (sound_of scope Value r (front_empty _ _ later) no_base)
+      (sound_of scope Value l (left_empty _ _ none) no_base) (sound_of scope Value r (left_empty _ _ later) no_base)
   sound_of scope role (conditional at c a b) none base =
-      let later = back_empty _ _ none in
-      let last = back_empty _ _ later in
+      let later = right_empty _ _ none in
+      let last = right_empty _ _ later in
       conditional_by scope role at c a b (breaks_none scope role (conditional at c a b) none)
-      (sound_of scope Value c (front_empty _ _ none) no_base) (sound_of scope Value a (front_empty _ _ later) no_base)
-      (sound_of scope Value b (front_empty _ _ last) no_base)
+      (sound_of scope Value c (left_empty _ _ none) no_base) (sound_of scope Value a (left_empty _ _ later) no_base)
+      (sound_of scope Value b (left_empty _ _ last) no_base)
   sound_of scope role (call at f es) none base =
-      let later = back_empty _ _ none in
+      let later = right_empty _ _ none in
       call_by scope role at f es (function_of scope f) refl (breaks_none scope role (call at f es) none)
-      (λ is. sound_of scope Callee f (direct_or scope f (function_of scope f) (front_empty _ _ none) is) no_base)
-      (arguments_of scope (parameters_of (callee_in scope f)) es (front_empty _ _ later))
+      (λ is. sound_of scope Callee f (direct_or scope f (function_of scope f) (left_empty _ _ none) is) no_base)
+      (arguments_of scope (parameters_of (callee_in scope f)) es (left_empty _ _ later))
   sound_of scope role (index at b i) none base =
-      let later = back_empty _ _ none in
-      base_by_array scope role at b i (array_of scope b) refl (breaks_none scope Base b (front_empty _ _ none))
-      (λ is. sound_of scope Base b (front_empty _ _ none) (λ _. is)) (breaks_none scope role (index at b i) none)
-      (sound_of scope Value i (front_empty _ _ later) no_base)
+      let later = right_empty _ _ none in
+      base_by_array scope role at b i (array_of scope b) refl (breaks_none scope Base b (left_empty _ _ none))
+      (λ is. sound_of scope Base b (left_empty _ _ none) (λ _. is)) (breaks_none scope role (index at b i) none)
+      (sound_of scope Value i (left_empty _ _ later) no_base)
   sound_of scope role (input at) none base =
       sound_by scope role (input at) (tree.input (mark Long at)) (input_typed scope at) (sound_input at) (breaks_none scope role (input at) none)
   sound_of scope role (output at e) none base =
-      output_by scope role at e (breaks_none scope role (output at e) none) (sound_of scope Written e (front_empty _ _ none) no_base)
+      output_by scope role at e (breaks_none scope role (output at e) none) (sound_of scope Written e (left_empty _ _ none) no_base)
 
   pub arguments_of : (scope : Scope) (params : Option (List Ty)) (es : Expressions) → faults_of_arguments scope params es ≡ [] →
       ArgumentsOf scope params es
   arguments_of scope params nil none = arguments_nil scope params
   arguments_of scope params (cons e es) none =
-      arguments_cons scope params e es (sound_of scope (Argument (first_parameter params)) e (front_empty _ _ none) no_base)
-      (arguments_of scope (other_parameters params) es (back_empty _ _ none))
+      arguments_cons scope params e es (sound_of scope (Argument (first_parameter params)) e (left_empty _ _ none) no_base)
+      (arguments_of scope (other_parameters params) es (right_empty _ _ none))

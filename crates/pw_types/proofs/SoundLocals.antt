@@ -11,10 +11,10 @@ use Rattle.pw_tree.specs.Expressions.{Span, Expression}
 use Rattle.pw_tree.specs.Statements.{Statement, Statements, OptionalStatement, empty, block, local, set, evaluate, if_else, while_loop, do_loop, for_loop, returns, breaks, continues, nil, cons, absent, present}
 use Rattle.pw_tree.specs.TypedExpressions.{TypedExpression, type_of}
 use Rattle.pw_tree.specs.TypedStatements.{TypedStatement}
-use Rattle.pw_tree.specs.TypedStatements as command
+use Rattle.pw_tree.specs.TypedStatements as tree
 use Rattle.pw_tree.specs.Types.{IsValueType}
 use Rattle.pw_tree.specs.Units.{TypedUnit}
-use Rattle.pw_tree.specs.Proper.{IsNoDeclaration, IsNoElseDeclaration, IsSimple, IsLastPart, IsProper, AreProper, IsMaybeProper}
+use Rattle.pw_tree.specs.Proper.{IsNoDeclaration, IsNoElseDeclaration, IsSimpleStatement, IsLastPart, IsProper, AreProper, IsMaybeProper}
 use Rattle.pw_tree.specs.WellTypedExpressions.{Class, number, class_of, class, IsValue, IsValueClass, HasFittingParts, IsKnown, Throughout}
 use Rattle.pw_tree.specs.WellTypedStatements.{IfPresent, Everywhere, EverywhereIn, EverywhereIf, LocalFits, ReturnFits, IsCondition, StatementFits, known_after, known_after_maybe, ExpressionReads, StatementReads, StatementsRead, MaybeReads}
 use Rattle.pw_types.specs.declared.role.Role.{Role}
@@ -22,8 +22,8 @@ use Rattle.pw_types.specs.declared.role.Role.TheVariants.{Statement as AsStateme
 use Rattle.pw_types.specs.declared.names.Local.{Local}
 use Rattle.pw_types.specs.declared.names.File.{File}
 use Rattle.pw_types.specs.Scopes.{Scope, meaning, declared, local_named}
-use Rattle.pw_types.specs.Uses.{uses_of_meaning, uses_of_name, uses, file_number}
-use Rattle.pw_types.specs.Blocks.{Setting, part, body, head, Block, inner, behind, behind_maybe, with_local, past, locals_in, locals_in_all, locals_in_maybe, uses_of_option, uses_by, uses_by_all, uses_by_maybe}
+use Rattle.pw_types.specs.Steps.Uses.{uses_of_meaning, uses_of_name, uses, file_number, uses_of_option, uses_by, uses_by_all, uses_by_maybe}
+use Rattle.pw_types.specs.Blocks.{Setting, part, body, head, Block, inner, after, after_maybe, with_local, past, locals_in, locals_in_all, locals_in_maybe}
 use Rattle.pw_types.specs.TypedStatements.{typed_expression, typed_set, typed_statement, typed_statements, optional_typed_statement}
 use Rattle.pw_types.proofs.Classes.{number_class, value_class, void_class, converted_class, converted_value}
 use Rattle.pw_types.proofs.Fitting.{IsAmong, AreAmong, among_left, among_right, local_meant, own_file, LocalsFit, FilesFit, parts_fit, reads_known}
@@ -118,31 +118,31 @@ classes_from pre (ty ∷ tys) n e = (
       (classes_from (pre ++ ty ∷ []) tys (suc n) (omega (arith, length-append pre (ty ∷ [])))),
 )
 
--- ---- behind a statement
+-- ---- after a statement
 
-pub count_behind : (b : Block) (s : Statement) → (behind s b).count ≡ b.count + locals_in s
+pub count_after : (b : Block) (s : Statement) → (after s b).count ≡ b.count + locals_in s
 unfolding locals_in
-count_behind b (empty at) = omega arith
-count_behind b (block at ss) = refl
-count_behind b (local at ty name e) = omega arith
-count_behind b (set at name i e) = omega arith
-count_behind b (evaluate at e) = omega arith
-count_behind b (if_else at c a d) = refl
-count_behind b (while_loop at c s) = refl
-count_behind b (do_loop at s c) = refl
-count_behind b (for_loop at first c last s) = refl
-count_behind b (returns at e) = omega arith
-count_behind b (breaks at) = omega arith
-count_behind b (continues at) = omega arith
+count_after b (empty at) = omega arith
+count_after b (block at ss) = refl
+count_after b (local at ty name e) = omega arith
+count_after b (set at name i e) = omega arith
+count_after b (evaluate at e) = omega arith
+count_after b (if_else at c a d) = refl
+count_after b (while_loop at c s) = refl
+count_after b (do_loop at s c) = refl
+count_after b (for_loop at first c last s) = refl
+count_after b (returns at e) = omega arith
+count_after b (breaks at) = omega arith
+count_after b (continues at) = omega arith
 
-pub count_behind_maybe : (b : Block) (s : OptionalStatement) → (behind_maybe s b).count ≡ b.count + locals_in_maybe s
+pub count_after_maybe : (b : Block) (s : OptionalStatement) → (after_maybe s b).count ≡ b.count + locals_in_maybe s
 unfolding locals_in
-count_behind_maybe b absent = omega arith
-count_behind_maybe b (present s) = count_behind b s
+count_after_maybe b absent = omega arith
+count_after_maybe b (present s) = count_after b s
 
 -- ---- places
 
--- What holds of a place: the visible locals have their classes and are known, and names at file level are those of the unit.
+-- What holds of a place: the visible locals have their classes and are known, and names at file scope are those of the unit.
 pub record Place (unit : TypedUnit) (used : List ℕ) (classes : List Class) (known : List ℕ) (scope : Scope) : Type 0 where
   pub locals : LocalsFit classes known scope
   pub files : FilesFit unit used scope
@@ -164,18 +164,18 @@ module _ (unit : TypedUnit) (used : List ℕ) (classes : List Class) where
   }
 
   more_known : (known : List ℕ) (t : TypedStatement) (scope : Scope) → Place unit used classes known scope → Place unit used classes (known_after t known) scope
-  more_known known (command.set_local i e) scope p = one_more_known known i scope p
-  more_known known (command.evaluate e) scope p = p
-  more_known known (command.set_variable x e) scope p = p
-  more_known known (command.set_element x size line i e) scope p = p
-  more_known known (command.block ss) scope p = p
-  more_known known (command.if_else c a d) scope p = p
-  more_known known (command.while_loop c s) scope p = p
-  more_known known (command.do_loop s c) scope p = p
-  more_known known (command.for_loop first c last s) scope p = p
-  more_known known (command.returns e) scope p = p
-  more_known known command.breaks scope p = p
-  more_known known command.continues scope p = p
+  more_known known (tree.set_local i e) scope p = one_more_known known i scope p
+  more_known known (tree.evaluate e) scope p = p
+  more_known known (tree.set_variable x e) scope p = p
+  more_known known (tree.set_element x size line i e) scope p = p
+  more_known known (tree.block ss) scope p = p
+  more_known known (tree.if_else c a d) scope p = p
+  more_known known (tree.while_loop c s) scope p = p
+  more_known known (tree.do_loop s c) scope p = p
+  more_known known (tree.for_loop first c last s) scope p = p
+  more_known known (tree.returns e) scope p = p
+  more_known known tree.breaks scope p = p
+  more_known known tree.continues scope p = p
 
 -- ---- one local more
 
@@ -223,7 +223,7 @@ module _ (unit : TypedUnit) (used : List ℕ) (classes : List Class) where
 
   -- a branch or a loop's body leaves nothing visible
   passed_place : (known : List ℕ) (b : Block) (s : Statement) → IsNoDeclaration s → Place unit used classes known b.scope →
-      Place unit used classes known (behind s b).scope
+      Place unit used classes known (after s b).scope
   passed_place known b (local at ty name e) p q = absurd p
   passed_place known b (empty at) p q = q
   passed_place known b (block at ss) p q = record { locals = q.locals; files = q.files }
@@ -238,32 +238,32 @@ module _ (unit : TypedUnit) (used : List ℕ) (classes : List Class) where
   passed_place known b (continues at) p q = q
 
   -- a declaration leaves its local visible, and known
-  behind_place : (x : Setting) (known : List ℕ) (b : Block) (s : Statement) → Place unit used classes known b.scope →
-      HaveClasses classes b.count (types_in s) → Place unit used classes (known_after (typed_statement x b s) known) (behind s b).scope
+  after_place : (x : Setting) (known : List ℕ) (b : Block) (s : Statement) → Place unit used classes known b.scope →
+      HaveClasses classes b.count (types_in s) → Place unit used classes (known_after (typed_statement x b s) known) (after s b).scope
   unfolding HaveClasses types_in typed_statement
-  behind_place x known b (local at ty name e) p h = declared_place known b name ty p h.0
-  behind_place x known b (empty at) p h = p
-  behind_place x known b (block at ss) p h = p
-  behind_place x known b (set at name i e) p h = more_known unit used classes known (typed_set x b.scope at name i e) b.scope p
-  behind_place x known b (evaluate at e) p h = p
-  behind_place x known b (if_else at c a d) p h = p
-  behind_place x known b (while_loop at c s) p h = p
-  behind_place x known b (do_loop at s c) p h = p
-  behind_place x known b (for_loop at first c last s) p h = p
-  behind_place x known b (returns at e) p h = p
-  behind_place x known b (breaks at) p h = p
-  behind_place x known b (continues at) p h = p
+  after_place x known b (local at ty name e) p h = declared_place known b name ty p h.0
+  after_place x known b (empty at) p h = p
+  after_place x known b (block at ss) p h = p
+  after_place x known b (set at name i e) p h = more_known unit used classes known (typed_set x b.scope at name i e) b.scope p
+  after_place x known b (evaluate at e) p h = p
+  after_place x known b (if_else at c a d) p h = p
+  after_place x known b (while_loop at c s) p h = p
+  after_place x known b (do_loop at s c) p h = p
+  after_place x known b (for_loop at first c last s) p h = p
+  after_place x known b (returns at e) p h = p
+  after_place x known b (breaks at) p h = p
+  after_place x known b (continues at) p h = p
 
   maybe_place : (x : Setting) (known : List ℕ) (b : Block) (s : OptionalStatement) → Place unit used classes known b.scope →
       HaveClasses classes b.count (types_in_maybe s) →
-      Place unit used classes (known_after_maybe (optional_typed_statement x b s) known) (behind_maybe s b).scope
+      Place unit used classes (known_after_maybe (optional_typed_statement x b s) known) (after_maybe s b).scope
   unfolding types_in typed_statement
   maybe_place x known b absent p h = p
-  maybe_place x known b (present s) p h = behind_place x known b s p h
+  maybe_place x known b (present s) p h = after_place x known b s p h
 
   -- nor does the last part of a `for`
-  simple_passed : (known : List ℕ) (b : Block) (s : Statement) → IsSimple s → Place unit used classes known b.scope →
-      Place unit used classes known (behind s b).scope
+  simple_passed : (known : List ℕ) (b : Block) (s : Statement) → IsSimpleStatement s → Place unit used classes known b.scope →
+      Place unit used classes known (after s b).scope
   simple_passed known b (set at name i e) p q = q
   simple_passed known b (evaluate at e) p q = q
   simple_passed known b (local at ty name e) p q = absurd p
@@ -278,7 +278,7 @@ module _ (unit : TypedUnit) (used : List ℕ) (classes : List Class) where
   simple_passed known b (continues at) p q = absurd p
 
   last_passed : (known : List ℕ) (b : Block) (s : OptionalStatement) → IsLastPart s → Place unit used classes known b.scope →
-      Place unit used classes known (behind_maybe s b).scope
+      Place unit used classes known (after_maybe s b).scope
   last_passed known b absent p q = q
   last_passed known b (present s) p q = simple_passed known b s p q
 
@@ -289,11 +289,11 @@ pub record Flows (unit : TypedUnit) (result : Class) (classes : List Class) (kno
   pub fits : Everywhere (StatementFits unit result classes) t
   pub reads : StatementReads known t
 
-pub record AllFlow (unit : TypedUnit) (result : Class) (classes : List Class) (known : List ℕ) (ts : command.TypedStatements) : Type 0 where
+pub record AllFlow (unit : TypedUnit) (result : Class) (classes : List Class) (known : List ℕ) (ts : tree.TypedStatements) : Type 0 where
   pub fits : EverywhereIn (StatementFits unit result classes) ts
   pub reads : StatementsRead known ts
 
-pub record MaybeFlows (unit : TypedUnit) (result : Class) (classes : List Class) (known : List ℕ) (t : command.OptionalTypedStatement) : Type 0 where
+pub record MaybeFlows (unit : TypedUnit) (result : Class) (classes : List Class) (known : List ℕ) (t : tree.OptionalTypedStatement) : Type 0 where
   pub fits : EverywhereIf (StatementFits unit result classes) t
   pub reads : MaybeReads known t
 
@@ -301,7 +301,7 @@ variable_used : (scope : Scope) (used : List ℕ) (name : List ℕ) (f : File) �
     IsAmong used (file_number f.name scope.files)
 variable_used scope used name f is h = (subst (λ m. AreAmong used (uses_of_meaning scope m)) is h).0
 
-simple_proper : (s : Statement) → IsSimple s → IsProper s
+simple_proper : (s : Statement) → IsSimpleStatement s → IsProper s
 unfolding IsProper
 simple_proper (set at name i e) p = tt
 simple_proper (evaluate at e) p = tt
@@ -345,7 +345,7 @@ module _ (unit : TypedUnit) (used : List ℕ) (classes : List Class) where
 
     -- a return
     return_flows : (result : Ty) (e : Option Expression) → Returns result scope e → AreAmong used (uses_of_option scope e) →
-        Flows unit (class_of result) classes known (command.returns (option_map (typed_expression scope) e))
+        Flows unit (class_of result) classes known (tree.returns (option_map (typed_expression scope) e))
     unfolding Everywhere StatementReads
     return_flows result None h u = record { fits = record { classes_fit = void_class result h; parts = tt }; reads = tt }
     return_flows result (Some e) h u = record {
@@ -359,7 +359,7 @@ module _ (unit : TypedUnit) (used : List ℕ) (classes : List Class) where
     -- a local's declaration
     declaration_flows : (result : Class) (n : ℕ) (ty : Ty) (e : Option Expression) → slice_get classes n ≡ Some (class_of ty) → n < length classes →
         IsOptionWhole scope (Assigned (Some ty)) e → AreAmong used (uses_of_option scope e) →
-        Flows unit result classes known (command.set_local n (option_map (typed_expression scope) e))
+        Flows unit result classes known (tree.set_local n (option_map (typed_expression scope) e))
     unfolding Everywhere StatementReads
     declaration_flows result n ty None is within h u = record { fits = record { classes_fit = within; parts = tt }; reads = tt }
     declaration_flows result n ty (Some e) is within h u = record {
@@ -441,17 +441,17 @@ module _ (unit : TypedUnit) (used : List ℕ) (classes : List Class) where
       reads = reads known b.scope p AsStatement e h.typed_as;
     }
     flows x b (if_else at c a d) known p k u q h =
-        let later = among_right used (uses b.scope c) (uses_by b a ++ uses_by_maybe (behind a b) d) u in
+        let later = among_right used (uses b.scope c) (uses_by b a ++ uses_by_maybe (after a b) d) u in
         let r = flows (part x) b a known p (have_left classes b.count (types_in a) (types_in_maybe d) k)
-        (among_left used (uses_by b a) (uses_by_maybe (behind a b) d) later) q.2 h.1 in
-        let t = maybe_flows (part x) (behind a b) d known (passed_place unit used classes known b a q.0 p)
-        (have_right classes b.count (behind a b).count (types_in a) (types_in_maybe d) (omega (arith, count_behind b a, types_count a)) k)
-        (among_right used (uses_by b a) (uses_by_maybe (behind a b) d) later) q.3 h.2 in
+        (among_left used (uses_by b a) (uses_by_maybe (after a b) d) later) q.2 h.1 in
+        let t = maybe_flows (part x) (after a b) d known (passed_place unit used classes known b a q.0 p)
+        (have_right classes b.count (after a b).count (types_in a) (types_in_maybe d) (omega (arith, count_after b a, types_count a)) k)
+        (among_right used (uses_by b a) (uses_by_maybe (after a b) d) later) q.3 h.2 in
         record {
           fits = (
             record {
               classes_fit = value_class _ h.0.typed_as.fits;
-              parts = parts known b.scope p Value c h.0.typed_as (among_left used (uses b.scope c) (uses_by b a ++ uses_by_maybe (behind a b) d) u);
+              parts = parts known b.scope p Value c h.0.typed_as (among_left used (uses b.scope c) (uses_by b a ++ uses_by_maybe (after a b) d) u);
             },
             r.fits,
             t.fits,
@@ -483,8 +483,8 @@ module _ (unit : TypedUnit) (used : List ℕ) (classes : List Class) where
           reads = (r.reads, reads known b.scope p Value c h.1.typed_as);
         }
     flows x b (for_loop at first c last s) known p k u q h =
-        let b1 : Block = behind_maybe first (inner b) in
-        let b2 : Block = behind_maybe last b1 in
+        let b1 : Block = after_maybe first (inner b) in
+        let b2 : Block = after_maybe last b1 in
         let known1 : List ℕ = known_after_maybe (optional_typed_statement (head x) (inner b) first) known in
         let us1 : List ℕ = uses_by_maybe (inner b) first in
         let us2 : List ℕ = uses_of_option b1.scope c in
@@ -493,9 +493,9 @@ module _ (unit : TypedUnit) (used : List ℕ) (classes : List Class) where
         let k1 : HaveClasses classes b.count (types_in_maybe first) = have_left classes b.count (types_in_maybe first) (types_in_maybe last ++ types_in s) k in
         let k2 : HaveClasses classes b1.count (types_in_maybe last ++ types_in s) =
         have_right classes b.count b1.count (types_in_maybe first) (types_in_maybe last ++ types_in s)
-        (omega (arith, count_behind_maybe (inner b) first, maybe_types_count first)) k in
+        (omega (arith, count_after_maybe (inner b) first, maybe_types_count first)) k in
         let k3 : HaveClasses classes b2.count (types_in s) =
-        have_right classes b1.count b2.count (types_in_maybe last) (types_in s) (omega (arith, count_behind_maybe b1 last, maybe_types_count last)) k2 in
+        have_right classes b1.count b2.count (types_in_maybe last) (types_in s) (omega (arith, count_after_maybe b1 last, maybe_types_count last)) k2 in
         let v2 = among_right used us1 (us2 ++ (us3 ++ us4)) u in
         let v3 = among_right used us2 (us3 ++ us4) v2 in
         let place0 : Place unit used classes known (inner b).scope = p in
@@ -527,10 +527,10 @@ module _ (unit : TypedUnit) (used : List ℕ) (classes : List Class) where
     all_flow x b nil known p c u q h = record { fits = tt; reads = tt }
     all_flow x b (cons s ss) known p c u q h =
         let here = have_left classes b.count (types_in s) (types_in_all ss) c in
-        let r = flows x b s known p here (among_left used (uses_by b s) (uses_by_all (behind s b) ss) u) q.0 h.0 in
-        let t = all_flow x (behind s b) ss (known_after (typed_statement x b s) known) (behind_place unit used classes x known b s p here)
-        (have_right classes b.count (behind s b).count (types_in s) (types_in_all ss) (omega (arith, count_behind b s, types_count s)) c)
-        (among_right used (uses_by b s) (uses_by_all (behind s b) ss) u) q.1 h.1 in
+        let r = flows x b s known p here (among_left used (uses_by b s) (uses_by_all (after s b) ss) u) q.0 h.0 in
+        let t = all_flow x (after s b) ss (known_after (typed_statement x b s) known) (after_place unit used classes x known b s p here)
+        (have_right classes b.count (after s b).count (types_in s) (types_in_all ss) (omega (arith, count_after b s, types_count s)) c)
+        (among_right used (uses_by b s) (uses_by_all (after s b) ss) u) q.1 h.1 in
         record { fits = (r.fits, t.fits); reads = (r.reads, t.reads) }
 
     maybe_flows : (x : Setting) (b : Block) (s : OptionalStatement) (known : List ℕ) → Place unit used classes known b.scope →

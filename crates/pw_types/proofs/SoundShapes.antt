@@ -7,20 +7,20 @@ use Rattle.pw_tree.specs.declared.ty.Ty.{Ty}
 use Rattle.pw_tree.specs.Expressions.{Span, Expression}
 use Rattle.pw_tree.specs.Statements.{Statement, Statements, OptionalStatement, empty, block, local, set, evaluate, if_else, while_loop, do_loop, for_loop, returns, breaks, continues, nil, cons, absent, present}
 use Rattle.pw_tree.specs.TypedStatements.{TypedStatement}
-use Rattle.pw_tree.specs.TypedStatements as command
+use Rattle.pw_tree.specs.TypedStatements as tree
 use Rattle.pw_tree.specs.Held.{held, held_option, held_by, held_by_all, held_by_maybe}
-use Rattle.pw_tree.specs.Placed.{span_of, behind as token_behind, behind_option, local_name_at, index_end, statement_span, behind_statement, behind_maybe as token_behind_maybe, set_end, IsPlaced, IsOptionPlaced, IsSetPlaced, IsStatementPlaced, AreStatementsPlaced, IsMaybePlaced}
-use Rattle.pw_tree.specs.Proper.{IsSimple, IsSimpleOrDeclaration, IsFirstPart, IsLastPart, IsProper, AreProper, IsMaybeProper, HasNumbers, HasOptionNumbers, HasStatementNumbers, HaveStatementNumbers, HasMaybeNumbers}
+use Rattle.pw_tree.specs.Placed.{span_of, token_after, token_after_option, local_name_at, index_end, statement_span, token_after_statement, token_after_maybe, set_end, IsPlaced, IsOptionPlaced, IsSetPlaced, IsStatementPlaced, AreStatementsPlaced, IsMaybePlaced}
+use Rattle.pw_tree.specs.Proper.{IsSimpleStatement, IsSimpleOrDeclaration, IsFirstPart, IsLastPart, IsProper, AreProper, IsMaybeProper, HasNumbers, HasOptionNumbers, HasStatementNumbers, HaveStatementNumbers, HasMaybeNumbers}
 use Rattle.pw_tree.specs.WellTypedExpressions.{HasSmallNumbers, Throughout, expressions_in}
 use Rattle.pw_tree.specs.WellTypedStatements.{IfPresent, Everywhere, EverywhereIn, EverywhereIf, LeavesLoops, AllLeaveLoops, MaybeLeavesLoops, HasSimpleParts, StatementHasSmallNumbers, expressions_in_option, phrases_in, phrases_in_all, phrases_in_maybe}
 use Rattle.pw_tree.specs.WellTypedStatements as typed
 use Rattle.pw_types.specs.declared.role.Role.{Role}
 use Rattle.pw_types.specs.declared.role.Role.TheVariants.{Value, Assigned}
 use Rattle.pw_types.specs.Scopes.{Scope}
-use Rattle.pw_types.specs.Blocks.{Setting, part, body, head, Block, inner, behind, behind_maybe}
+use Rattle.pw_types.specs.Blocks.{Setting, part, body, head, Block, inner, after, after_maybe}
 use Rattle.pw_types.specs.TypedStatements.{typed_expression, bracket_line, typed_set, typed_statement, typed_statements, optional_typed_statement}
 use Rattle.pw_types.proofs.StandingExpressions.{placed_within}
-use Rattle.pw_types.proofs.StandingStatements.{name_behind, statement_within}
+use Rattle.pw_types.proofs.StandingStatements.{name_after, statement_within}
 use Rattle.pw_types.proofs.Fitting.{numbers_small, expression_counted}
 use Rattle.pw_types.proofs.SoundStatements.{IsTypedAs, IsWhole, IsOptionWhole, SoundSet, set_to_local, set_to_variable, set_to_element, ReturnsWell, Returns, DeclaresWell, IsSound, AreSound, IsMaybeSound}
 
@@ -42,17 +42,17 @@ mutual
   leaves_loops x b (local at ty name e) h = tt
   leaves_loops x b (set at name i e) h = set_leaves x.in_loop h
   leaves_loops x b (evaluate at e) h = tt
-  leaves_loops x b (if_else at c a d) h = (leaves_loops (part x) b a h.1, maybe_leaves_loops (part x) (behind a b) d h.2)
+  leaves_loops x b (if_else at c a d) h = (leaves_loops (part x) b a h.1, maybe_leaves_loops (part x) (after a b) d h.2)
   leaves_loops x b (while_loop at c s) h = leaves_loops (body x) b s h.1
   leaves_loops x b (do_loop at s c) h = leaves_loops (body x) b s h.0
-  leaves_loops x b (for_loop at first c last s) h = leaves_loops (body x) (behind_maybe last (behind_maybe first (inner b))) s h.3
+  leaves_loops x b (for_loop at first c last s) h = leaves_loops (body x) (after_maybe last (after_maybe first (inner b))) s h.3
   leaves_loops x b (returns at e) h = tt
   leaves_loops x b (breaks at) h = h
   leaves_loops x b (continues at) h = h
 
   pub all_leave_loops : (x : Setting) (b : Block) (ss : Statements) → AreSound x b ss → AllLeaveLoops x.in_loop (typed_statements x b ss)
   all_leave_loops x b nil h = tt
-  all_leave_loops x b (cons s ss) h = (leaves_loops x b s h.0, all_leave_loops x (behind s b) ss h.1)
+  all_leave_loops x b (cons s ss) h = (leaves_loops x b s h.0, all_leave_loops x (after s b) ss h.1)
 
   maybe_leaves_loops : (x : Setting) (b : Block) (s : OptionalStatement) → IsMaybeSound x b s → MaybeLeavesLoops x.in_loop (optional_typed_statement x b s)
   maybe_leaves_loops x b absent h = tt
@@ -79,7 +79,7 @@ set_parts (set_to_local name l e is typed_as few) = tt
 set_parts (set_to_variable name f ty e is kind typed_as few) = tt
 set_parts (set_to_element name f ty size i e is kind index numeric value few) = tt
 
-simple_last : (x : Setting) (b : Block) (s : Statement) → IsSimple s → IsSound x b s → typed.IsSimpleTypedLast (typed_statement x b s)
+simple_last : (x : Setting) (b : Block) (s : Statement) → IsSimpleStatement s → IsSound x b s → typed.IsSimpleTypedLast (typed_statement x b s)
 unfolding IsSound typed_statement
 simple_last x b (set at name i e) p h = set_simple h
 simple_last x b (evaluate at e) p h = tt
@@ -120,7 +120,7 @@ last_part x b absent p h = tt
 last_part x b (present s) p h = simple_last x b s p h
 
 -- a simple statement has no `for` in it
-last_parts : (x : Setting) (b : Block) (s : Statement) → IsSimple s → IsSound x b s → Everywhere HasSimpleParts (typed_statement x b s)
+last_parts : (x : Setting) (b : Block) (s : Statement) → IsSimpleStatement s → IsSound x b s → Everywhere HasSimpleParts (typed_statement x b s)
 unfolding IsSound typed_statement Everywhere
 last_parts x b (set at name i e) p h = set_parts h
 last_parts x b (evaluate at e) p h = tt
@@ -150,14 +150,14 @@ mutual
   simple_parts x b (local at ty name e) p h = tt
   simple_parts x b (set at name i e) p h = set_parts h
   simple_parts x b (evaluate at e) p h = tt
-  simple_parts x b (if_else at c a d) p h = (tt, simple_parts (part x) b a p.2 h.1, maybe_simple_parts (part x) (behind a b) d p.3 h.2)
+  simple_parts x b (if_else at c a d) p h = (tt, simple_parts (part x) b a p.2 h.1, maybe_simple_parts (part x) (after a b) d p.3 h.2)
   simple_parts x b (while_loop at c s) p h = (tt, simple_parts (body x) b s p.1 h.1)
   simple_parts x b (do_loop at s c) p h = (tt, simple_parts (body x) b s p.1 h.0)
   simple_parts x b (for_loop at first c last s) p h = (
-    (first_part (head x) (inner b) first p.0 h.0, last_part (head x) (behind_maybe first (inner b)) last p.1 h.2),
+    (first_part (head x) (inner b) first p.0 h.0, last_part (head x) (after_maybe first (inner b)) last p.1 h.2),
     maybe_simple_parts (head x) (inner b) first p.3 h.0,
-    maybe_last_parts (head x) (behind_maybe first (inner b)) last p.1 h.2,
-    simple_parts (body x) (behind_maybe last (behind_maybe first (inner b))) s p.4 h.3,
+    maybe_last_parts (head x) (after_maybe first (inner b)) last p.1 h.2,
+    simple_parts (body x) (after_maybe last (after_maybe first (inner b))) s p.4 h.3,
   )
   simple_parts x b (returns at e) p h = tt
   simple_parts x b (breaks at) p h = tt
@@ -165,7 +165,7 @@ mutual
 
   pub all_simple_parts : (x : Setting) (b : Block) (ss : Statements) → AreProper ss → AreSound x b ss → EverywhereIn HasSimpleParts (typed_statements x b ss)
   all_simple_parts x b nil p h = tt
-  all_simple_parts x b (cons s ss) p h = (simple_parts x b s p.0 h.0, all_simple_parts x (behind s b) ss p.1 h.1)
+  all_simple_parts x b (cons s ss) p h = (simple_parts x b s p.0 h.0, all_simple_parts x (after s b) ss p.1 h.1)
 
   maybe_simple_parts : (x : Setting) (b : Block) (s : OptionalStatement) → IsMaybeProper s → IsMaybeSound x b s →
       EverywhereIf HasSimpleParts (optional_typed_statement x b s)
@@ -213,17 +213,17 @@ mutual
   small_numbers x b (if_else at c a d) l n h = (
     record { line = tt; expressions = numbers_small h.0.typed_as.sound n.0 },
     small_numbers (part x) b a l n.1 h.1,
-    maybe_small_numbers (part x) (behind a b) d l n.2 h.2,
+    maybe_small_numbers (part x) (after a b) d l n.2 h.2,
   )
   small_numbers x b (while_loop at c s) l n h =
       (record { line = tt; expressions = numbers_small h.0.typed_as.sound n.0 }, small_numbers (body x) b s l n.1 h.1)
   small_numbers x b (do_loop at s c) l n h =
       (record { line = tt; expressions = numbers_small h.1.typed_as.sound n.1 }, small_numbers (body x) b s l n.0 h.0)
   small_numbers x b (for_loop at first c last s) l n h = (
-    record { line = tt; expressions = option_small (behind_maybe first (inner b)).scope Value c h.1 n.1 },
+    record { line = tt; expressions = option_small (after_maybe first (inner b)).scope Value c h.1 n.1 },
     maybe_small_numbers (head x) (inner b) first l n.0 h.0,
-    maybe_small_numbers (head x) (behind_maybe first (inner b)) last l n.2 h.2,
-    small_numbers (body x) (behind_maybe last (behind_maybe first (inner b))) s l n.3 h.3,
+    maybe_small_numbers (head x) (after_maybe first (inner b)) last l n.2 h.2,
+    small_numbers (body x) (after_maybe last (after_maybe first (inner b))) s l n.3 h.3,
   )
   small_numbers x b (returns at e) l n h = record { line = tt; expressions = return_small x.result b.scope e h n }
   small_numbers x b (breaks at) l n h = record { line = tt; expressions = tt }
@@ -232,7 +232,7 @@ mutual
   pub all_small_numbers : (x : Setting) (b : Block) (ss : Statements) → AreSmallLines x.lines → HaveStatementNumbers ss → AreSound x b ss →
       EverywhereIn StatementHasSmallNumbers (typed_statements x b ss)
   all_small_numbers x b nil l n h = tt
-  all_small_numbers x b (cons s ss) l n h = (small_numbers x b s l n.0 h.0, all_small_numbers x (behind s b) ss l n.1 h.1)
+  all_small_numbers x b (cons s ss) l n h = (small_numbers x b s l n.0 h.0, all_small_numbers x (after s b) ss l n.1 h.1)
 
   maybe_small_numbers : (x : Setting) (b : Block) (s : OptionalStatement) → AreSmallLines x.lines → HasMaybeNumbers s → IsMaybeSound x b s →
       EverywhereIf StatementHasSmallNumbers (optional_typed_statement x b s)
@@ -266,16 +266,16 @@ mutual
   few_held x b (set at name i e) h = set_few h
   few_held x b (evaluate at e) h = h.few
   few_held x b (if_else at c a d) h =
-      omega (arith, h.0.few, few_held (part x) b a h.1, maybe_few_held (part x) (behind a b) d h.2)
+      omega (arith, h.0.few, few_held (part x) b a h.1, maybe_few_held (part x) (after a b) d h.2)
   few_held x b (while_loop at c s) h = omega (arith, h.0.few, few_held (body x) b s h.1)
   few_held x b (do_loop at s c) h = omega (arith, h.1.few, few_held (body x) b s h.0)
   few_held x b (for_loop at first c last s) h =
       omega (
         arith,
         maybe_few_held (head x) (inner b) first h.0,
-        option_few (behind_maybe first (inner b)).scope Value c h.1,
-        maybe_few_held (head x) (behind_maybe first (inner b)) last h.2,
-        few_held (body x) (behind_maybe last (behind_maybe first (inner b))) s h.3,
+        option_few (after_maybe first (inner b)).scope Value c h.1,
+        maybe_few_held (head x) (after_maybe first (inner b)) last h.2,
+        few_held (body x) (after_maybe last (after_maybe first (inner b))) s h.3,
       )
   few_held x b (returns at e) h = return_few x.result b.scope e h
   few_held x b (breaks at) h = omega arith
@@ -283,7 +283,7 @@ mutual
 
   pub all_few_held : (x : Setting) (b : Block) (ss : Statements) → AreSound x b ss → held_by_all (typed_statements x b ss) ≤ 100
   all_few_held x b nil h = omega arith
-  all_few_held x b (cons s ss) h = omega (arith, few_held x b s h.0, all_few_held x (behind s b) ss h.1)
+  all_few_held x b (cons s ss) h = omega (arith, few_held x b s h.0, all_few_held x (after s b) ss h.1)
 
   maybe_few_held : (x : Setting) (b : Block) (s : OptionalStatement) → IsMaybeSound x b s → held_by_maybe (optional_typed_statement x b s) ≤ 100
   maybe_few_held x b absent h = omega arith
@@ -297,31 +297,31 @@ extra true = 1
 extra false = 0
 
 option_counted : (scope : Scope) (role : Role) (e : Option Expression) (low high : ℕ) → IsOptionWhole scope role e → IsOptionPlaced low high e →
-    expressions_in_option (option_map (typed_expression scope) e) + low ≤ behind_option low e
+    expressions_in_option (option_map (typed_expression scope) e) + low ≤ token_after_option low e
 option_counted scope role None low high h p = omega arith
 option_counted scope role (Some e) low high h p =
     let w = placed_within e p in omega (arith, expression_counted low high h.typed_as.sound p, w.from)
 
 return_counted : (result : Ty) (scope : Scope) (e : Option Expression) (low high : ℕ) → Returns result scope e → IsOptionPlaced low high e →
-    expressions_in_option (option_map (typed_expression scope) e) + low ≤ behind_option low e
+    expressions_in_option (option_map (typed_expression scope) e) + low ≤ token_after_option low e
 return_counted result scope None low high h p = omega arith
 return_counted result scope (Some e) low high h p =
     let w = placed_within e p in omega (arith, expression_counted low high h.whole.typed_as.sound p, w.from)
 
-option_within : (e : Option Expression) (low high : ℕ) → low ≤ suc high → IsOptionPlaced low high e → behind_option low e ≤ suc high
+option_within : (e : Option Expression) (low high : ℕ) → low ≤ suc high → IsOptionPlaced low high e → token_after_option low e ≤ suc high
 option_within None low high l p = l
 option_within (Some e) low high l p = let w = placed_within e p in omega (arith, w.to)
 
-option_from : (e : Option Expression) (low high : ℕ) → IsOptionPlaced low high e → low ≤ behind_option low e
+option_from : (e : Option Expression) (low high : ℕ) → IsOptionPlaced low high e → low ≤ token_after_option low e
 option_from None low high p = omega arith
 option_from (Some e) low high p = let w = placed_within e p in omega (arith, w.from, w.some)
 
-maybe_within : (in_head : Bool) (s : OptionalStatement) (low high : ℕ) → low ≤ suc high → IsMaybePlaced in_head low high s → token_behind_maybe low s ≤ suc high
+maybe_within : (in_head : Bool) (s : OptionalStatement) (low high : ℕ) → low ≤ suc high → IsMaybePlaced in_head low high s → token_after_maybe low s ≤ suc high
 unfolding IsStatementPlaced
 maybe_within in_head absent low high l p = l
 maybe_within in_head (present s) low high l p = let w = statement_within in_head s p in omega (arith, w.to)
 
-maybe_from : (in_head : Bool) (s : OptionalStatement) (low high : ℕ) → IsMaybePlaced in_head low high s → low ≤ token_behind_maybe low s
+maybe_from : (in_head : Bool) (s : OptionalStatement) (low high : ℕ) → IsMaybePlaced in_head low high s → low ≤ token_after_maybe low s
 unfolding IsStatementPlaced
 maybe_from in_head absent low high p = omega arith
 maybe_from in_head (present s) low high p = let w = statement_within in_head s p in omega (arith, w.from, w.some)
@@ -352,14 +352,14 @@ mutual
   unfolding IsSound typed_statement phrases_in IsStatementPlaced
 
   counted : (x : Setting) (b : Block) (s : Statement) (low high : ℕ) → 1 ≤ low → IsStatementPlaced x.in_head low high s → IsSound x b s →
-      phrases_in (typed_statement x b s) + (statement_span s).first ≤ behind_statement s + extra x.in_head
+      phrases_in (typed_statement x b s) + (statement_span s).first ≤ token_after_statement s + extra x.in_head
   counted x b (empty at) low high l p h = omega (arith, p.some)
   counted x b (block at ss) low high l p h =
       omega (arith, all_counted (part x) (inner b) ss _ _ (omega arith) (omega (arith, p.0.some)) refl p.1 h)
   counted x b (local at ty name e) low high l p h =
       omega (
         arith,
-        name_behind at ty,
+        name_after at ty,
         p.1,
         option_counted b.scope (Assigned (Some ty)) e _ _ h.value p.2,
         option_within e _ _ (omega (arith, p.1)) p.2,
@@ -377,7 +377,7 @@ mutual
         v.from,
         counted (part x) b a _ _ (omega arith) p.2 h.1,
         w.from,
-        maybe_counted (part x) (behind a b) d _ _ (omega arith) p.3 h.2,
+        maybe_counted (part x) (after a b) d _ _ (omega arith) p.3 h.2,
         maybe_within false d _ _ (omega (arith, w.to)) p.3,
       )
   counted x b (while_loop at c s) low high l p h =
@@ -390,17 +390,17 @@ mutual
       omega (arith, counted (body x) b s _ _ (omega arith) p.1 h.0, v.from, expression_counted _ _ h.1.typed_as.sound p.2, w.from, w.to)
   counted x b (for_loop at first c last s) low high l p h =
       let w = statement_within false s p.4 in
-      let p1 : ℕ = token_behind_maybe (at.first + 2) first in
-      let p2 : ℕ = behind_option p1 c in
-      let p3 : ℕ = token_behind_maybe (suc p2) last in
+      let p1 : ℕ = token_after_maybe (at.first + 2) first in
+      let p2 : ℕ = token_after_option p1 c in
+      let p3 : ℕ = token_after_maybe (suc p2) last in
       let n1 : phrases_in_maybe (optional_typed_statement (head x) (inner b) first) + (at.first + 2) ≤ p1 + 1 =
       maybe_counted (head x) (inner b) first _ _ (omega arith) p.1 h.0 in
-      let n2 : expressions_in_option (option_map (typed_expression (behind_maybe first (inner b)).scope) c) + p1 ≤ p2 =
-      option_counted (behind_maybe first (inner b)).scope Value c _ _ h.1 p.2 in
-      let n3 : phrases_in_maybe (optional_typed_statement (head x) (behind_maybe first (inner b)) last) + suc p2 ≤ p3 + 1 =
-      maybe_counted (head x) (behind_maybe first (inner b)) last _ _ (omega arith) p.3 h.2 in
-      let n4 : phrases_in (typed_statement (body x) (behind_maybe last (behind_maybe first (inner b))) s) + (statement_span s).first ≤ behind_statement s + 0 =
-      counted (body x) (behind_maybe last (behind_maybe first (inner b))) s _ _ (omega (arith, maybe_from true last (suc p2) _ p.3)) p.4 h.3 in
+      let n2 : expressions_in_option (option_map (typed_expression (after_maybe first (inner b)).scope) c) + p1 ≤ p2 =
+      option_counted (after_maybe first (inner b)).scope Value c _ _ h.1 p.2 in
+      let n3 : phrases_in_maybe (optional_typed_statement (head x) (after_maybe first (inner b)) last) + suc p2 ≤ p3 + 1 =
+      maybe_counted (head x) (after_maybe first (inner b)) last _ _ (omega arith) p.3 h.2 in
+      let n4 : phrases_in (typed_statement (body x) (after_maybe last (after_maybe first (inner b))) s) + (statement_span s).first ≤ token_after_statement s + 0 =
+      counted (body x) (after_maybe last (after_maybe first (inner b))) s _ _ (omega (arith, maybe_from true last (suc p2) _ p.3)) p.4 h.3 in
       omega (arith, n1, n2, n3, n4, w.from, w.to)
   counted x b (returns at e) low high l p h =
       omega (arith, p.0.some, return_counted x.result b.scope e _ _ h p.1, option_within e _ _ (omega (arith, p.0.some)) p.1)
@@ -412,13 +412,13 @@ mutual
   all_counted x b nil low high l m e p h = omega arith
   all_counted x b (cons s ss) low high l m e p h =
       let w = statement_within false s p.0 in
-      let n : phrases_in (typed_statement x b s) + (statement_span s).first ≤ behind_statement s + 0 =
-      subst (λ k. phrases_in (typed_statement x b s) + (statement_span s).first ≤ behind_statement s + extra k) e
+      let n : phrases_in (typed_statement x b s) + (statement_span s).first ≤ token_after_statement s + 0 =
+      subst (λ k. phrases_in (typed_statement x b s) + (statement_span s).first ≤ token_after_statement s + extra k) e
       (counted x b s low high l (subst (λ k. IsStatementPlaced k low high s) (sym e) p.0) h.0) in
-      omega (arith, n, all_counted x (behind s b) ss _ _ (omega arith) (omega (arith, w.to)) e p.1 h.1, w.from)
+      omega (arith, n, all_counted x (after s b) ss _ _ (omega arith) (omega (arith, w.to)) e p.1 h.1, w.from)
 
   maybe_counted : (x : Setting) (b : Block) (s : OptionalStatement) (low high : ℕ) → 1 ≤ low → IsMaybePlaced x.in_head low high s → IsMaybeSound x b s →
-      phrases_in_maybe (optional_typed_statement x b s) + low ≤ token_behind_maybe low s + extra x.in_head
+      phrases_in_maybe (optional_typed_statement x b s) + low ≤ token_after_maybe low s + extra x.in_head
   maybe_counted x b absent low high l p h = omega arith
   maybe_counted x b (present s) low high l p h =
       let w = statement_within x.in_head s p in

@@ -9,7 +9,7 @@ use Rattle.pw_tree.specs.Expressions.{Span, Expression}
 use Rattle.pw_tree.specs.Statements.{Statement, Statements, OptionalStatement, empty, block, local, set, evaluate, if_else, while_loop, do_loop, for_loop, returns, breaks, continues, nil, cons, absent, present}
 use Rattle.pw_tree.specs.TypedExpressions.{TypedExpression, type_of}
 use Rattle.pw_tree.specs.TypedStatements.{TypedStatement}
-use Rattle.pw_tree.specs.TypedStatements as command
+use Rattle.pw_tree.specs.TypedStatements as tree
 use Rattle.pw_tree.specs.Types.{is_number, is_void, converts}
 use Rattle.pw_tree.specs.Held.{held, held_element}
 use Rattle.pw_tree.specs.Placed.{local_name_at, index_end, set_end}
@@ -24,11 +24,13 @@ use Rattle.pw_types.specs.Faults.{broken, broken_by}
 use Rattle.pw_types.specs.Reserved.{is_reserved}
 use Rattle.pw_types.specs.Scopes.{Scope, Meaning, missing, a_local, declared, meaning, variable_reference}
 use Rattle.pw_types.specs.Typed.{typed, Array, array_named, array_of_meaning, array_of_kind, function_named, function_of_meaning, function_of_kind}
-use Rattle.pw_types.specs.Expressions.{is_base, is_missing, has_type, end_of, faults}
-use Rattle.pw_types.specs.Blocks.{Setting, part, body, head, Block, inner, behind, behind_maybe, has_own}
-use Rattle.pw_types.specs.Statements.{holds_too_many, element_holds_too_many, faults_of_whole, faults_of_option, is_local_too_many, faults_of_name, type_of_kind, type_of_target, is_unknown_target, is_array_target, is_function_target, is_no_array_target, has_other_index, set_holds_too_many, set_element_holds_too_many, faults_of_target, faults_of_array, faults_of_set, returns_other, is_outside_loop, faults_by, faults_by_all, faults_by_maybe}
+use Rattle.pw_types.specs.Expressions.{is_base, is_missing, has_type, end_of}
+use Rattle.pw_types.specs.Steps.ExpressionFaults.{faults}
+use Rattle.pw_types.specs.Blocks.{Setting, part, body, head, Block, inner, after, after_maybe, has_own}
+use Rattle.pw_types.specs.Statements.{holds_too_many, element_holds_too_many, is_local_too_many, faults_of_name, type_of_kind, type_of_target, is_unknown_target, is_array_target, is_function_target, is_no_array_target, has_other_index, set_holds_too_many, set_element_holds_too_many, faults_of_target, faults_of_array, returns_other, is_outside_loop}
+use Rattle.pw_types.specs.Steps.StatementFaults.{faults_of_whole, faults_of_option, faults_of_set, faults_by, faults_by_all, faults_by_maybe}
 use Rattle.pw_types.specs.TypedStatements.{no_expression, typed_expression, assigned, element_assigned, bracket_line, typed_set}
-use Rattle.pw_types.proofs.Empty.{front_empty, back_empty}
+use Rattle.pw_types.proofs.Empty.{left_empty, right_empty}
 use Rattle.pw_types.proofs.NoFaults.{or_left, or_right, not_broken, not_broken_by}
 use Rattle.pw_types.proofs.Sound.{HasValue, IsNumeric, Sound}
 use Rattle.pw_types.proofs.SoundExpressions.{RoleFits, SoundOf, sound_of, IsArrayName, name_is_array}
@@ -70,8 +72,8 @@ few_held n h = grind (arith, nat_tests)
 
 is_whole : (scope : Scope) (role : Role) (e : Expression) → is_base role ≡ false → faults_of_whole scope role e ≡ [] → IsWhole scope role e
 is_whole scope role e other none =
-    let s = not_base scope role e other (front_empty _ _ none) in
-    let few : holds_too_many (typed scope e) ≡ false = not_broken _ (end_of e) (holds_too_many (typed scope e)) (back_empty _ _ none) in
+    let s = not_base scope role e other (left_empty _ _ none) in
+    let few : holds_too_many (typed scope e) ≡ false = not_broken _ (end_of e) (holds_too_many (typed scope e)) (right_empty _ _ none) in
     record {
       typed_as = as_typed scope role e s;
       few = subst (λ t. held t ≤ 100) (tree_is scope role e s) (few_held _ (sym (ap holds_too_many s.typed_is) ∙ few));
@@ -86,36 +88,36 @@ is_option_whole scope role (Some e) other none = is_whole scope role e other non
 -- An assignment without faults, and its typed statement.
 pub data SoundSet (x : Setting) (scope : Scope) (at : Span) : List ℕ → Option Expression → Expression → TypedStatement → Type 0 where
   set_to_local : (name : List ℕ) (l : Local) (e : Expression) → meaning scope name ≡ a_local l → IsTypedAs scope (Assigned (Some l.ty)) e →
-      held (typed_expression scope e) ≤ 100 → SoundSet x scope at name None e (command.set_local l.number (Some (typed_expression scope e)))
+      held (typed_expression scope e) ≤ 100 → SoundSet x scope at name None e (tree.set_local l.number (Some (typed_expression scope e)))
   set_to_variable : (name : List ℕ) (f : File) (ty : Ty) (e : Expression) → meaning scope name ≡ declared f → f.kind ≡ Variable ty None →
       IsTypedAs scope (Assigned (Some ty)) e → held (typed_expression scope e) ≤ 100 →
-      SoundSet x scope at name None e (command.set_variable (variable_reference scope f) (typed_expression scope e))
+      SoundSet x scope at name None e (tree.set_variable (variable_reference scope f) (typed_expression scope e))
   set_to_element : (name : List ℕ) (f : File) (ty : Ty) (size : ℕ) (i e : Expression) → meaning scope name ≡ declared f →
       f.kind ≡ Variable ty (Some size) → IsTypedAs scope Value i → IsNumeric (typed_expression scope i) → IsTypedAs scope (Assigned (Some ty)) e →
       held_element (typed_expression scope i) (typed_expression scope e) ≤ 100 →
       SoundSet x scope at name (Some i) e
-      (command.set_element (variable_reference scope f) size (bracket_line x at) (typed_expression scope i) (typed_expression scope e))
+      (tree.set_element (variable_reference scope f) size (bracket_line x at) (typed_expression scope i) (typed_expression scope e))
 
 module _ (x : Setting) (scope : Scope) (at : Span) (name : List ℕ) where
   -- to a name
   module _ (e : Expression) (none : faults_of_set x scope at name None e ≡ []) where
     target_faults : faults_of_target scope name at.first ≡ []
-    target_faults = front_empty _ _ none
+    target_faults = left_empty _ _ none
 
     value_faults : faults scope (Assigned (type_of_target (meaning scope name))) e ≡ []
-    value_faults = front_empty _ _ (back_empty _ _ none)
+    value_faults = left_empty _ _ (right_empty _ _ none)
 
     deep_faults : set_holds_too_many scope name e ≡ false
-    deep_faults = not_broken _ (set_end x.in_head at) (set_holds_too_many scope name e) (back_empty _ _ (back_empty _ _ none))
+    deep_faults = not_broken _ (set_end x.in_head at) (set_holds_too_many scope name e) (right_empty _ _ (right_empty _ _ none))
 
     known_target : is_unknown_target scope name ≡ false
-    known_target = not_broken_by _ at.first name (is_unknown_target scope name) (front_empty _ _ target_faults)
+    known_target = not_broken_by _ at.first name (is_unknown_target scope name) (left_empty _ _ target_faults)
 
     no_array : is_array_target scope name ≡ false
-    no_array = not_broken _ at.first (is_array_target scope name) (front_empty _ _ (back_empty _ _ target_faults))
+    no_array = not_broken _ at.first (is_array_target scope name) (left_empty _ _ (right_empty _ _ target_faults))
 
     no_function : is_function_target scope name ≡ false
-    no_function = not_broken _ at.first (is_function_target scope name) (back_empty _ _ (back_empty _ _ target_faults))
+    no_function = not_broken _ at.first (is_function_target scope name) (right_empty _ _ (right_empty _ _ target_faults))
 
     -- where the target has this type
     value_sound : (ty : Ty) → type_of_target (meaning scope name) ≡ Some ty → SoundOf scope (Assigned (Some ty)) e
@@ -151,31 +153,31 @@ module _ (x : Setting) (scope : Scope) (at : Span) (name : List ℕ) where
 
   -- to an element
   module _ (i e : Expression) (none : faults_of_set x scope at name (Some i) e ≡ []) where
-    behind_array : faults scope Value i ++ (broken rules.Operands (index_end at i) (has_other_index scope name i) ++ (faults scope (Assigned (option_map (λ (a : Array). a.ty) (array_named scope name))) e ++ broken rules.TooDeep (set_end x.in_head at) (set_element_holds_too_many scope name i e))) ≡ []
-    behind_array = back_empty _ _ none
+    after_array : faults scope Value i ++ (broken rules.Operands (index_end at i) (has_other_index scope name i) ++ (faults scope (Assigned (option_map (λ (a : Array). a.ty) (array_named scope name))) e ++ broken rules.TooDeep (set_end x.in_head at) (set_element_holds_too_many scope name i e))) ≡ []
+    after_array = right_empty _ _ none
 
-    behind_index : broken rules.Operands (index_end at i) (has_other_index scope name i) ++ (faults scope (Assigned (option_map (λ (a : Array). a.ty) (array_named scope name))) e ++ broken rules.TooDeep (set_end x.in_head at) (set_element_holds_too_many scope name i e)) ≡ []
-    behind_index = back_empty _ _ behind_array
+    after_index : broken rules.Operands (index_end at i) (has_other_index scope name i) ++ (faults scope (Assigned (option_map (λ (a : Array). a.ty) (array_named scope name))) e ++ broken rules.TooDeep (set_end x.in_head at) (set_element_holds_too_many scope name i e)) ≡ []
+    after_index = right_empty _ _ after_array
 
-    behind_operands : faults scope (Assigned (option_map (λ (a : Array). a.ty) (array_named scope name))) e ++ broken rules.TooDeep (set_end x.in_head at) (set_element_holds_too_many scope name i e) ≡ []
-    behind_operands = back_empty _ _ behind_index
+    after_operands : faults scope (Assigned (option_map (λ (a : Array). a.ty) (array_named scope name))) e ++ broken rules.TooDeep (set_end x.in_head at) (set_element_holds_too_many scope name i e) ≡ []
+    after_operands = right_empty _ _ after_index
 
     an_array : is_no_array_target scope name ≡ false
-    an_array = not_broken _ at.first (is_no_array_target scope name) (back_empty _ _ (front_empty (faults_of_array scope name at.first) _ none))
+    an_array = not_broken _ at.first (is_no_array_target scope name) (right_empty _ _ (left_empty (faults_of_array scope name at.first) _ none))
 
     array_set : (f : File) (ty : Ty) (size : ℕ) → meaning scope name ≡ declared f → f.kind ≡ Variable ty (Some size) →
         array_named scope name ≡ Some (record { reference = variable_reference scope f; ty = ty; size = size }) →
         SoundSet x scope at name (Some i) e (typed_set x scope at name (Some i) e)
     array_set f ty size means kind is =
-        let index = not_base scope Value i refl (front_empty _ _ behind_array) in
-        let operands : has_other_index scope name i ≡ false = not_broken _ (index_end at i) (has_other_index scope name i) (front_empty _ _ behind_index) in
+        let index = not_base scope Value i refl (left_empty _ _ after_array) in
+        let operands : has_other_index scope name i ≡ false = not_broken _ (index_end at i) (has_other_index scope name i) (left_empty _ _ after_index) in
         let number : is_number (type_of index.tree) ≡ true =
         not_not _ (sym (ap (has_type (λ t. not (is_number t))) index.typed_is)
         ∙ (sym (ap (λ o. is_some o && has_type (λ t. not (is_number t)) (typed scope i)) is) ∙ operands)) in
         let value = not_base scope (Assigned (Some ty)) e refl
-        (subst (λ o. faults scope (Assigned (option_map (λ (a : Array). a.ty) o)) e ≡ []) is (front_empty _ _ behind_operands)) in
+        (subst (λ o. faults scope (Assigned (option_map (λ (a : Array). a.ty) o)) e ≡ []) is (left_empty _ _ after_operands)) in
         let deep : set_element_holds_too_many scope name i e ≡ false =
-        not_broken _ (set_end x.in_head at) (set_element_holds_too_many scope name i e) (back_empty _ _ behind_operands) in
+        not_broken _ (set_end x.in_head at) (set_element_holds_too_many scope name i e) (right_empty _ _ after_operands) in
         let few : nat_lt 100 (held_element index.tree value.tree) ≡ false =
         sym (ap (element_holds_too_many (Some index.tree)) value.typed_is)
         ∙ (sym (ap (λ o. element_holds_too_many o (typed scope e)) index.typed_is)
@@ -233,21 +235,21 @@ unfoldable mutual
   IsSound x b (local at ty name e) = DeclaresWell b ty e
   IsSound x b (set at name i e) = SoundSet x b.scope at name i e (typed_set x b.scope at name i e)
   IsSound x b (evaluate at e) = IsWhole b.scope AsStatement e
-  IsSound x b (if_else at c a d) = IsWhole b.scope Value c × IsSound (part x) b a × IsMaybeSound (part x) (behind a b) d
+  IsSound x b (if_else at c a d) = IsWhole b.scope Value c × IsSound (part x) b a × IsMaybeSound (part x) (after a b) d
   IsSound x b (while_loop at c s) = IsWhole b.scope Value c × IsSound (body x) b s
   IsSound x b (do_loop at s c) = IsSound (body x) b s × IsWhole b.scope Value c
   IsSound x b (for_loop at first c last s) =
       IsMaybeSound (head x) (inner b) first
-      × IsOptionWhole (behind_maybe first (inner b)).scope Value c
-      × IsMaybeSound (head x) (behind_maybe first (inner b)) last
-      × IsSound (body x) (behind_maybe last (behind_maybe first (inner b))) s
+      × IsOptionWhole (after_maybe first (inner b)).scope Value c
+      × IsMaybeSound (head x) (after_maybe first (inner b)) last
+      × IsSound (body x) (after_maybe last (after_maybe first (inner b))) s
   IsSound x b (returns at e) = Returns x.result b.scope e
   IsSound x b (breaks at) = x.in_loop ≡ true
   IsSound x b (continues at) = x.in_loop ≡ true
 
   pub AreSound : Setting → Block → Statements → Type 0
   AreSound x b nil = ⊤
-  AreSound x b (cons s ss) = IsSound x b s × AreSound x (behind s b) ss
+  AreSound x b (cons s ss) = IsSound x b s × AreSound x (after s b) ss
 
   pub IsMaybeSound : Setting → Block → OptionalStatement → Type 0
   IsMaybeSound x b absent = ⊤
@@ -257,9 +259,9 @@ sound_return : (x : Setting) (scope : Scope) (at : Span) (e : Option Expression)
     faults_of_option scope Value e ++ broken rules.ReturnType at.last (returns_other x.result scope e) ≡ [] → Returns x.result scope e
 sound_return x scope at None none = not_not _ (not_broken _ at.last (returns_other x.result scope None) none)
 sound_return x scope at (Some e) none =
-    let w = is_whole scope Value e refl (front_empty _ _ none) in
-    let s = not_base scope Value e refl (front_empty (faults scope Value e) _ (front_empty _ _ none)) in
-    let other : returns_other x.result scope (Some e) ≡ false = not_broken _ at.last (returns_other x.result scope (Some e)) (back_empty _ _ none) in
+    let w = is_whole scope Value e refl (left_empty _ _ none) in
+    let s = not_base scope Value e refl (left_empty (faults scope Value e) _ (left_empty _ _ none)) in
+    let other : returns_other x.result scope (Some e) ≡ false = not_broken _ at.last (returns_other x.result scope (Some e)) (right_empty _ _ none) in
     let both : (is_void x.result || not (converts (type_of s.tree) x.result)) ≡ false =
     sym (ap (has_type (λ t. is_void x.result || not (converts t x.result))) s.typed_is) ∙ other in
     record {
@@ -274,10 +276,10 @@ few_locals n h = grind (arith, nat_tests)
 sound_local : (b : Block) (at : Span) (ty : Ty) (name : List ℕ) (e : Option Expression) →
     faults_of_name b name (local_name_at at ty) ++ faults_of_option b.scope (Assigned (Some ty)) e ≡ [] → DeclaresWell b ty e
 sound_local b at ty name e none =
-    let own = front_empty (faults_of_name b name (local_name_at at ty)) _ none in
+    let own = left_empty (faults_of_name b name (local_name_at at ty)) _ none in
     record {
-      few = few_locals b.count (not_broken _ (local_name_at at ty) (is_local_too_many b.count) (front_empty _ _ (back_empty _ _ own)));
-      value = is_option_whole b.scope (Assigned (Some ty)) e refl (back_empty _ _ none);
+      few = few_locals b.count (not_broken _ (local_name_at at ty) (is_local_too_many b.count) (left_empty _ _ (right_empty _ _ own)));
+      value = is_option_whole b.scope (Assigned (Some ty)) e refl (right_empty _ _ none);
     }
 
 mutual
@@ -290,22 +292,22 @@ mutual
   statement_sound x b (set at name i e) none = sound_set x b.scope at name i e none
   statement_sound x b (evaluate at e) none = is_whole b.scope AsStatement e refl none
   statement_sound x b (if_else at c a d) none =
-      let later = back_empty _ _ none in (
-        is_whole b.scope Value c refl (front_empty _ _ none),
-        statement_sound (part x) b a (front_empty _ _ later),
-        maybe_sound (part x) (behind a b) d (back_empty _ _ later),
+      let later = right_empty _ _ none in (
+        is_whole b.scope Value c refl (left_empty _ _ none),
+        statement_sound (part x) b a (left_empty _ _ later),
+        maybe_sound (part x) (after a b) d (right_empty _ _ later),
       )
   statement_sound x b (while_loop at c s) none =
-      (is_whole b.scope Value c refl (front_empty _ _ none), statement_sound (body x) b s (back_empty _ _ none))
+      (is_whole b.scope Value c refl (left_empty _ _ none), statement_sound (body x) b s (right_empty _ _ none))
   statement_sound x b (do_loop at s c) none =
-      (statement_sound (body x) b s (front_empty _ _ none), is_whole b.scope Value c refl (back_empty _ _ none))
+      (statement_sound (body x) b s (left_empty _ _ none), is_whole b.scope Value c refl (right_empty _ _ none))
   statement_sound x b (for_loop at first c last s) none =
-      let second = back_empty _ _ none in
-      let third = back_empty _ _ second in (
-        maybe_sound (head x) (inner b) first (front_empty _ _ none),
-        is_option_whole (behind_maybe first (inner b)).scope Value c refl (front_empty _ _ second),
-        maybe_sound (head x) (behind_maybe first (inner b)) last (front_empty _ _ third),
-        statement_sound (body x) (behind_maybe last (behind_maybe first (inner b))) s (back_empty _ _ third),
+      let second = right_empty _ _ none in
+      let third = right_empty _ _ second in (
+        maybe_sound (head x) (inner b) first (left_empty _ _ none),
+        is_option_whole (after_maybe first (inner b)).scope Value c refl (left_empty _ _ second),
+        maybe_sound (head x) (after_maybe first (inner b)) last (left_empty _ _ third),
+        statement_sound (body x) (after_maybe last (after_maybe first (inner b))) s (right_empty _ _ third),
       )
   statement_sound x b (returns at e) none = sound_return x b.scope at e none
   statement_sound x b (breaks at) none = not_not _ (not_broken _ at.last (is_outside_loop x) none)
@@ -314,7 +316,7 @@ mutual
   pub statements_sound : (x : Setting) (b : Block) (ss : Statements) → faults_by_all x b ss ≡ [] → AreSound x b ss
   statements_sound x b nil none = tt
   statements_sound x b (cons s ss) none =
-      (statement_sound x b s (front_empty _ _ none), statements_sound x (behind s b) ss (back_empty _ _ none))
+      (statement_sound x b s (left_empty _ _ none), statements_sound x (after s b) ss (right_empty _ _ none))
 
   maybe_sound : (x : Setting) (b : Block) (s : OptionalStatement) → faults_by_maybe x b s ≡ [] → IsMaybeSound x b s
   maybe_sound x b absent none = tt

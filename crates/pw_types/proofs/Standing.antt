@@ -11,7 +11,7 @@ use Rattle.pw_types.proofs.OwnFaults.{Rises, ends, goes}
 
 -- ---- phrases in order
 
--- A phrase stands between two tokens, its parts within it, each behind the last, and its own faults are at its end.
+-- A phrase stands between two tokens, its parts within it, each after the last, and its own faults are at its end.
 mutual
   pub data Stands : ℕ → ℕ → Nest → Type 0 where
     stands : {low high top : ℕ} {ns : Nests} {own : List Fault} (end : ℕ) → low ≤ end → end ≤ high → AllStand low end ns →
@@ -52,7 +52,7 @@ pub each_is_all : {P : Nested → Type 0} {ms : List Nested} → Each P ms → A
 each_is_all {P = P} nil = All-nil P
 each_is_all {P = P} (cons {m = m} {ms = ms} p ps) = All-cons P m ms p (each_is_all ps)
 
--- each precedes all behind it
+-- each precedes all after it
 pub data Sorted : List Nested → Type 0 where
   nil : Sorted []
   cons : {m : Nested} {ms : List Nested} → Each (Precedes m) ms → Sorted ms → Sorted (m ∷ ms)

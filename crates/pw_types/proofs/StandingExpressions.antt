@@ -2,7 +2,7 @@
 use Rattle.std.proofs.Common.{◌≡◌, ℕ, suc, ◌≤◌, List, ◌++◌, arith, Option, Some, None, refl, sym, ◌∙◌, append_assoc}
 use Rattle.pw_tree.specs.declared.ty.Ty.{Ty}
 use Rattle.pw_tree.specs.Expressions.{Expression, Expressions, constant, word, unary, binary, conditional, call, index, input, output, nil, cons}
-use Rattle.pw_tree.specs.Placed.{span_of, IsWithin, IsPlaced, ArePlaced, IsOptionPlaced, behind_option}
+use Rattle.pw_tree.specs.Placed.{span_of, IsWithin, IsPlaced, ArePlaced, IsOptionPlaced, token_after_option}
 use Rattle.pw_types.specs.declared.rule.Rule.TheVariants as rules
 use Rattle.pw_types.specs.declared.role.Role.{Role}
 use Rattle.pw_types.specs.declared.role.Role.TheVariants.{Value, Callee, Base, Argument, Written}
@@ -10,8 +10,10 @@ use Rattle.pw_types.specs.declared.fault.Fault.{Fault}
 use Rattle.pw_types.specs.Faults.{broken}
 use Rattle.pw_types.specs.Scopes.{Scope}
 use Rattle.pw_types.specs.Typed.{typed, function_of, parameters_of, Designated}
-use Rattle.pw_types.specs.Expressions.{end_of, own, callee_in, first_parameter, other_parameters, unless_direct, faults, faults_of_arguments}
-use Rattle.pw_types.specs.Statements.{holds_too_many, faults_of_whole, faults_of_option}
+use Rattle.pw_types.specs.Expressions.{end_of, own, callee_in, first_parameter, other_parameters}
+use Rattle.pw_types.specs.Steps.ExpressionFaults.{unless_direct, faults, faults_of_arguments}
+use Rattle.pw_types.specs.Statements.{holds_too_many}
+use Rattle.pw_types.specs.Steps.StatementFaults.{faults_of_whole, faults_of_option}
 use Rattle.pw_types.specs.Nests.{Nest, Nests, more, unless_named, parts, arguments, expression, whole, option}
 use Rattle.pw_types.proofs.OwnFaults.{rises_append, rises_broken, rises_own}
 use Rattle.pw_types.proofs.Standing.{Stands, stands, AllStand, no_more, one_more, all_from}
@@ -136,7 +138,7 @@ whole_stands scope role e low high p =
     (rises_append (rises_own scope role e) (rises_broken 11 rules.TooDeep (end_of e) (holds_too_many (typed scope e)) (omega arith)))
 
 pub option_stands : (scope : Scope) (role : Role) (e : Option Expression) (low high : ℕ) (ns : Nests) → IsOptionPlaced low high e →
-    AllStand (behind_option low e) high ns → AllStand low high (option scope role e ns)
+    AllStand (token_after_option low e) high ns → AllStand low high (option scope role e ns)
 option_stands scope role None low high ns p others = others
 option_stands scope role (Some e) low high ns p others =
     one_more (end_of e) (whole_stands scope role e low high p) (placed_within e p).to others

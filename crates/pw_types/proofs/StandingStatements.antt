@@ -5,7 +5,7 @@ use Rattle.pw_tree.specs.declared.ty.Ty.TheVariants.{Void, Long, Ulong, Fn}
 use Rattle.pw_tree.specs.declared.ty.Ty.{Ty}
 use Rattle.pw_tree.specs.Expressions.{Span, Expression}
 use Rattle.pw_tree.specs.Statements.{Statement, Statements, OptionalStatement, empty, block, local, set, evaluate, if_else, while_loop, do_loop, for_loop, returns, breaks, continues, nil, cons, absent, present}
-use Rattle.pw_tree.specs.Placed.{IsWithin, IsPlaced, local_name_at, index_end, statement_span, behind_maybe as token_behind, set_end, IsSetPlaced, IsStatementPlaced, AreStatementsPlaced, IsMaybePlaced}
+use Rattle.pw_tree.specs.Placed.{IsWithin, IsPlaced, local_name_at, index_end, statement_span, token_after_maybe, set_end, IsSetPlaced, IsStatementPlaced, AreStatementsPlaced, IsMaybePlaced}
 use Rattle.pw_types.specs.declared.rule.Rule.TheVariants as rules
 use Rattle.pw_types.specs.declared.role.Role.{Role}
 use Rattle.pw_types.specs.declared.role.Role.TheVariants as roles
@@ -13,9 +13,11 @@ use Rattle.pw_types.specs.declared.fault.Fault.{Fault}
 use Rattle.pw_types.specs.Faults.{broken}
 use Rattle.pw_types.specs.Scopes.{Scope, meaning}
 use Rattle.pw_types.specs.Typed.{array_named}
-use Rattle.pw_types.specs.Expressions.{end_of, faults}
-use Rattle.pw_types.specs.Blocks.{Setting, part, body, head, Block, inner, behind, behind_maybe}
-use Rattle.pw_types.specs.Statements.{has_other_index, set_holds_too_many, set_element_holds_too_many, is_outside_loop, faults_of_option, type_of_target, faults_of_array, faults_of_set, returns_other, faults_by, faults_by_all, faults_by_maybe}
+use Rattle.pw_types.specs.Expressions.{end_of}
+use Rattle.pw_types.specs.Steps.ExpressionFaults.{faults}
+use Rattle.pw_types.specs.Blocks.{Setting, part, body, head, Block, inner, after, after_maybe}
+use Rattle.pw_types.specs.Statements.{has_other_index, set_holds_too_many, set_element_holds_too_many, is_outside_loop, type_of_target, faults_of_array, returns_other}
+use Rattle.pw_types.specs.Steps.StatementFaults.{faults_of_option, faults_of_set, faults_by, faults_by_all, faults_by_maybe}
 use Rattle.pw_types.specs.Nests.{Nest, Nests, nest, none, more, whole, leaf, assignment, statement, statements, maybe}
 use Rattle.pw_types.proofs.OwnFaults.{Rises, ends, rises_broken, rises_name, rises_target, rises_array}
 use Rattle.pw_types.proofs.Standing.{Stands, stands, AllStand, no_more, one_more, all_from, stands_from}
@@ -55,16 +57,16 @@ mutual
   statement_faults x b (evaluate at e) = last_faults (whole b.scope roles.Statement e) _ (whole_faults b.scope roles.Statement e)
   statement_faults x b (if_else at c a d) =
       both (whole_faults b.scope roles.Value c)
-      (both (statement_faults (part x) b a) (maybe_faults (part x) (behind a b) d none [] ∙ append-nil (faults_by_maybe (part x) (behind a b) d)))
+      (both (statement_faults (part x) b a) (maybe_faults (part x) (after a b) d none [] ∙ append-nil (faults_by_maybe (part x) (after a b) d)))
   statement_faults x b (while_loop at c s) =
       both (whole_faults b.scope roles.Value c) (last_faults (statement (body x) b s) _ (statement_faults (body x) b s))
   statement_faults x b (do_loop at s c) =
       both (statement_faults (body x) b s) (last_faults (whole b.scope roles.Value c) _ (whole_faults b.scope roles.Value c))
   statement_faults x b (for_loop at first c last s) =
-      let in_body = behind_maybe last (behind_maybe first (inner b)) in
+      let in_body = after_maybe last (after_maybe first (inner b)) in
       maybe_faults (head x) (inner b) first _ []
-      ∙ both refl (option_faults (behind_maybe first (inner b)).scope roles.Value c _ []
-      ∙ both refl (maybe_faults (head x) (behind_maybe first (inner b)) last _ []
+      ∙ both refl (option_faults (after_maybe first (inner b)).scope roles.Value c _ []
+      ∙ both refl (maybe_faults (head x) (after_maybe first (inner b)) last _ []
       ∙ both refl (last_faults (statement (body x) in_body s) _ (statement_faults (body x) in_body s))))
   statement_faults x b (returns at e) =
       option_faults b.scope roles.Value e none (broken rules.ReturnType at.last (returns_other x.result b.scope e))
@@ -73,7 +75,7 @@ mutual
 
   pub statements_faults : (x : Setting) (b : Block) (ss : Statements) → gather (statements x b ss) [] ≡ faults_by_all x b ss
   statements_faults x b nil = refl
-  statements_faults x b (cons s ss) = both (statement_faults x b s) (statements_faults x (behind s b) ss)
+  statements_faults x b (cons s ss) = both (statement_faults x b s) (statements_faults x (after s b) ss)
 
   maybe_faults : (x : Setting) (b : Block) (s : OptionalStatement) (ns : Nests) (own : List Fault) →
       gather (maybe x b s ns) own ≡ faults_by_maybe x b s ++ gather ns own
@@ -82,11 +84,11 @@ mutual
 
 -- ---- where they stand
 
-pub name_behind : (at : Span) (ty : Ty) → at.first ≤ local_name_at at ty
-name_behind at Void = omega arith
-name_behind at Long = omega arith
-name_behind at Ulong = omega arith
-name_behind at (Fn k) = omega arith
+pub name_after : (at : Span) (ty : Ty) → at.first ≤ local_name_at at ty
+name_after at Void = omega arith
+name_after at Long = omega arith
+name_after at Ulong = omega arith
+name_after at (Fn k) = omega arith
 
 -- a phrase without parts stands at the token of its faults
 pub leaf_stands : {at top : ℕ} {own : List Fault} (low : ℕ) → low ≤ at → Rises at 0 top own → Stands low at (leaf own)
@@ -155,7 +157,7 @@ mutual
   statement_stands x b (block at ss) low high p =
       outer_stands low at.last _ (omega (arith, p.0.from, p.0.some)) (all_from low (omega (arith, p.0.from)) (statements_stand (part x) (inner b) ss _ _ refl p.1))
   statement_stands x b (local at ty name e) low high p =
-      let k = name_behind at ty in
+      let k = name_after at ty in
       outer_stands low at.last _ (omega (arith, p.0.from, p.0.some))
       (one_more (local_name_at at ty) (leaf_stands low (omega (arith, p.0.from)) (rises_name b name (local_name_at at ty))) p.1
       (option_stands b.scope (roles.Assigned (Some ty)) e _ _ none p.2 no_more))
@@ -170,7 +172,7 @@ mutual
       outer_stands low at.last _ (omega (arith, p.0.from, p.0.some)) (all_from low (omega (arith, p.0.from))
       (whole_before b.scope roles.Value c _ _ _ p.1
       (one_more (statement_span a).last (statement_stands (part x) b a _ _ p.2) a_in.to
-      (maybe_stands (part x) (behind a b) d _ _ none p.3 no_more))))
+      (maybe_stands (part x) (after a b) d _ _ none p.3 no_more))))
   statement_stands x b (while_loop at c s) low high p =
       let s_in = statement_within false s p.2 in
       outer_stands low at.last _ (omega (arith, p.0.from, p.0.some)) (all_from low (omega (arith, p.0.from))
@@ -182,11 +184,11 @@ mutual
       (whole_before b.scope roles.Value c _ _ none p.2 no_more)))
   statement_stands x b (for_loop at first c last s) low high p =
       let s_in = statement_within false s p.4 in
-      let in_body = behind_maybe last (behind_maybe first (inner b)) in
+      let in_body = after_maybe last (after_maybe first (inner b)) in
       outer_stands low at.last _ (omega (arith, p.0.from, p.0.some)) (all_from low (omega (arith, p.0.from))
       (maybe_stands (head x) (inner b) first _ _ _ p.1
-      (option_stands (behind_maybe first (inner b)).scope roles.Value c _ _ _ p.2
-      (all_from _ (omega arith) (maybe_stands (head x) (behind_maybe first (inner b)) last _ _ _ p.3
+      (option_stands (after_maybe first (inner b)).scope roles.Value c _ _ _ p.2
+      (all_from _ (omega arith) (maybe_stands (head x) (after_maybe first (inner b)) last _ _ _ p.3
       (one_more (statement_span s).last (statement_stands (body x) in_body s _ _ p.4) s_in.to no_more))))))
   statement_stands x b (returns at e) low high p =
       stands at.last (omega (arith, p.0.from, p.0.some)) (omega arith)
@@ -204,10 +206,10 @@ mutual
       let s_in = statement_within false s p.0 in
       one_more (statement_span s).last
       (statement_stands x b s low high (subst (λ in_head. IsStatementPlaced in_head low high s) (sym e) p.0)) s_in.to
-      (statements_stand x (behind s b) ss _ _ e p.1)
+      (statements_stand x (after s b) ss _ _ e p.1)
 
   maybe_stands : (x : Setting) (b : Block) (s : OptionalStatement) (low high : ℕ) (ns : Nests) → IsMaybePlaced x.in_head low high s →
-      AllStand (token_behind low s) high ns → AllStand low high (maybe x b s ns)
+      AllStand (token_after_maybe low s) high ns → AllStand low high (maybe x b s ns)
   maybe_stands x b absent low high ns p others = others
   maybe_stands x b (present s) low high ns p others =
       one_more (statement_span s).last (statement_stands x b s low high p) (statement_within x.in_head s p).to others

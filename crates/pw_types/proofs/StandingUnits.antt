@@ -13,8 +13,9 @@ use Rattle.pw_types.specs.declared.fault.Fault.{Fault}
 use Rattle.pw_types.specs.Faults.{broken, broken_by}
 use Rattle.pw_types.specs.Reserved.{is_reserved}
 use Rattle.pw_types.specs.Scopes.{Scope, file_named}
-use Rattle.pw_types.specs.Declarations.{faults_of_parameter_name, local_of, faults_of_parameters, parameters_in, is_definition_of_function, conflicts, elements_of, is_too_large, faults_of_elements, room, outermost, setting, faults_of_form, declared_by, is_redefined, Whole, file_scope, faults_of_declaration}
-use Rattle.pw_types.specs.Units.{whole_of, files_behind, faults_of_declarations, lacks_definition, faults_of_lacking, faults_of}
+use Rattle.pw_types.specs.Declarations.{faults_of_parameter_name, local_of, parameters_in, is_definition_of_function, conflicts, elements_of, is_too_large, room, outermost, setting, declared_by, is_redefined, Whole, file_scope}
+use Rattle.pw_types.specs.Steps.UnitFaults.{faults_of_parameters, faults_of_elements, faults_of_form, faults_of_declaration, faults_of_declarations, faults_in_order}
+use Rattle.pw_types.specs.Units.{whole_of, files_after, lacks_definition, faults_of_lacking}
 use Rattle.pw_types.specs.Nests.{parameters, elements, form, declarator, declaration, declarations, unit}
 use Rattle.pw_types.proofs.OwnFaults.{rises_append, rises_broken, rises_broken_by, rises_parameter, rises_element, rises_lacking}
 use Rattle.pw_types.proofs.Standing.{Stands, stands, AllStand, no_more, one_more}
@@ -94,15 +95,15 @@ declaration_faults w files before d =
     let params = faults_of_parameters (is_definition_of_function d.form) [] (parameters_in d.form) in
     let conflict = broken_by rules.Conflict d.declarator d.name (conflicts d (file_named d.name files)) in
     let large = broken rules.ArraySize d.declarator (is_too_large before d) in
-    let behind = faults_of_form w.lines (file_scope w (declared_by d files)) d.form in
+    let after = faults_of_form w.lines (file_scope w (declared_by d files)) d.form in
     both
     (both refl (parameters_faults (is_definition_of_function d.form) [] (parameters_in d.form) (conflict ++ large))
     ∙ append_assoc redeclared reserved (params ++ (conflict ++ large)))
     (form_faults w.lines (file_scope w (declared_by d files)) d.form)
-    ∙ append_assoc redeclared (reserved ++ (params ++ (conflict ++ large))) behind
-    ∙ both refl (append_assoc reserved (params ++ (conflict ++ large)) behind
-    ∙ both refl (append_assoc params (conflict ++ large) behind
-    ∙ both refl (append_assoc conflict large behind)))
+    ∙ append_assoc redeclared (reserved ++ (params ++ (conflict ++ large))) after
+    ∙ both refl (append_assoc reserved (params ++ (conflict ++ large)) after
+    ∙ both refl (append_assoc params (conflict ++ large) after
+    ∙ both refl (append_assoc conflict large after)))
 
 declarator_stands : (files : List File) (before : ℕ) (d : Declaration) (low high : ℕ) → IsDeclarationPlaced low high d →
     Stands low d.declarator (declarator files before d)
@@ -142,14 +143,14 @@ declarations_stand w files before (d ∷ ds) low high p =
 
 -- ---- units
 
-pub unit_faults : (u : UntypedUnit) → flat (unit u) ≡ faults_of u
+pub unit_faults : (u : UntypedUnit) → flat (unit u) ≡ faults_in_order u
 unfolding flat
 unit_faults u =
     declarations_faults (whole_of u) [] 0 u.declarations
-    (faults_of_lacking (length u.lines - 1) (find lacks_definition (files_behind [] u.declarations)))
+    (faults_of_lacking (length u.lines - 1) (find lacks_definition (files_after [] u.declarations)))
 
 pub unit_stands : (u : UntypedUnit) → IsParsed u → Stands 0 (length u.lines - 1) (unit u)
 unit_stands u w =
     stands (length u.lines - 1) (omega arith) (omega arith)
     (declarations_stand (whole_of u) [] 0 u.declarations 0 (length u.lines) w.placed)
-    (rises_lacking (length u.lines - 1) (find lacks_definition (files_behind [] u.declarations)))
+    (rises_lacking (length u.lines - 1) (find lacks_definition (files_after [] u.declarations)))

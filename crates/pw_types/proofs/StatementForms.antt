@@ -78,9 +78,9 @@ is_continue s is = of_kind s _ _ is statement_form_of-Continue
 -- ---- what is said of a form is said of the statement
 
 pub finished_steps : (w : WalkResult) (new : Walk) (r : Result TStmt Refusal) (r' : Result StatementStep Refusal) → IsWhole r r' → Finishes w new r → Steps w new r'
-finished_steps w new (Ok t) (Ok step) whole told = subst (λ (s : StatementStep). Leads w new s) (sym whole) told
-finished_steps w new (Ok t) (Err stop) whole told = subst (λ (s : Refusal). Fails w.faults s) (sym whole) tt
-finished_steps w new (Err stop) r' whole told = subst (λ (u : Result StatementStep Refusal). Steps w new u) (sym whole) told
+finished_steps w new (Ok t) (Ok step) whole holds = subst (λ (s : StatementStep). Leads w new s) (sym whole) holds
+finished_steps w new (Ok t) (Err stop) whole holds = subst (λ (s : Refusal). Fails w.faults s) (sym whole) tt
+finished_steps w new (Err stop) r' whole holds = subst (λ (u : Result StatementStep Refusal). Steps w new u) (sym whole) holds
 
 pub nothing_left : (n : ℕ) (r : Result TStmt Refusal) (r' : Result StatementStep Refusal) → IsWhole r r' → 0 < n → IfOk r' (λ step. weight_of_step step < n)
 nothing_left n (Ok t) (Ok step) whole some = subst (λ (s : StatementStep). weight_of_step s < n) (sym whole) some
@@ -89,17 +89,17 @@ nothing_left n (Err stop) r' whole some = subst (λ (u : Result StatementStep Re
 
 module _ (x : Given) (old new : Walk) (s y : Statement) (is : s ≡ y) where
   pub leads_as : (r : StatementStep) → Leads (outcome_at x old y) new r → Leads (outcome_at x old s) new r
-  leads_as r told = subst (λ (z : Statement). Leads (outcome_at x old z) new r) (sym is) told
+  leads_as r holds = subst (λ (z : Statement). Leads (outcome_at x old z) new r) (sym is) holds
 
   pub steps_as : (r : Result StatementStep Refusal) → Steps (outcome_at x old y) new r → Steps (outcome_at x old s) new r
-  steps_as r told = subst (λ (z : Statement). Steps (outcome_at x old z) new r) (sym is) told
+  steps_as r holds = subst (λ (z : Statement). Steps (outcome_at x old z) new r) (sym is) holds
 
   -- a statement without parts
   pub whole_as : (r : Result TStmt Refusal) (r' : Result StatementStep Refusal) → IsWhole r r' → Finishes (outcome_at x old y) new r → Steps (outcome_at x old s) new r'
-  whole_as r r' whole told = steps_as r' (finished_steps _ new r r' whole told)
+  whole_as r r' whole holds = steps_as r' (finished_steps _ new r r' whole holds)
 
 pub less_as : (s y : Statement) (r : Result StatementStep Refusal) → s ≡ y → IfOk r (λ step. weight_of_step step < weight y) → IfOk r (λ step. weight_of_step step < weight s)
-less_as s y r is told = subst (λ (z : Statement). IfOk r (λ step. weight_of_step step < weight z)) (sym is) told
+less_as s y r is holds = subst (λ (z : Statement). IfOk r (λ step. weight_of_step step < weight z)) (sym is) holds
 
 pub whole_less : (s y : Statement) (r : Result TStmt Refusal) (r' : Result StatementStep Refusal) → s ≡ y → IsWhole r r' → 0 < weight y
     → IfOk r' (λ step. weight_of_step step < weight s)

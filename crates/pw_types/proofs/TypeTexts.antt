@@ -8,7 +8,7 @@ use Rattle.pw_base.specs.TypeText.{is_value_letter, is_type_letter, IsTypeText, 
 use Rattle.pw_tree.specs.declared.ty.Ty.{Ty}
 use Rattle.pw_tree.specs.declared.ty.Ty.TheVariants.{Void, Long, Ulong, Fn}
 use Rattle.pw_tree.specs.declared.ty.Sig.{Sig}
-use Rattle.pw_tree.specs.Types.{IsType, IsValueType}
+use Rattle.pw_tree.specs.Types.{IsResultType, IsValueType}
 use Rattle.pw_tree.specs.TypeTexts.{letter_of, text_of_function, text_of_variable}
 use Rattle.pw_types.specs.declared.names.Kind.{Kind}
 use Rattle.pw_types.specs.declared.names.Kind.TheVariants.{Function, Variable}
@@ -25,7 +25,7 @@ value_letter Long is = refl
 value_letter Ulong is = refl
 value_letter (Fn k) is = digit_letter k is
 
-type_letter : (ty : Ty) → IsType ty → is_type_letter (letter_of ty) ≡ true
+type_letter : (ty : Ty) → IsResultType ty → is_type_letter (letter_of ty) ≡ true
 type_letter Void is = refl
 type_letter Long is = refl
 type_letter Ulong is = refl
@@ -36,7 +36,7 @@ unfolding AreValueTypes
 value_letters [] are = refl
 value_letters (ty ∷ tys) are = rw (value_letter ty are.0, value_letters tys are.1) refl
 
-value_is_type : (ty : Ty) → IsValueType ty → IsType ty
+value_is_type : (ty : Ty) → IsValueType ty → IsResultType ty
 value_is_type Void is = absurd is
 value_is_type Long is = tt
 value_is_type Ulong is = tt
@@ -60,9 +60,9 @@ function_text sig has =
       result = letter_of sig.result;
       params = map letter_of sig.params;
       spelled = refl;
-      typed = type_letter sig.result has.0;
-      valued = value_letters sig.params has.1;
-      few = omega (arith, length-map sig.params letter_of, has.2);
+      typed = type_letter sig.result has.result;
+      valued = value_letters sig.params has.params;
+      few = omega (arith, length-map sig.params letter_of, has.few);
     }))
 
 pub kind_text : (kind : Kind) → HasText kind → IsTypeText (text_of_kind kind)

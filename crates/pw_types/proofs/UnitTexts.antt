@@ -14,11 +14,12 @@ use Rattle.pw_types.specs.declared.names.File.{File}
 use Rattle.pw_types.specs.Faults.{broken, broken_by}
 use Rattle.pw_types.specs.Reserved.{is_reserved}
 use Rattle.pw_types.specs.Scopes.{file_named, marked, with_file}
-use Rattle.pw_types.specs.Declarations.{kind_of, parameters_in, is_definition_of_function, faults_of_parameters, is_redefined, conflicts, has_bad_size, is_too_large, first_of, declared_by, file_scope, faults_of_form, elements_of, Whole, faults_of_declaration}
-use Rattle.pw_types.specs.Units.{files_behind, faults_of_declarations}
+use Rattle.pw_types.specs.Declarations.{kind_of, parameters_in, is_definition_of_function, is_redefined, conflicts, has_bad_size, is_too_large, first_of, declared_by, file_scope, elements_of, Whole}
+use Rattle.pw_types.specs.Steps.UnitFaults.{faults_of_parameters, faults_of_form, faults_of_declaration, faults_of_declarations}
+use Rattle.pw_types.specs.Units.{files_after}
 use Rattle.pw_types.specs.Steps.Texts.{HasText, HaveTexts}
 use Rattle.pw_tree.specs.Types.{AreValueTypes, IsArraySize}
-use Rattle.pw_types.proofs.Empty.{front_empty, back_empty}
+use Rattle.pw_types.proofs.Empty.{left_empty, right_empty}
 use Rattle.pw_types.proofs.Parameters.{few_parameters}
 
 -- ---- one declaration
@@ -37,10 +38,10 @@ form_text : (form : DeclarationForm) → HasTypes form
     → has_bad_size form ≡ false → HasText (kind_of form)
 form_text (prototype result ps) have none good =
     let few : length {A = Param} [] + length ps ≤ 6 = few_parameters false [] ps (omega arith) none in
-    (have.0, value_types ps have.1, omega (arith, length-map ps (λ p. p.ty)))
+    record { result = have.0; params = value_types ps have.1; few = omega (arith, length-map ps (λ p. p.ty)) }
 form_text (definition result ps body) have none good =
     let few : length {A = Param} [] + length ps ≤ 6 = few_parameters true [] ps (omega arith) none in
-    (have.0, value_types ps have.1, omega (arith, length-map ps (λ p. p.ty)))
+    record { result = have.0; params = value_types ps have.1; few = omega (arith, length-map ps (λ p. p.ty)) }
 form_text (variable ty size init) have none good = (have, array_size ty size init good)
 
 not_broken : (at : ℕ) (b : Bool) → broken rules.ArraySize at b ≡ [] → b ≡ false
@@ -61,10 +62,10 @@ declaration_text w files elements d have none =
     let e = broken_by rules.Conflict d.declarator d.name (conflicts d (file_named d.name files)) in
     let f = broken rules.ArraySize d.declarator (is_too_large elements d) in
     let g = faults_of_form w.lines (file_scope w (declared_by d files)) d.form in
-    let past_name : c ++ (e ++ (f ++ g)) ≡ [] = back_empty b _ (back_empty a (b ++ (c ++ (e ++ (f ++ g)))) none) in
-    let past_parameters : e ++ (f ++ g) ≡ [] = back_empty c _ past_name in
-    let size : f ≡ [] = front_empty f g (back_empty e (f ++ g) past_parameters) in
-    form_text d.form have (front_empty c _ past_name) (good_size _ _ (not_broken d.declarator (is_too_large elements d) size))
+    let past_name : c ++ (e ++ (f ++ g)) ≡ [] = right_empty b _ (right_empty a (b ++ (c ++ (e ++ (f ++ g)))) none) in
+    let past_parameters : e ++ (f ++ g) ≡ [] = right_empty c _ past_name in
+    let size : f ≡ [] = left_empty f g (right_empty e (f ++ g) past_parameters) in
+    form_text d.form have (left_empty c _ past_name) (good_size _ _ (not_broken d.declarator (is_too_large elements d) size))
 
 -- ---- all names
 
@@ -91,12 +92,12 @@ with_texts files f have text =
       | inr new ↦ rw new (more_texts files f have text)
     ]
 
-pub texts_behind : (w : Whole) (files : List File) (elements : ℕ) (ds : List Declaration)
-    → HaveTypes ds → HaveTexts files → faults_of_declarations w files elements ds ≡ [] → HaveTexts (files_behind files ds)
-unfolding HaveTypes files_behind faults_of_declarations
-texts_behind w files elements [] have texts none = texts
-texts_behind w files elements (d ∷ ds) have texts none =
+pub texts_after : (w : Whole) (files : List File) (elements : ℕ) (ds : List Declaration)
+    → HaveTypes ds → HaveTexts files → faults_of_declarations w files elements ds ≡ [] → HaveTexts (files_after files ds)
+unfolding HaveTypes files_after faults_of_declarations
+texts_after w files elements [] have texts none = texts
+texts_after w files elements (d ∷ ds) have texts none =
     let here = faults_of_declaration w files elements d in
     let later = faults_of_declarations w (declared_by d files) (elements + elements_of d) ds in
-    let text = declaration_text w files elements d have.0 (front_empty here later none) in
-    texts_behind w (declared_by d files) (elements + elements_of d) ds have.1 (with_texts files (first_of d) texts text) (back_empty here later none)
+    let text = declaration_text w files elements d have.0 (left_empty here later none) in
+    texts_after w (declared_by d files) (elements + elements_of d) ds have.1 (with_texts files (first_of d) texts text) (right_empty here later none)

@@ -3,7 +3,7 @@ use Rattle.std.proofs.Common.{◌≡◌, ◌+◌, ◌<◌, List, [], ◌∷◌, 
 use Rattle.std.specs.Borrow.{Bor}
 use Rattle.std.proofs.lemmas.List.{reverse-append}
 use Rattle.pw_tree.specs.Statements.{statement_of}
-use Rattle.pw_tree.specs.TypedStatements as command
+use Rattle.pw_tree.specs.TypedStatements as tree
 use Rattle.pw_tree.specs.declared.stmt.Stmt.{Stmt}
 use Rattle.pw_tree.specs.declared.tstmt.TStmt.{TStmt}
 use Rattle.pw_types.specs.declared.fault.Refusal.{Refusal}
@@ -17,7 +17,7 @@ use Rattle.pw_types.specs.declared.statement_step.StatementStep.TheVariants as s
 use Rattle.pw_types.specs.Blocks.{Setting, Block}
 use Rattle.pw_types.specs.Steps.CheckingStatements.{WalkResult, outcome_at, judged_at, of_step, Leads, resume, resumed, resumed_form, setting_of, leave}
 use Rattle.pw_types.specs.Steps.StatementWeights.{weight, weight_of_form, weight_of_frames, weight_of_step}
-use Rattle.pw_types.proofs.Failing.{fails_in_front, fails_as}
+use Rattle.pw_types.proofs.Failing.{fails_on_left, fails_as}
 use Rattle.pw_types.specs.Steps.Refusals.{Fails}
 
 pub weight_of_more : (fs : List StatementFrame) (f : StatementFrame) → weight_of_frames (fs ++ f ∷ []) ≡ weight_of_frames fs + weight_of_form f.form
@@ -34,13 +34,13 @@ resume_last fs f w = ap (λ (gs : List StatementFrame). resume gs w) (reverse-ap
 
 form_fails : (x : Setting) (out : Block → Block) (form : StatementForm) (w : WalkResult) (stop : Refusal) → Fails w.faults stop
     → let v : WalkResult = resumed_form x out form w in Fails v.faults stop
-form_fails x out (forms.Block done rest) w stop is = fails_in_front _ _ stop is
-form_fails x out (forms.Then c d) w stop is = fails_in_front _ _ stop is
+form_fails x out (forms.Block done rest) w stop is = fails_on_left _ _ stop is
+form_fails x out (forms.Then c d) w stop is = fails_on_left _ _ stop is
 form_fails x out (forms.Else c a) w stop is = is
 form_fails x out (forms.While c) w stop is = is
-form_fails x out (forms.Do c) w stop is = fails_in_front _ _ stop is
-form_fails x out (forms.First c last s) w stop is = fails_in_front _ _ stop is
-form_fails x out (forms.Last first c s) w stop is = fails_in_front _ _ stop is
+form_fails x out (forms.Do c) w stop is = fails_on_left _ _ stop is
+form_fails x out (forms.First c last s) w stop is = fails_on_left _ _ stop is
+form_fails x out (forms.Last first c s) w stop is = fails_on_left _ _ stop is
 form_fails x out (forms.For first c last) w stop is = is
 
 frame_fails : (f : StatementFrame) (w : WalkResult) (stop : Refusal) → Fails w.faults stop → let v : WalkResult = resumed f w in Fails v.faults stop
@@ -68,20 +68,20 @@ part_stops whole fs f x s old stop is fails =
     (frames_fail (reverse fs) (resumed f (outcome_at x old (statement_of s.now))) stop (frame_fails f (outcome_at x old (statement_of s.now)) stop fails))
 
 pub done_leads : (whole : WalkResult) (fs fs' : List StatementFrame) (f : StatementFrame) (t : TStmt) (old new : Walk) (step : StatementStep)
-    → whole ≡ resume (reverse fs) (judged_at (command.typed_statement_of t) old) → fs ≡ fs' ++ f ∷ [] → Leads (resumed f (judged_at (command.typed_statement_of t) old)) new step
+    → whole ≡ resume (reverse fs) (judged_at (tree.typed_statement_of t) old) → fs ≡ fs' ++ f ∷ [] → Leads (resumed f (judged_at (tree.typed_statement_of t) old)) new step
     → whole ≡ resume (reverse fs') (of_step step new)
 done_leads whole fs fs' f t old new step is more leads =
-    is ∙ (ap (λ (gs : List StatementFrame). resume (reverse gs) (judged_at (command.typed_statement_of t) old)) more
-    ∙ (resume_last fs' f (judged_at (command.typed_statement_of t) old) ∙ ap (resume (reverse fs')) leads))
+    is ∙ (ap (λ (gs : List StatementFrame). resume (reverse gs) (judged_at (tree.typed_statement_of t) old)) more
+    ∙ (resume_last fs' f (judged_at (tree.typed_statement_of t) old) ∙ ap (resume (reverse fs')) leads))
 
 pub done_stops : (whole : WalkResult) (fs fs' : List StatementFrame) (f : StatementFrame) (t : TStmt) (old : Walk) (stop : Refusal)
-    → whole ≡ resume (reverse fs) (judged_at (command.typed_statement_of t) old) → fs ≡ fs' ++ f ∷ []
-    → (let w : WalkResult = resumed f (judged_at (command.typed_statement_of t) old) in Fails w.faults stop) → Fails whole.faults stop
+    → whole ≡ resume (reverse fs) (judged_at (tree.typed_statement_of t) old) → fs ≡ fs' ++ f ∷ []
+    → (let w : WalkResult = resumed f (judged_at (tree.typed_statement_of t) old) in Fails w.faults stop) → Fails whole.faults stop
 done_stops whole fs fs' f t old stop is more fails =
     fails_as _ _ stop
     (sym (ap (λ (w : WalkResult). w.faults)
-    (is ∙ (ap (λ (gs : List StatementFrame). resume (reverse gs) (judged_at (command.typed_statement_of t) old)) more ∙ resume_last fs' f (judged_at (command.typed_statement_of t) old)))))
-    (frames_fail (reverse fs') (resumed f (judged_at (command.typed_statement_of t) old)) stop fails)
+    (is ∙ (ap (λ (gs : List StatementFrame). resume (reverse gs) (judged_at (tree.typed_statement_of t) old)) more ∙ resume_last fs' f (judged_at (tree.typed_statement_of t) old)))))
+    (frames_fail (reverse fs') (resumed f (judged_at (tree.typed_statement_of t) old)) stop fails)
 
 pub all_done : (whole : WalkResult) (fs : List StatementFrame) (w : WalkResult) → whole ≡ resume (reverse fs) w → fs ≡ [] → whole ≡ w
 unfolding resume

@@ -14,15 +14,20 @@ use Rattle.pw_tree.specs.Units.{Function as TypedFunction, TypedUnit}
 use Rattle.pw_tree.specs.WellTypedUnits.{IsWellTypedFunction, IsWellTypedVariable, IsWellTyped}
 use Rattle.pw_types.specs.declared.names.Kind.{Kind}
 use Rattle.pw_types.specs.declared.names.File.{File}
-use Rattle.pw_types.specs.Declarations.{is_extern, kind_of, parameters_in, is_definition_of_function, faults_of_parameters, faults_of_form, uses_of_form, elements_of, Whole, file_scope, declared_by, faults_of_declaration}
-use Rattle.pw_types.specs.Units.{whole_of, files_behind, faults_of_declarations, lacks_definition, faults_of_lacking, faults_of, typed_variable, typed_functions_of, typed_variables_of, typed_functions, typed_variables, uses_of_declarations, external_names, typed_unit}
+use Rattle.pw_types.specs.Declarations.{is_extern, kind_of, parameters_in, is_definition_of_function, elements_of, Whole, file_scope, declared_by}
+use Rattle.pw_types.specs.Steps.UnitFaults.{faults_of_parameters, faults_of_form, faults_of_declaration, faults_of_declarations, faults_in_order}
+use Rattle.pw_types.specs.Steps.Uses.{uses_of_form, uses_of_declarations, names_by_number}
+use Rattle.pw_types.specs.Units.{whole_of, files_after, lacks_definition, faults_of_lacking, typed_variable, typed_functions_of, typed_variables_of, typed_functions, typed_variables}
 use Rattle.pw_types.specs.Steps.Texts.{HasText, HaveTexts}
 use Rattle.pw_types.specs.Laws.{UnitsWithoutFaultsAreWellTyped}
-use Rattle.pw_types.proofs.Empty.{front_empty, back_empty}
-use Rattle.pw_types.proofs.UnitTexts.{declaration_text, texts_behind}
+use Rattle.pw_types.proofs.Empty.{left_empty, right_empty}
+use Rattle.pw_types.proofs.UnitTexts.{declaration_text, texts_after}
 use Rattle.pw_types.proofs.Fitting.{IsAmong, AreAmong, among_left, among_right, FilesFit}
 use Rattle.pw_types.proofs.SoundShapes.{AreSmallLines}
-use Rattle.pw_types.proofs.JoinedFiles.{names_of, apart}
+use Rattle.pw_types.proofs.JoinedFiles.{names_of}
+use Rattle.pw_types.proofs.AscendingFaults.{faults_are}
+use Rattle.pw_types.proofs.NotedUnits.{no_names, names_after, typed_unit_is}
+use Rattle.pw_types.specs.Steps.CheckingUnits.{unit_by_number}
 use Rattle.pw_types.proofs.NamedTexts.{names_apart, texts_are}
 use Rattle.pw_types.proofs.DefinedNames.{NoFaultOf, declares_well, function_entries, variable_entries, StandsIn, AreDefined, all_defined, none_defined}
 use Rattle.pw_types.proofs.FittingUnits.{fit_before, entry_of_function, entry_of_variable, function_entries_are, variable_entries_are, fit_at_end, functions_named, variables_named, function_names, variable_names, none_lacks}
@@ -49,13 +54,6 @@ among_themselves : (xs : List ℕ) → AreAmong xs xs
 among_themselves [] = tt
 among_themselves (x ∷ xs) =
     (ap (λ b. b || list_any (λ m. nat_eq m x) xs) (eq-eqb x x refl), all_among_more xs x xs (among_themselves xs))
-
--- ---- the names at the end differ
-
-names_behind : (files : List File) (ds : List Declaration) → IsDistinct bytes_eq (names_of files) → IsDistinct bytes_eq (names_of (files_behind files ds))
-unfolding files_behind
-names_behind files [] h = h
-names_behind files (d ∷ ds) h = names_behind (declared_by d files) ds (apart _ files h)
 
 -- ---- each declaration
 
@@ -95,14 +93,14 @@ module _ (unit : TypedUnit) (used : List ℕ) (w : Whole) (lines : AreSmallLines
     pub functions : AllByRecursion (IsWellTypedFunction unit) (typed_functions w files ds)
     pub variables : AllByRecursion (IsWellTypedVariable unit) (typed_variables w files ds)
 
-  all_well_typed : (files : List File) (elements : ℕ) (ds : List Declaration) (low high : ℕ) → FilesFit unit used (file_scope w (files_behind files ds)) →
+  all_well_typed : (files : List File) (elements : ℕ) (ds : List Declaration) (low high : ℕ) → FilesFit unit used (file_scope w (files_after files ds)) →
       faults_of_declarations w files elements ds ≡ [] → HaveTypes ds → AreDeclarationsPlaced low high ds → AllByRecursion IsProperDeclaration ds →
       AreAmong used (uses_of_declarations w files ds) → AreWellTyped files ds
-  unfolding files_behind faults_of_declarations HaveTypes AreDeclarationsPlaced uses_of_declarations typed_functions typed_variables
+  unfolding files_after faults_of_declarations HaveTypes AreDeclarationsPlaced uses_of_declarations typed_functions typed_variables
   all_well_typed files elements [] low high fit none types placed proper u = record { functions = tt; variables = tt }
   all_well_typed files elements (d ∷ ds) low high fit none types placed proper u =
-      let own : faults_of_declaration w files elements d ≡ [] = front_empty _ _ none in
-      let later : faults_of_declarations w (declared_by d files) (elements + elements_of d) ds ≡ [] = back_empty (faults_of_declaration w files elements d) _ none in
+      let own : faults_of_declaration w files elements d ≡ [] = left_empty _ _ none in
+      let later : faults_of_declarations w (declared_by d files) (elements + elements_of d) ds ≡ [] = right_empty (faults_of_declaration w files elements d) _ none in
       let good = declares_well w files elements d own in
       let text = declaration_text w files elements d types.0 own in
       let here : FilesFit unit used (file_scope w (declared_by d files)) = fit_before w unit used (declared_by d files) ds fit in
@@ -119,32 +117,28 @@ module _ (unit : TypedUnit) (used : List ℕ) (w : Whole) (lines : AreSmallLines
 
 -- ---- all
 
-no_names : IsDistinct bytes_eq []
-unfolding IsDistinct
-no_names = tt
-
 no_texts : HaveTexts []
 unfolding HaveTexts
 no_texts = tt
 
-pub units_without_faults_are_well_typed : UnitsWithoutFaultsAreWellTyped
-units_without_faults_are_well_typed u read none =
+well_typed_by_number : (u : UntypedUnit) → IsRead u → faults_in_order u ≡ [] → IsWellTyped (unit_by_number u)
+well_typed_by_number u read none =
     let w : Whole = whole_of u in
     let ds : List Declaration = u.declarations in
-    let final : List File = files_behind [] ds in
+    let final : List File = files_after [] ds in
     let used : List ℕ = uses_of_declarations w [] ds in
-    let declared : faults_of_declarations w [] 0 ds ≡ [] = front_empty _ _ none in
+    let declared : faults_of_declarations w [] 0 ds ≡ [] = left_empty _ _ none in
     let lacking : find lacks_definition final ≡ None =
-    none_lacks (length u.lines - 1) (find lacks_definition final) (back_empty (faults_of_declarations w [] 0 ds) _ none) in
-    let texts : HaveTexts final = texts_behind w [] 0 ds read.parsed.types no_texts declared in
+    none_lacks (length u.lines - 1) (find lacks_definition final) (right_empty (faults_of_declarations w [] 0 ds) _ none) in
+    let texts : HaveTexts final = texts_after w [] 0 ds read.parsed.types no_texts declared in
     let a : AreDefined final (function_entries ds) (variable_entries ds) = all_defined w [] 0 ds [] [] declared none_defined in
     let fit = fit_at_end u texts lacking a in
-    let r = all_well_typed (typed_unit u) used w read.lines [] 0 ds _ _ fit declared read.parsed.types read.parsed.placed read.declarations (among_themselves used) in
+    let r = all_well_typed (unit_by_number u) used w read.lines [] 0 ds _ _ fit declared read.parsed.types read.parsed.placed read.declarations (among_themselves used) in
     record {
       definitions_differ = subst (IsDistinct bytes_eq)
           ((λ i. names_of (function_entries_are w [] ds i) ++ names_of (variable_entries_are w [] ds i))
           ∙ (λ i. function_names (typed_functions w [] ds) i ++ variable_names (typed_variables w [] ds) i)) a.apart;
-      names_differ = names_apart used 0 final (names_behind [] ds no_names);
+      names_differ = names_apart used 0 final (names_after [] ds no_names);
       texts = texts_are used 0 final texts;
       functions_named = functions_named u texts lacking a (typed_functions w [] ds)
           (subst (AllByRecursion (StandsIn final)) (function_entries_are w [] ds) a.functions_stand);
@@ -154,3 +148,8 @@ units_without_faults_are_well_typed u read none =
       functions = r.functions;
       variables = r.variables;
     }
+
+pub units_without_faults_are_well_typed : UnitsWithoutFaultsAreWellTyped
+units_without_faults_are_well_typed u read none =
+    let free : faults_in_order u ≡ [] = sym (faults_are u) ∙ none in
+    subst IsWellTyped (typed_unit_is u read (left_empty _ _ free)) (well_typed_by_number u read free)

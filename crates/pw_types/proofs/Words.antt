@@ -5,7 +5,7 @@ use Rattle.pw_types.specs.declared.expression_word.NamedFunction.{NamedFunction}
 use Rattle.pw_types.specs.declared.expression_word.NamedArray.{NamedArray}
 use Rattle.pw_types.specs.Scopes.{Scope}
 use Rattle.pw_types.specs.Typed.{array_named, array_of, function_named, function_of}
-use Rattle.pw_types.specs.Uses.{uses, uses_of_name}
+use Rattle.pw_types.specs.Steps.Uses.{uses, uses_of_name}
 use Rattle.pw_types.specs.Steps.Words.{word_in, IsFunction, IsArray}
 
 of_word : (P : Expression → Type 0) (p : Expression) (name : List ℕ) → word_in p ≡ Some name → ((at : Span) → P (word at name)) → P p

@@ -1,10 +1,8 @@
 -- Where a statement stands: what is visible, and how blocks and declarations change it (C17, 6.2.1).
-use Rattle.std.specs.Prelude.{ℕ, suc, ◌+◌, Bool, false, true, List, [], ◌∷◌, ◌++◌, length, drop, Option, Some, None, is_some}
+use Rattle.std.specs.Prelude.{ℕ, suc, ◌+◌, Bool, false, true, List, [], ◌∷◌, ◌++◌, length, drop, is_some}
 use Rattle.pw_tree.specs.declared.ty.Ty.{Ty}
-use Rattle.pw_tree.specs.Expressions.{Expression}
 use Rattle.pw_tree.specs.Statements.{Statement, Statements, OptionalStatement, empty, block, local, set, evaluate, if_else, while_loop, do_loop, for_loop, returns, breaks, continues, nil, cons, absent, present}
 use Rattle.pw_types.specs.Scopes.{Scope, local_named}
-use Rattle.pw_types.specs.Uses.{uses, uses_of_name}
 
 -- What a function's statements have in common: its result's type and the line of each token of the unit. And whether a loop
 -- is round a statement, and whether it is a part of a `for`, which ends without `;`.
@@ -46,7 +44,7 @@ abbrev pub with_local : List ℕ → Ty → ℕ → Scope → Scope
 with_local name ty number scope =
     record scope { locals = scope.locals ++ record { name = name; ty = ty; number = number } ∷ [] }
 
--- behind a local's declaration
+-- after a local's declaration
 abbrev pub declaring : List ℕ → Ty → Block → Block
 declaring name ty b = record b { scope = with_local name ty b.count b.scope; count = suc b.count }
 
@@ -76,59 +74,26 @@ unfoldable mutual
   locals_in_maybe absent = 0
   locals_in_maybe (present s) = locals_in s
 
--- behind statements that declare so many locals, none of which is visible any longer
+-- after statements that declare so many locals, none of which is visible any longer
 abbrev pub past : ℕ → Block → Block
 past n b = record b { count = b.count + n }
 
--- behind a statement: a declaration is visible from here on
-abbrev pub behind : Statement → Block → Block
-behind (local at ty name e) b = declaring name ty b
-behind (empty at) b = b
-behind (block at ss) b = past (locals_in_all ss) b
-behind (set at name i e) b = b
-behind (evaluate at e) b = b
-behind (if_else at c a d) b = past (locals_in (if_else at c a d)) b
-behind (while_loop at c s) b = past (locals_in s) b
-behind (do_loop at s c) b = past (locals_in s) b
-behind (for_loop at first c last s) b = past (locals_in (for_loop at first c last s)) b
-behind (returns at e) b = b
-behind (breaks at) b = b
-behind (continues at) b = b
+-- after a statement: a declaration is visible from here on
+abbrev pub after : Statement → Block → Block
+after (local at ty name e) b = declaring name ty b
+after (empty at) b = b
+after (block at ss) b = past (locals_in_all ss) b
+after (set at name i e) b = b
+after (evaluate at e) b = b
+after (if_else at c a d) b = past (locals_in (if_else at c a d)) b
+after (while_loop at c s) b = past (locals_in s) b
+after (do_loop at s c) b = past (locals_in s) b
+after (for_loop at first c last s) b = past (locals_in (for_loop at first c last s)) b
+after (returns at e) b = b
+after (breaks at) b = b
+after (continues at) b = b
 
--- behind a statement that may be missing
-abbrev pub behind_maybe : OptionalStatement → Block → Block
-behind_maybe absent b = b
-behind_maybe (present s) b = behind s b
-
--- ---- the names at file level that statements use
-
-abbrev pub uses_of_option : Scope → Option Expression → List ℕ
-uses_of_option scope None = []
-uses_of_option scope (Some e) = uses scope e
-
-unfoldable mutual
-  pub uses_by : Block → Statement → List ℕ
-  uses_by b (empty at) = []
-  uses_by b (block at ss) = uses_by_all (inner b) ss
-  uses_by b (local at ty name e) = uses_of_option b.scope e
-  uses_by b (set at name i e) = uses_of_name b.scope name ++ (uses_of_option b.scope i ++ uses b.scope e)
-  uses_by b (evaluate at e) = uses b.scope e
-  uses_by b (if_else at c a d) = uses b.scope c ++ (uses_by b a ++ uses_by_maybe (behind a b) d)
-  uses_by b (while_loop at c s) = uses b.scope c ++ uses_by b s
-  uses_by b (do_loop at s c) = uses_by b s ++ uses b.scope c
-  uses_by b (for_loop at first c last s) =
-      uses_by_maybe (inner b) first
-      ++ (uses_of_option (behind_maybe first (inner b)).scope c
-      ++ (uses_by_maybe (behind_maybe first (inner b)) last
-      ++ uses_by (behind_maybe last (behind_maybe first (inner b))) s))
-  uses_by b (returns at e) = uses_of_option b.scope e
-  uses_by b (breaks at) = []
-  uses_by b (continues at) = []
-
-  pub uses_by_all : Block → Statements → List ℕ
-  uses_by_all b nil = []
-  uses_by_all b (cons s ss) = uses_by b s ++ uses_by_all (behind s b) ss
-
-  pub uses_by_maybe : Block → OptionalStatement → List ℕ
-  uses_by_maybe b absent = []
-  uses_by_maybe b (present s) = uses_by b s
+-- after a statement that may be missing
+abbrev pub after_maybe : OptionalStatement → Block → Block
+after_maybe absent b = b
+after_maybe (present s) b = after s b

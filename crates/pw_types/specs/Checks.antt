@@ -10,7 +10,8 @@ use Rattle.pw_types.specs.declared.error.TypeError.TheVariants.{Broken, NoMemory
 use Rattle.pw_types.specs.declared.rule.Rule.{Rule}
 use Rattle.pw_types.specs.declared.fault.Fault.{Fault}
 use Rattle.pw_types.specs.Faults.{first_of}
-use Rattle.pw_types.specs.Units.{faults_of, typed_unit}
+use Rattle.pw_types.specs.Nests.{faults_of}
+use Rattle.pw_types.specs.Units.{typed_unit}
 
 -- The list's first fault is this one: its rule, its phrase's last token with the token's line, and the name.
 pub record IsFirst (unit : UntypedUnit) (rule : Rule) (at : Pos) (name : Option (List ℕ)) : Type 0 where
@@ -26,7 +27,7 @@ pub record IsTyped (unit : UntypedUnit) (typed : TypedUnit) : Type 0 where
   pub no_fault : faults_of unit ≡ []
   pub is : typed ≡ typed_unit unit
 
--- the typed unit, or exactly the first fault; want of memory says nothing
+-- the typed unit, or exactly the first fault; out of memory says nothing
 abbrev pub Checks : Unit → Result TUnit TypeError → Type 0
 Checks unit (Ok typed) = IsTyped (untyped_unit_of unit) (unit_of typed)
 Checks unit (Err (Broken rule at name)) = IsFirst (untyped_unit_of unit) rule at name

@@ -1,5 +1,5 @@
--- The faults of a declaration at file level, and what it declares (C17, 6.2.2 and 6.9).
-use Rattle.std.specs.Prelude.{ℕ, suc, ◌+◌, Bool, true, false, ◌&&◌, ◌||◌, not, if◌then◌else◌, List, [], ◌∷◌, ◌++◌, length, map, Option, Some, None, is_some, nat_eq, nat_le, nat_lt}
+-- What a declaration at file scope declares, and the faults of its phrases' own (C17, 6.2.2 and 6.9).
+use Rattle.std.specs.Prelude.{ℕ, ◌+◌, Bool, true, false, ◌&&◌, ◌||◌, not, if◌then◌else◌, List, [], ◌∷◌, ◌++◌, length, map, Option, Some, None, is_some, nat_eq, nat_le, nat_lt}
 use Rattle.std.specs.Option.{option_map_or}
 use Rattle.pw_base.specs.Limits as limits
 use Rattle.pw_tree.specs.declared.ty.Ty.{Ty}
@@ -19,13 +19,12 @@ use Rattle.pw_types.specs.Reserved.{is_reserved}
 use Rattle.pw_types.specs.declared.names.Kind.{Kind}
 use Rattle.pw_types.specs.declared.names.File.{File}
 use Rattle.pw_types.specs.declared.names.Local.{Local}
-use Rattle.pw_types.specs.Scopes.{Scope, local_named, file_named, with_file, meaning}
+use Rattle.pw_types.specs.Scopes.{Scope, local_named, with_file, meaning}
 use Rattle.pw_types.specs.declared.names.Kind.TheVariants as kinds
 use Rattle.pw_types.specs.Typed.{function_named, Designated}
-use Rattle.pw_types.specs.Uses.{uses_of_name}
 use Rattle.pw_types.specs.Expressions.{is_missing}
-use Rattle.pw_types.specs.Blocks.{Setting, Block, uses_by_all}
-use Rattle.pw_types.specs.Statements.{is_local_too_many, faults_by_all}
+use Rattle.pw_types.specs.Blocks.{Setting, Block}
+use Rattle.pw_types.specs.Statements.{is_local_too_many}
 
 -- ---- what is declared
 
@@ -101,14 +100,6 @@ local_of number p = record { name = named_or_nothing p.name; ty = p.ty; number =
 abbrev pub is_parameter_too_many : ℕ → Bool
 is_parameter_too_many before = nat_le limits.parameters before
 
--- those of parameters in order of text, behind those that stand before them
-unfoldable pub faults_of_parameters : Bool → List Local → List Param → List Fault
-faults_of_parameters is_definition before [] = []
-faults_of_parameters is_definition before (p ∷ ps) =
-    faults_of_parameter_name is_definition (length before) before p.last p.name
-    ++ (broken rules.TooManyParameters p.last (is_parameter_too_many (length before))
-    ++ faults_of_parameters is_definition (before ++ local_of (length before) p ∷ []) ps)
-
 -- the locals that the parameters of a definition are
 unfoldable pub locals_of : List Local → List Param → List Local
 locals_of before [] = before
@@ -127,6 +118,11 @@ is_definition_of_function (definition result params body) = true
 is_definition_of_function (variable ty size init) = false
 
 -- ---- the declarator
+
+-- Redeclared, of a definition whose name is defined
+abbrev pub is_redefined : Declaration → Option File → Bool
+is_redefined d None = false
+is_redefined d (Some f) = defines d.linkage d.form && f.defined
 
 -- Conflict: another type or linkage than an earlier declaration's
 abbrev pub conflicts : Declaration → Option File → Bool
@@ -191,35 +187,12 @@ faults_of_element scope ty size number item =
     broken_by rules.Unknown item.last (name_in item.kind) (is_unknown_name scope item.kind)
     ++ broken rules.Initialiser item.last (is_wrong_element scope ty size number item.kind)
 
--- those of elements in order of text, from this number on
-unfoldable pub faults_of_elements : Scope → Ty → ℕ → ℕ → List InitItem → List Fault
-faults_of_elements scope ty size number [] = []
-faults_of_elements scope ty size number (item ∷ items) =
-    faults_of_element scope ty size number item ++ faults_of_elements scope ty size (suc number) items
-
 -- a variable that is no array has one element
 abbrev pub room : Option ℕ → ℕ
 room None = 1
 room (Some size) = size
 
--- those of an initialiser, where there is one
-abbrev pub faults_of_initialiser : Scope → Ty → Option ℕ → Option (List InitItem) → List Fault
-faults_of_initialiser scope ty size None = []
-faults_of_initialiser scope ty size (Some items) = faults_of_elements scope ty (room size) 0 items
-
-abbrev pub uses_of_element : Scope → InitKind → List ℕ
-uses_of_element scope (Num n) = []
-uses_of_element scope (Word name) = uses_of_name scope name
-
-unfoldable pub uses_of_elements : Scope → List InitItem → List ℕ
-uses_of_elements scope [] = []
-uses_of_elements scope (item ∷ items) = uses_of_element scope item.kind ++ uses_of_elements scope items
-
-abbrev pub uses_of_initialiser : Scope → Option (List InitItem) → List ℕ
-uses_of_initialiser scope None = []
-uses_of_initialiser scope (Some items) = uses_of_elements scope items
-
--- ---- behind the declarator
+-- ---- after the declarator
 
 -- parameters belong to the outermost block of the body
 abbrev pub outermost : Scope → List Param → Block
@@ -230,20 +203,9 @@ outermost scope params =
 abbrev pub setting : List ℕ → Ty → Setting
 setting lines result = record { result = result; lines = lines; in_loop = false; in_head = false }
 
--- those of the body, or of the initialiser
-abbrev pub faults_of_form : List ℕ → Scope → DeclarationForm → List Fault
-faults_of_form lines scope (prototype result params) = []
-faults_of_form lines scope (definition result params body) = faults_by_all (setting lines result) (outermost scope params) body
-faults_of_form lines scope (variable ty size init) = faults_of_initialiser scope ty size init
+-- ---- the names after a declaration
 
-abbrev pub uses_of_form : Scope → DeclarationForm → List ℕ
-uses_of_form scope (prototype result params) = []
-uses_of_form scope (definition result params body) = uses_by_all (outermost scope params) body
-uses_of_form scope (variable ty size init) = uses_of_initialiser scope init
-
--- ---- the names behind a declaration
-
--- a name at file level, as this declaration gives it
+-- a name at file scope, as this declaration gives it
 abbrev pub first_of : Declaration → File
 first_of d = record { name = d.name; external = is_external d.linkage; kind = kind_of d.form; defined = defines d.linkage d.form }
 
@@ -251,12 +213,7 @@ first_of d = record { name = d.name; external = is_external d.linkage; kind = ki
 abbrev pub declared_by : Declaration → List File → List File
 declared_by d files = with_file (first_of d) files
 
--- ---- a declaration
-
--- Redeclared, of a definition whose name is defined
-abbrev pub is_redefined : Declaration → Option File → Bool
-is_redefined d None = false
-is_redefined d (Some f) = defines d.linkage d.form && f.defined
+-- ---- what is visible
 
 -- What all declarations have in common: the names of the functions and of the variables that the unit defines, in order,
 -- and the line of each of its tokens.
@@ -265,17 +222,6 @@ pub record Whole : Type 0 where
   pub variables : List (List ℕ)
   pub lines : List ℕ
 
--- what is visible where these names are declared at file level
+-- what is visible where these names are declared at file scope
 abbrev pub file_scope : Whole → List File → Scope
 file_scope w files = record { files = files; functions = w.functions; variables = w.variables; locals = [] }
-
--- Where `elements` elements are defined before it: the faults of the name, of the parameters, of the declarator, and of the
--- initialiser or the body, which see the name itself.
-unfoldable pub faults_of_declaration : Whole → List File → ℕ → Declaration → List Fault
-faults_of_declaration w files elements d =
-    broken_by rules.Redeclared d.name_at d.name (is_redefined d (file_named d.name files))
-    ++ (broken_by rules.Reserved d.name_at d.name (is_reserved d.name)
-    ++ (faults_of_parameters (is_definition_of_function d.form) [] (parameters_in d.form)
-    ++ (broken_by rules.Conflict d.declarator d.name (conflicts d (file_named d.name files))
-    ++ (broken rules.ArraySize d.declarator (is_too_large elements d)
-    ++ faults_of_form w.lines (file_scope w (declared_by d files)) d.form))))

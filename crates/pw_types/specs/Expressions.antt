@@ -1,5 +1,4 @@
--- The faults of expressions: those of a phrase's parts in order of text, then its own by ascending rule. A phrase is judged
--- by a rule only where its parts have types.
+-- The faults of an expression's own, by ascending rule, in its place. A phrase is judged by a rule only where its parts have types.
 use Rattle.std.specs.Prelude.{ℕ, suc, Bool, true, false, ◌&&◌, ◌||◌, not, List, [], ◌∷◌, ◌++◌, length, Option, Some, None, is_some, is_none, nat_eq}
 use Rattle.std.specs.Option.{option_map_or}
 use Rattle.pw_tree.specs.declared.ty.Ty.{Ty}
@@ -13,7 +12,7 @@ use Rattle.pw_types.specs.declared.fault.Fault.{Fault}
 use Rattle.pw_types.specs.Faults.{broken, broken_by}
 use Rattle.pw_tree.specs.Types.{is_number, is_void, is_pointer, converts, unary_type, binary_type, choice_type}
 use Rattle.pw_types.specs.Scopes.{Scope, Meaning, missing, a_local, declared, meaning}
-use Rattle.pw_types.specs.Typed.{array_of, function_of, callee_of, parameters_of, typed, typed_all, Designated, Callee as Called}
+use Rattle.pw_types.specs.Typed.{array_of, function_of, callee_of, parameters_of, typed, typed_all, Callee as Called}
 use Rattle.pw_tree.specs.TypedExpressions.{type_of}
 
 -- ---- places
@@ -197,43 +196,16 @@ own scope role e =
     ++ (broken rules.NeedsIndex (end_of e) (needs_index scope role e)
     ++ broken rules.AssignType (end_of e) (does_not_fit scope role e))))))))
 
--- ---- all faults
+-- ---- arguments
 
--- the type of the first parameter, where there is one, and the parameters behind it
+-- the type of the first parameter, where there is one, and the parameters after it
 abbrev pub first_parameter : Option (List Ty) → Option Ty
 first_parameter None = None
 first_parameter (Some []) = None
 first_parameter (Some (ty ∷ tys)) = Some ty
 
--- the parameters behind the first
+-- the parameters after the first
 abbrev pub other_parameters : Option (List Ty) → Option (List Ty)
 other_parameters None = None
 other_parameters (Some []) = Some []
 other_parameters (Some (ty ∷ tys)) = Some tys
-
--- a function's name as a callee is no value that is judged
-abbrev pub unless_direct : Option Designated → List Fault → List Fault
-unless_direct (Some f) faults = []
-unless_direct None faults = faults
-
-unfoldable mutual
-  -- the faults of an expression
-  pub faults : Scope → Role → Expression → List Fault
-  faults scope role (constant at v unsigned) = own scope role (constant at v unsigned)
-  faults scope role (word at name) = own scope role (word at name)
-  faults scope role (unary at op e) = faults scope Value e ++ own scope role (unary at op e)
-  faults scope role (binary at op l r) = faults scope Value l ++ (faults scope Value r ++ own scope role (binary at op l r))
-  faults scope role (conditional at c a b) =
-      faults scope Value c ++ (faults scope Value a ++ (faults scope Value b ++ own scope role (conditional at c a b)))
-  faults scope role (call at f es) =
-      unless_direct (function_of scope f) (faults scope Callee f)
-      ++ (faults_of_arguments scope (parameters_of (callee_in scope f)) es ++ own scope role (call at f es))
-  faults scope role (index at b i) = faults scope Base b ++ (faults scope Value i ++ own scope role (index at b i))
-  faults scope role (input at) = own scope role (input at)
-  faults scope role (output at e) = faults scope Written e ++ own scope role (output at e)
-
-  -- the faults of arguments, where these parameters are left
-  pub faults_of_arguments : Scope → Option (List Ty) → Expressions → List Fault
-  faults_of_arguments scope params nil = []
-  faults_of_arguments scope params (cons e es) =
-      faults scope (Argument (first_parameter params)) e ++ faults_of_arguments scope (other_parameters params) es

@@ -1,4 +1,4 @@
--- Laws of the list of faults: in which order it has them, and where they are; and of the typed unit where there is none.
+-- Laws of the faults of a unit: in which order they stand, and where they are; and of the typed unit where there is none.
 use Rattle.std.specs.Prelude.{◌≡◌, ◌⊎◌, ℕ, ◌<◌, ◌≤◌, [], length, map, Some, All, AllPairs}
 use Rattle.pw_tree.specs.Declarations.{UntypedUnit}
 use Rattle.pw_tree.specs.Placed.{IsParsed}
@@ -8,8 +8,8 @@ use Rattle.pw_types.specs.declared.rule.Rule.{Rule}
 use Rattle.pw_types.specs.declared.rule.Rule.TheVariants as rules
 use Rattle.pw_types.specs.declared.fault.Fault.{Fault}
 use Rattle.pw_types.specs.Faults.{first_of}
-use Rattle.pw_types.specs.Units.{faults_of, typed_unit}
-use Rattle.pw_types.specs.Nests.{Nested, walk, unit}
+use Rattle.pw_types.specs.Units.{typed_unit}
+use Rattle.pw_types.specs.Nests.{Nested, walk, unit, faults_of}
 
 -- ---- the order of faults
 
@@ -44,10 +44,9 @@ Precedes m n =
 
 -- ---- the laws
 
--- The list of the faults of a unit that was read is that of its phrases' own faults, in the order of faults.
+-- The faults of a unit that was read stand in the order of faults.
 abbrev pub FaultsAscend : Type 0
-FaultsAscend =
-    (u : UntypedUnit) → IsParsed u → (faults_of u ≡ map (λ n. n.fault) (walk 0 (unit u))) × AllPairs Precedes (walk 0 (unit u))
+FaultsAscend = (u : UntypedUnit) → IsParsed u → AllPairs Precedes (walk 0 (unit u))
 
 -- So no other ends before the first of them.
 abbrev pub FirstEndsFirst : Type 0

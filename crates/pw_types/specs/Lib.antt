@@ -3,7 +3,6 @@ pub mod Typed
 pub mod Reserved
 pub mod Faults
 pub mod Expressions
-pub mod Uses
 pub mod Blocks
 pub mod Statements
 pub mod TypedStatements

@@ -1,4 +1,4 @@
--- The faults of a unit by phrase: each phrase within another, with the faults of its own.
+-- The faults of a unit: the phrases of the unit, one within another, each with the faults of its own.
 use Rattle.std.specs.Prelude.{ℕ, suc, ◌+◌, ◌-◌, Bool, List, [], ◌∷◌, ◌++◌, length, map, Option, Some, None, option_map, find}
 use Rattle.pw_tree.specs.declared.ty.Ty.{Ty}
 use Rattle.pw_tree.specs.declared.decl.Param.{Param}
@@ -19,10 +19,10 @@ use Rattle.pw_types.specs.Reserved.{is_reserved}
 use Rattle.pw_types.specs.Scopes.{Scope, file_named, meaning}
 use Rattle.pw_types.specs.Typed.{Designated, typed, array_named, function_of, parameters_of}
 use Rattle.pw_types.specs.Expressions.{end_of, own, callee_in, first_parameter, other_parameters}
-use Rattle.pw_types.specs.Blocks.{Setting, part, body, head, Block, inner, behind, behind_maybe}
+use Rattle.pw_types.specs.Blocks.{Setting, part, body, head, Block, inner, after, after_maybe}
 use Rattle.pw_types.specs.Statements.{holds_too_many, has_other_index, set_holds_too_many, set_element_holds_too_many, is_outside_loop, faults_of_name, type_of_target, faults_of_target, faults_of_array, returns_other}
 use Rattle.pw_types.specs.Declarations.{Whole, is_parameter_too_many, file_scope, faults_of_parameter_name, local_of, parameters_in, is_definition_of_function, conflicts, is_redefined, is_too_large, elements_of, faults_of_element, room, outermost, setting, declared_by}
-use Rattle.pw_types.specs.Units.{whole_of, files_behind, lacks_definition, faults_of_lacking}
+use Rattle.pw_types.specs.Units.{whole_of, files_after, lacks_definition, faults_of_lacking}
 
 -- A phrase: its parts in order of text, and the faults of its own.
 mutual
@@ -108,14 +108,14 @@ unfoldable mutual
   statement x b (set at name i e) = assignment x b.scope at name i e
   statement x b (evaluate at e) = nest (more (whole b.scope roles.Statement e) none) []
   statement x b (if_else at c a d) =
-      nest (more (whole b.scope roles.Value c) (more (statement (part x) b a) (maybe (part x) (behind a b) d none))) []
+      nest (more (whole b.scope roles.Value c) (more (statement (part x) b a) (maybe (part x) (after a b) d none))) []
   statement x b (while_loop at c s) = nest (more (whole b.scope roles.Value c) (more (statement (body x) b s) none)) []
   statement x b (do_loop at s c) = nest (more (statement (body x) b s) (more (whole b.scope roles.Value c) none)) []
   statement x b (for_loop at first c last s) =
       nest (maybe (head x) (inner b) first
-      (option (behind_maybe first (inner b)).scope roles.Value c
-      (maybe (head x) (behind_maybe first (inner b)) last
-      (more (statement (body x) (behind_maybe last (behind_maybe first (inner b))) s) none)))) []
+      (option (after_maybe first (inner b)).scope roles.Value c
+      (maybe (head x) (after_maybe first (inner b)) last
+      (more (statement (body x) (after_maybe last (after_maybe first (inner b))) s) none)))) []
   statement x b (returns at e) =
       nest (option b.scope roles.Value e none) (broken rules.ReturnType at.last (returns_other x.result b.scope e))
   statement x b (breaks at) = leaf (broken rules.OutsideLoop at.last (is_outside_loop x))
@@ -124,7 +124,7 @@ unfoldable mutual
   -- statements in a row
   pub statements : Setting → Block → Statements → Nests
   statements x b nil = none
-  statements x b (cons s ss) = more (statement x b s) (statements x (behind s b) ss)
+  statements x b (cons s ss) = more (statement x b s) (statements x (after s b) ss)
 
   -- a statement that may be missing, before others
   pub maybe : Setting → Block → OptionalStatement → Nests → Nests
@@ -133,7 +133,7 @@ unfoldable mutual
 
 -- ---- declarations
 
--- the parameters of a function, behind those that stand before them
+-- the parameters of a function, after those that stand before them
 unfoldable pub parameters : Bool → List Local → List Param → Nests
 parameters is_definition before [] = none
 parameters is_definition before (p ∷ ps) =
@@ -152,7 +152,7 @@ abbrev pub initialiser : Scope → Ty → Option ℕ → Option (List InitItem) 
 initialiser scope ty size None = none
 initialiser scope ty size (Some items) = elements scope ty (room size) 0 items
 
--- what stands behind the declarator
+-- what stands after the declarator
 abbrev pub form : List ℕ → Scope → DeclarationForm → Nests
 form lines scope (prototype result params) = none
 form lines scope (definition result params ss) = statements (setting lines result) (outermost scope params) ss
@@ -182,7 +182,7 @@ declarations w files before (d ∷ ds) =
 abbrev pub unit : UntypedUnit → Nest
 unit u =
     nest (declarations (whole_of u) [] 0 u.declarations)
-    (faults_of_lacking (length u.lines - 1) (find lacks_definition (files_behind [] u.declarations)))
+    (faults_of_lacking (length u.lines - 1) (find lacks_definition (files_after [] u.declarations)))
 
 -- ---- all faults, inner phrases first
 
@@ -200,3 +200,7 @@ unfoldable mutual
   pub walk_all : ℕ → Nests → List Nested
   walk_all depth none = []
   walk_all depth (more n ns) = walk depth n ++ walk_all depth ns
+
+-- All faults of a unit.
+abbrev pub faults_of : UntypedUnit → List Fault
+faults_of u = map (λ n. n.fault) (walk 0 (unit u))

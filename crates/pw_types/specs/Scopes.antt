@@ -1,4 +1,4 @@
--- What is visible at a place of a unit: names at file level, and the locals of a function (C17, 6.2.1).
+-- What is visible at a place of a unit: names at file scope, and the locals of a function (C17, 6.2.1).
 use Rattle.std.specs.Prelude.{ℕ, Bool, ◌||◌, map, not, if◌then◌else◌, List, [], ◌∷◌, ◌++◌, Option, Some, None, bytes_eq, find, is_some}
 use Rattle.std.specs.List.{prefix_len, list_any}
 use Rattle.pw_tree.specs.declared.ty.Ref.{Ref}
@@ -8,7 +8,7 @@ use Rattle.pw_types.specs.declared.names.Local.{Local}
 
 -- ---- scopes
 
--- What is visible: the names at file level in order of first declaration, the names of the functions and of the variables
+-- What is visible: the names at file scope in order of first declaration, the names of the functions and of the variables
 -- that the whole unit defines, in order, and the locals, in order.
 pub record Scope : Type 0 where
   pub files : List File
@@ -22,7 +22,7 @@ local_named name [] = None
 local_named name (l ∷ ls) =
     if is_some (local_named name ls) then local_named name ls else (if bytes_eq l.name name then Some l else None)
 
--- the declaration at file level of a name
+-- the declaration at file scope of a name
 abbrev pub file_named : List ℕ → List File → Option File
 file_named name files = find (λ f. bytes_eq f.name name) files
 
@@ -44,7 +44,7 @@ pub data Meaning : Type 0 where
   a_local : Local → Meaning
   declared : File → Meaning
 
--- what a name means at file level
+-- what a name means at file scope
 abbrev pub declared_or_missing : Option File → Meaning
 declared_or_missing (Some f) = declared f
 declared_or_missing None = missing
@@ -54,7 +54,7 @@ abbrev pub local_or : Option Local → Meaning → Meaning
 local_or (Some l) other = a_local l
 local_or None other = other
 
--- a local hides a name at file level
+-- a local hides a name at file scope
 unfoldable pub meaning : Scope → List ℕ → Meaning
 meaning scope name = local_or (local_named name scope.locals) (declared_or_missing (file_named name scope.files))
 

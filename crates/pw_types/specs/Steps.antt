@@ -1,3 +1,7 @@
+pub mod ExpressionFaults
+pub mod StatementFaults
+pub mod UnitFaults
+pub mod Uses
 pub mod Refusals
 pub mod Operations
 pub mod Judging

@@ -39,7 +39,7 @@ pub record Array : Type 0 where
   pub ty : Ty
   pub size : ℕ
 
--- the array that a name at file level is
+-- the array that a name at file scope is
 abbrev pub array_of_kind : Scope → File → Kind → Option Array
 array_of_kind scope f (Function sig) = None
 array_of_kind scope f (Variable ty None) = None
@@ -60,7 +60,7 @@ pub record Designated : Type 0 where
   pub reference : Ref
   pub sig : Sig
 
--- the function that a name at file level is
+-- the function that a name at file scope is
 abbrev pub function_of_kind : Scope → File → Kind → Option Designated
 function_of_kind scope f (Function sig) = Some (record { reference = function_reference scope f; sig = sig })
 function_of_kind scope f (Variable ty size) = None

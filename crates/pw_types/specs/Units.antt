@@ -1,8 +1,10 @@
--- The faults of a whole unit, and its typed unit.
-use Rattle.std.specs.Prelude.{ℕ, suc, ◌+◌, ◌-◌, Bool, true, false, ◌&&◌, ◌||◌, not, if◌then◌else◌, List, [], ◌∷◌, ◌++◌, length, map, find, Option, Some, None, option_map, nat_eq}
+-- What a unit declares and defines, and its typed unit.
+use Rattle.std.specs.Prelude.{ℕ, ◌+◌, Bool, true, false, ◌&&◌, ◌||◌, not, if◌then◌else◌, List, [], ◌∷◌, ◌++◌, length, map, filter, Option, Some, None, option_map}
 use Rattle.std.specs.List.{flat_map, list_any}
 use Rattle.std.specs.Str.{bytes_eq}
 use Rattle.pw_tree.specs.declared.ty.Ty.{Ty}
+use Rattle.pw_tree.specs.declared.ty.Ref.{Ref}
+use Rattle.pw_tree.specs.declared.ty.Ref.TheVariants.{Global, LocalFun, LocalVar}
 use Rattle.pw_tree.specs.declared.tunit.TVar.{TVar}
 use Rattle.pw_tree.specs.declared.tunit.Init.{Init}
 use Rattle.pw_tree.specs.declared.tunit.Init.TheVariants as init
@@ -14,6 +16,7 @@ use Rattle.pw_tree.specs.declared.decl.InitKind.TheVariants.{Num, Word}
 use Rattle.pw_tree.specs.Statements.{Statements}
 use Rattle.pw_tree.specs.Declarations.{Declaration, DeclarationForm, prototype, definition, variable, UntypedUnit}
 use Rattle.pw_tree.specs.Units.{Function, TypedUnit}
+use Rattle.pw_tree.specs.Binding.{names_used}
 use Rattle.pw_tree.specs.TypeTexts.{text_of_function, text_of_variable}
 use Rattle.pw_types.specs.declared.rule.Rule.TheVariants as rules
 use Rattle.pw_types.specs.declared.fault.Fault.{Fault}
@@ -26,7 +29,7 @@ use Rattle.pw_types.specs.Typed.{function_named, Designated}
 use Rattle.pw_tree.specs.Held.{held_by_all}
 use Rattle.pw_types.specs.Blocks.{locals_in_all}
 use Rattle.pw_types.specs.TypedStatements.{typed_statements}
-use Rattle.pw_types.specs.Declarations.{is_external, is_extern, signature, elements_of, outermost, setting, declared_by, Whole, file_scope, faults_of_declaration, uses_of_form}
+use Rattle.pw_types.specs.Declarations.{is_external, is_extern, signature, outermost, setting, declared_by, Whole, file_scope}
 
 -- ---- the names that a unit defines
 
@@ -74,20 +77,14 @@ whole_of unit = record {
   lines = unit.lines;
 }
 
--- ---- faults
+-- ---- the names at file scope
 
--- the names behind declarations
-unfoldable pub files_behind : List File → List Declaration → List File
-files_behind files [] = files
-files_behind files (d ∷ ds) = files_behind (declared_by d files) ds
+-- the names after declarations
+unfoldable pub files_after : List File → List Declaration → List File
+files_after files [] = files
+files_after files (d ∷ ds) = files_after (declared_by d files) ds
 
--- those of declarations in order of text, behind these names and this many elements
-unfoldable pub faults_of_declarations : Whole → List File → ℕ → List Declaration → List Fault
-faults_of_declarations w files elements [] = []
-faults_of_declarations w files elements (d ∷ ds) =
-    faults_of_declaration w files elements d ++ faults_of_declarations w (declared_by d files) (elements + elements_of d) ds
-
--- a static function that is declared and not defined
+-- it is a function
 abbrev pub is_function : Kind → Bool
 is_function (kinds.Function sig) = true
 is_function (kinds.Variable ty size) = false
@@ -100,12 +97,6 @@ lacks_definition f = is_function f.kind && not f.external && not f.defined
 abbrev pub faults_of_lacking : ℕ → Option File → List Fault
 faults_of_lacking at None = []
 faults_of_lacking at (Some f) = broken_by rules.Unknown at f.name true
-
--- All faults of a unit: those of its declarations in order, then its own, at its last token.
-abbrev pub faults_of : UntypedUnit → List Fault
-faults_of unit =
-    faults_of_declarations (whole_of unit) [] 0 unit.declarations
-    ++ faults_of_lacking (length unit.lines - 1) (find lacks_definition (files_behind [] unit.declarations))
 
 -- ---- the typed unit
 
@@ -172,36 +163,44 @@ typed_variables w files (d ∷ ds) =
 
 -- ---- external names
 
--- the numbers of the names that bodies and initialisers use
-unfoldable pub uses_of_declarations : Whole → List File → List Declaration → List ℕ
-uses_of_declarations w files [] = []
-uses_of_declarations w files (d ∷ ds) =
-    uses_of_form (file_scope w (declared_by d files)) d.form ++ uses_of_declarations w (declared_by d files) ds
-
--- the type string of a name at file level
+-- the type string of a name at file scope
 abbrev pub text_of_kind : Kind → List ℕ
 text_of_kind (kinds.Function sig) = text_of_function sig
 text_of_kind (kinds.Variable ty size) = text_of_variable ty size
 
--- an external name that is defined or used
-abbrev pub is_kept : List ℕ → ℕ → File → Bool
-is_kept used number f = f.external && (f.defined || list_any (λ n. nat_eq n number) used)
+-- the reference is to this external name
+abbrev pub refers_to : List ℕ → Ref → Bool
+refers_to name (Global other) = bytes_eq other name
+refers_to name (LocalFun i) = false
+refers_to name (LocalVar i) = false
 
--- the external names that are kept, from this number on, each with its type string
-unfoldable pub external_names : List ℕ → ℕ → List File → List Ext
-external_names used number [] = []
-external_names used number (f ∷ fs) =
-    if is_kept used number f
-    then record { name = f.name; text = text_of_kind f.kind } ∷ external_names used (suc number) fs
-    else external_names used (suc number) fs
+-- an external name that the unit defines, or that one of these references is to
+abbrev pub is_kept : List Ref → File → Bool
+is_kept references f = f.external && (f.defined || list_any (refers_to f.name) references)
+
+-- a name with its type string
+abbrev pub external_name : File → Ext
+external_name f = record { name = f.name; text = text_of_kind f.kind }
+
+-- the external names that are kept
+abbrev pub external_names : List Ref → List File → List Ext
+external_names references files = map external_name (filter (is_kept references) files)
 
 -- ---- all
 
--- The typed unit of a unit without faults: its functions and variables in order of definition, and the external names that
--- it defines or uses, in order of their first declaration.
+-- the functions and variables that a unit defines, in order of definition
+abbrev pub definitions_of : UntypedUnit → TypedUnit
+definitions_of unit = record {
+  functions = typed_functions (whole_of unit) [] unit.declarations;
+  variables = typed_variables (whole_of unit) [] unit.declarations;
+  names = [];
+}
+
+-- The typed unit of a unit without faults: its functions and variables, and the external names that it defines or that stand
+-- in a body or an initialiser, each once, in order of their first declaration.
 abbrev pub typed_unit : UntypedUnit → TypedUnit
 typed_unit unit = record {
   functions = typed_functions (whole_of unit) [] unit.declarations;
   variables = typed_variables (whole_of unit) [] unit.declarations;
-  names = external_names (uses_of_declarations (whole_of unit) [] unit.declarations) 0 (files_behind [] unit.declarations);
+  names = external_names (names_used (definitions_of unit)) (files_after [] unit.declarations);
 }

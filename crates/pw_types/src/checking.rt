@@ -1,9 +1,12 @@
 //! The call that types a unit.
-ghost use Rattle.std.specs.Prelude.{◌≡◌, Some, Err};
+ghost use Rattle.std.specs.Prelude.{◌≡◌, Some, Err, IfOk};
 ghost use Rattle.pw_tree.specs.Declarations.{untyped_unit_of};
 ghost use Rattle.pw_tree.specs.Placed.{IsParsed};
+ghost use Rattle.pw_tree.specs.Proper.{IsRead};
+ghost use Rattle.pw_tree.specs.Units.{unit_of};
+ghost use Rattle.pw_tree.specs.WellTypedUnits.{IsWellTyped};
 ghost use Rattle.pw_types.specs.Faults.{first_of};
-ghost use Rattle.pw_types.specs.Units.{faults_of};
+ghost use Rattle.pw_types.specs.Nests.{faults_of};
 ghost use Rattle.pw_types.specs.Checks.{Checks};
 
 use crate::error::TypeError;
@@ -16,7 +19,7 @@ use std::alloc::Global;
 /// The error that the first fault of a unit is, with its token's line.
 #[tactic(auto, using(crate::proofs::FirstFault::within))]
 fn error_of(unit: &Unit, fault: Fault) -> TypeError
-    requires written { IsParsed (untyped_unit_of unit.now) }
+    requires parsed { IsParsed (untyped_unit_of unit.now) }
     requires first { first_of (faults_of (untyped_unit_of unit.now)) ≡ Some fault }
     ensures { Checks unit.now (Err result) }
 {
@@ -35,13 +38,14 @@ fn error_of(unit: &Unit, fault: Fault) -> TypeError
 /// The typed unit of a unit that was read, or its first fault.
 ///
 /// The faults of a unit are those of its declarations in order of text, and at its last token the first static function
-/// that is declared and not defined. Those of a phrase stand behind those of its parts, and several of one phrase in the
-/// order of `Rule`; `specs/Units.antt` has them all.
+/// that is declared and not defined. Those of a phrase come after those of its parts, and several of one phrase in the
+/// order of `Rule`; `specs/Nests.antt` has them all.
 ///
 /// Refusals: `Broken` exactly where the unit has a fault, with the first. `NoMemory` may come in place of each answer.
 pub fn check(alloc: Global, unit: &Unit) -> Result<TUnit, TypeError>
-    requires written { IsParsed (untyped_unit_of unit.now) }
-    ensures { Checks unit.now result }
+    requires read { IsRead (untyped_unit_of unit.now) }
+    ensures answer { Checks unit.now result }
+    ensures well_typed { IfOk result (λ typed. IsWellTyped (unit_of typed)) }
 {
     match judge_unit(alloc, unit) {
         Ok(typed) => Ok(typed),

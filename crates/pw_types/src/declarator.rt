@@ -39,7 +39,7 @@ fn judge_name(alloc: Global, before: Option<&File>, d: &Decl) -> Result<(), Refu
 }
 
 /// The locals that a declaration's parameters are, or their first fault.
-#[tactic(auto, using(crate::proofs::Parameters::few_parameters), unfolding(crate::specs::Declarations::faults_of_parameters))]
+#[tactic(auto, using(crate::proofs::Parameters::few_parameters), unfolding(crate::specs::Steps::UnitFaults::faults_of_parameters))]
 fn judge_parameters(alloc: Global, kind: &DeclKind) -> Result<Vec<Local>, Refusal>
     requires { HasTypes (declaration_form_of kind.now) }
     ensures { Judges (faults_in_parameters (declaration_form_of kind.now)) (λ locals. AreLocals (declaration_form_of kind.now) locals.items) result }

@@ -70,7 +70,7 @@ fn kind_of(alloc: Global, kind: &DeclKind) -> Result<Kind, NoMemory>
     }
 }
 
-/// The name at file level that a declaration gives.
+/// The name at file scope that a declaration gives.
 pub(crate) fn file_of(alloc: Global, d: &Decl) -> Result<File, NoMemory>
     requires { spec.has_bad_size (declaration_form_of d.now.kind) ≡ false }
     ensures { IfOk result (λ f. f ≡ spec.first_of (declaration_of d.now)) }

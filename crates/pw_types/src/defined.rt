@@ -1,10 +1,11 @@
-//! What a declaration defines, behind its declarator: a function's body, or what a variable begins with.
+//! What a declaration defines, after its declarator: a function's body, or what a variable begins with.
 ghost use Rattle.std.specs.Prelude.{◌≡◌, None, false, IfOk};
 ghost use Rattle.pw_tree.specs.Declarations.{variable, declaration_form_of, declaration_of};
-ghost use Rattle.pw_tree.specs.Units.{function_of as plain_function};
+ghost use Rattle.pw_tree.specs.Units.{typed_function_of as plain_function};
 ghost use Rattle.pw_types.specs.Declarations as spec;
 ghost use Rattle.pw_types.specs.Steps.CheckingDeclarations.{AreLocals, AreInitials, Defines, function_with, variable_with};
 ghost use Rattle.pw_types.specs.Steps.Refusals.{Judges};
+ghost use Rattle.pw_types.specs.Steps.UnitFaults.{faults_of_initialiser, faults_of_form};
 
 use crate::declared::{is_extern, is_external, signature};
 use crate::declared_names::Names;
@@ -94,7 +95,7 @@ fn judge_initialiser(
     size: Option<u64>,
     init: &Option<Items<InitItem>>,
 ) -> Result<Option<Items<Init>>, Refusal>
-    ensures { Judges (spec.faults_of_initialiser scope.now ty size init.now) (AreInitials scope.now init.now used.old.items used.new.items) result }
+    ensures { Judges (faults_of_initialiser scope.now ty size init.now) (AreInitials scope.now init.now used.old.items used.new.items) result }
 {
     match init {
         Some(items) => {
@@ -117,7 +118,7 @@ pub(crate) fn judge_form(
 ) -> Result<Defined, Refusal>
     requires size { spec.has_bad_size (declaration_form_of d.now.kind) ≡ false }
     requires locals { AreLocals (declaration_form_of d.now.kind) locals.items }
-    ensures { Judges (spec.faults_of_form whole.now.lines (spec.file_scope whole.now files.now) (declaration_form_of d.now.kind)) (Defines whole.now files.now (declaration_of d.now) used.old.items used.new.items) result }
+    ensures { Judges (faults_of_form whole.now.lines (spec.file_scope whole.now files.now) (declaration_form_of d.now.kind)) (Defines whole.now files.now (declaration_of d.now) used.old.items used.new.items) result }
 {
     let (functions, variables) = (whole.functions, whole.variables);
     let mut scope = Scope {

@@ -57,7 +57,7 @@ fn walk<'a>(
     }
 }
 
-/// The typed tree of an expression in its role, or its first fault. The names at file level that it uses are noted behind
+/// The typed tree of an expression in its role, or its first fault. The names at file scope that it uses are noted after
 /// those in `used`, by their numbers.
 pub fn judge(
     alloc: Global,

@@ -33,7 +33,7 @@ fn first(params: Parameters<'_>) -> Option<Ty>
     }
 }
 
-/// The parameters behind the first.
+/// The parameters after the first.
 fn others<'a>(params: Parameters<'a>) -> Parameters<'a>
     ensures { listed result ≡ spec.others_wanted (listed params.entry) }
 {
@@ -45,7 +45,7 @@ fn others<'a>(params: Parameters<'a>) -> Parameters<'a>
 }
 
 /// So many trees and so many values more, or one more than the limit where these are more.
-fn behind(trees: &Items<TExpr>, values: u32) -> u32
+fn after(trees: &Items<TExpr>, values: u32) -> u32
     ensures { result ≡ spec.capped (length trees.now + values) }
 {
     more(trees.len().min(CAP as usize) as u32, values)
@@ -55,7 +55,7 @@ fn behind(trees: &Items<TExpr>, values: u32) -> u32
 fn take(mut taken: Arguments, typed: Typed) -> Result<Arguments, NoMemory>
     ensures { IfOk result (λ more. taken_of more ≡ spec.taking (taken_of taken) (valued typed)) }
 {
-    let one = behind(&taken.trees, typed.held.max(1));
+    let one = after(&taken.trees, typed.held.max(1));
     taken.held = taken.held.max(one);
     taken.trees.push(typed.tree.into_inner())?;
     Ok(taken)
@@ -85,7 +85,7 @@ fn pointer_call(
 ) -> Result<Typed, NoMemory>
     ensures { IfOk result (λ call. valued call ≡ spec.called (spec.through (valued callee)) head (taken_of taken)) }
 {
-    let held = taken.held.max(behind(&taken.trees, callee.held));
+    let held = taken.held.max(after(&taken.trees, callee.held));
     let kind = TKind::CallPtr(callee.tree, taken.trees);
     node(alloc, head, Ty::Long, kind, held)
 }
@@ -221,8 +221,8 @@ pub(crate) fn call_through<'a>(
     }
 }
 
-/// What comes behind an argument of a call.
-pub(crate) fn behind_argument<'a>(
+/// What comes after an argument of a call.
+pub(crate) fn after_argument<'a>(
     alloc: Global,
     call: Call,
     taken: Arguments,

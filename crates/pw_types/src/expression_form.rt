@@ -15,7 +15,7 @@ use pw_base::Limits;
 use pw_tree::{Bin, TKind, Ty, Un};
 use std::alloc::Global;
 
-/// How many values are told apart: one more than may be held. A greater number counts as this.
+/// How many values are counted: one more than may be held. A greater number counts as this.
 pub(crate) const CAP: u32 = Limits::HELD_VALUES + 1;
 
 /// So many values and so many more, or one more than the limit where these are more.

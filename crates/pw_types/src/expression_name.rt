@@ -23,7 +23,7 @@ use pw_base::{Name, NoMemory};
 use pw_tree::{Sig, TKind, Ty};
 use std::alloc::Global;
 
-/// Notes the use of a name at file level, by its number.
+/// Notes the use of a name at file scope, by its number.
 pub(crate) fn note(used: &mut Vec<usize>, number: usize) -> Result<(), NoMemory>
     ensures { OnOk result (used.new.items ≡ used.old.items ++ number ∷ []) }
 {
@@ -109,7 +109,7 @@ fn variable_value(
     }
 }
 
-/// A name at file level as a value.
+/// A name at file scope as a value.
 fn file_value(alloc: Global, scope: &Scope<'_>, head: Head, file: &File) -> Result<Typed, Refusal>
     ensures { Gives (spec.file_value scope.now head file.now file.now.kind) result }
 {
@@ -127,7 +127,7 @@ fn local_value(alloc: Global, head: Head, ty: Ty, number: u32) -> Result<Typed, 
     leaf(alloc, head, ty, TKind::Local(number))
 }
 
-/// A name as a value; one at file level is noted. Refusals: `Unknown`, `NotValue` and `NotArray` of a function, those of an
+/// A name as a value; one at file scope is noted. Refusals: `Unknown`, `NotValue` and `NotArray` of a function, those of an
 /// array's name, and as in `finish`.
 pub(crate) fn named_value(
     alloc: Global,

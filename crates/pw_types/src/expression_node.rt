@@ -108,7 +108,7 @@ fn is_other_value(role: Role, ty: Ty) -> bool
     }
 }
 
-/// The first rule that an expression of a type breaks in its role; `other_count` tells a call with another number of
+/// The first rule that an expression of a type breaks in its role; `other_count` says of a call that it has another number of
 /// arguments.
 fn first_rule(role: Role, other_count: bool, ty: Ty) -> Option<Rule>
     ensures { result ≡ spec.first_rule role other_count ty }

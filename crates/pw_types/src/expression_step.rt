@@ -50,24 +50,24 @@ pub(crate) enum Parameters<'a> {
     Longs(u8),
 }
 
-/// An expression that waits for a part: where it stands, what was judged before the part, and what comes behind it.
+/// An expression that waits for a part: where it stands, what was judged before the part, and what comes after it.
 #[derive(Drop)]
 pub(crate) enum ExpressionFrame<'a> {
     /// The operand of a unary operator.
     Operand(Head, Un),
-    /// The left operand of a binary operator; the right one comes behind it.
+    /// The left operand of a binary operator; the right one comes after it.
     Left(Head, Bin, &'a Expr),
-    /// The right operand, behind the left one.
+    /// The right operand, after the left one.
     Right(Head, Bin, Typed),
-    /// The condition of a choice; its two values come behind it.
+    /// The condition of a choice; its two values come after it.
     Condition(Head, &'a Expr, &'a Expr),
-    /// The first value of a choice, behind the condition; the second comes behind it.
+    /// The first value of a choice, after the condition; the second comes after it.
     First(Head, Typed, &'a Expr),
-    /// The second value of a choice, behind the condition and the first.
+    /// The second value of a choice, after the condition and the first.
     Second(Head, Typed, Typed),
-    /// A callee; the arguments come behind it.
+    /// A callee; the arguments come after it.
     Callee(Head, &'a [Expr]),
-    /// An argument, behind those before it; others come behind it, for the parameters that are left.
+    /// An argument, after those before it; others come after it, for the parameters that are left.
     Argument(Call, Arguments, Parameters<'a>, &'a [Expr]),
     /// The index of an array's element.
     Index(Head, Array),

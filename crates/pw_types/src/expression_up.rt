@@ -1,8 +1,8 @@
-//! What comes behind a part of an expression that was judged.
+//! What comes after a part of an expression that was judged.
 ghost use Rattle.std.specs.Prelude.{◌<◌, IfOk};
 ghost use Rattle.pw_types.specs.Steps.ResumingExpressions.{valued, resumed, ContinuesInEach, step_size, frame_size};
 
-use crate::expression_call::{behind_argument, call_through};
+use crate::expression_call::{after_argument, call_through};
 use crate::expression_form::{binary, choice, element, output, unary};
 use crate::expression_step::{ExpressionFrame, ExpressionStep};
 use crate::fault::Refusal;
@@ -10,7 +10,7 @@ use crate::role::Role;
 use crate::typed::Typed;
 use std::alloc::Global;
 
-/// The step behind the part that the frame waits for.
+/// The step after the part that the frame waits for.
 pub(crate) fn up<'a>(
     alloc: Global,
     frame: ExpressionFrame<'a>,
@@ -40,7 +40,7 @@ pub(crate) fn up<'a>(
         )?)),
         ExpressionFrame::Callee(head, es) => call_through(alloc, head, typed, es),
         ExpressionFrame::Argument(call, taken, params, rest) => {
-            behind_argument(alloc, call, taken, params, rest, typed)
+            after_argument(alloc, call, taken, params, rest, typed)
         }
         ExpressionFrame::Index(head, array) => Ok(ExpressionStep::Done(element(
             alloc, head, array, typed,

@@ -2,7 +2,7 @@
 ghost use Rattle.std.specs.Prelude.{◌≡◌, option_copied};
 ghost use Rattle.pw_tree.specs.Expressions.{expression_of};
 ghost use Rattle.pw_types.specs.Typed as typed;
-ghost use Rattle.pw_types.specs.Uses.{uses, uses_of_name};
+ghost use Rattle.pw_types.specs.Steps.Uses.{uses, uses_of_name};
 ghost use Rattle.pw_types.specs.Steps.Words.{word_in, IsFunction, IsArray};
 
 use crate::meaning::Meaning;
@@ -11,7 +11,7 @@ use crate::scope::Scope;
 use pw_base::Name;
 use pw_tree::{Expr, ExprKind, Sig, Ty};
 
-/// A function that a name designates: its number at file level, its declaration and its signature.
+/// A function that a name designates: its number at file scope, its declaration and its signature.
 #[derive(Clone, Copy)]
 pub(crate) struct NamedFunction<'a> {
     pub number: usize,
@@ -19,7 +19,7 @@ pub(crate) struct NamedFunction<'a> {
     pub sig: &'a Sig,
 }
 
-/// An array that a name designates: its number at file level, its declaration, its elements' type and its size.
+/// An array that a name designates: its number at file scope, its declaration, its elements' type and its size.
 #[derive(Clone, Copy)]
 pub(crate) struct NamedArray<'a> {
     pub number: usize,

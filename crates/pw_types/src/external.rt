@@ -2,6 +2,7 @@
 ghost use Rattle.std.specs.Prelude.{◌≡◌, length, IfOk};
 ghost use Rattle.pw_types.specs.Steps.Texts.{HasText, HaveTexts, AreFlags};
 ghost use Rattle.pw_types.specs.Units as spec;
+ghost use Rattle.pw_types.specs.Steps.Uses.{names_by_number};
 
 use crate::names::File;
 use crate::type_texts::type_text;
@@ -36,14 +37,14 @@ fn external(alloc: Global, f: &File) -> Result<Ext, NoMemory>
 }
 
 /// The names that are external, and defined or used.
-#[tactic(auto, unfolding(crate::specs::Units::external_names, crate::specs::Steps::Texts::HaveTexts))]
+#[tactic(auto, unfolding(crate::specs::Steps::Uses::names_by_number, crate::specs::Steps::Texts::HaveTexts))]
 pub(crate) fn external_names(
     alloc: Global,
     used: &[usize],
     files: &[File],
 ) -> Result<Items<Ext>, NoMemory>
     requires { HaveTexts files.now }
-    ensures { IfOk result (λ names. names ≡ spec.external_names used.now 0 files.now) }
+    ensures { IfOk result (λ names. names ≡ names_by_number used.now 0 files.now) }
 {
     let flags = flags_of(alloc, used, files.len())?;
     let mut names = Items::new(alloc);

@@ -9,7 +9,7 @@ use std::alloc::AllocError;
 pub struct Fault {
     pub rule: Rule,
     /// The last token of the phrase that breaks it, counted from 0. A place that is computed from another may be further
-    /// than a `u32` tells, until the whole unit is known to be well placed.
+    /// than a `u32` holds, until the whole unit is known to be well placed.
     pub at: u64,
     /// The name that it is about, where it has one.
     pub name: Option<Name>,

@@ -1,4 +1,4 @@
-//! The names at file level.
+//! The names at file scope.
 ghost use Rattle.std.specs.Prelude.{◌≡◌, [], OnOk};
 ghost use Rattle.pw_types.specs.Scopes.{with_file};
 ghost use Rattle.pw_types.specs.Steps.Lookups.{Finds};
@@ -9,7 +9,7 @@ use pw_base::NoMemory;
 use std::alloc::Global;
 use std::marker::Model;
 
-/// The names at file level, in order of first declaration. Contracts see them as the list of these.
+/// The names at file scope, in order of first declaration. Contracts see them as the list of these.
 ///
 /// A name is looked up by the hash of its bytes, which are the keys.
 #[derive(Drop)]

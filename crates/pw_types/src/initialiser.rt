@@ -12,6 +12,7 @@ ghost use Rattle.pw_types.specs.Declarations as spec;
 ghost use Rattle.pw_types.specs.Units.{designated_or};
 ghost use Rattle.pw_types.specs.Steps.CheckingDeclarations.{faults_of_value, IsElement, AreElements};
 ghost use Rattle.pw_types.specs.Steps.Refusals.{Judges};
+ghost use Rattle.pw_types.specs.Steps.UnitFaults.{faults_of_elements};
 
 use crate::fault::Refusal;
 use crate::meaning::Meaning;
@@ -60,7 +61,7 @@ fn judge_function(
     Ok(Init::Fun(scope.function_reference(alloc, file)?))
 }
 
-/// The value of an element that is a name at file level, or its fault.
+/// The value of an element that is a name at file scope, or its fault.
 fn judge_file(
     alloc: Global,
     scope: &Scope<'_>,
@@ -120,7 +121,7 @@ fn judge_element(
 }
 
 /// The values of a variable's elements, for which it has this much room, or their first fault.
-#[tactic(auto, unfolding(crate::specs::Declarations::faults_of_elements, crate::specs::Declarations::uses_of_elements))]
+#[tactic(auto, unfolding(crate::specs::Steps::UnitFaults::faults_of_elements, crate::specs::Steps::Uses::uses_of_elements))]
 pub(crate) fn judge_elements(
     alloc: Global,
     scope: &Scope<'_>,
@@ -129,7 +130,7 @@ pub(crate) fn judge_elements(
     room: u64,
     items: &[InitItem],
 ) -> Result<Items<Init>, Refusal>
-    ensures { Judges (spec.faults_of_elements scope.now ty room 0 items.now) (AreElements scope.now items.now used.old.items used.new.items) result }
+    ensures { Judges (faults_of_elements scope.now ty room 0 items.now) (AreElements scope.now items.now used.old.items used.new.items) result }
 {
     let mut values = Items::new(alloc);
     let mut rest = items;

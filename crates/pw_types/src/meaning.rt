@@ -9,6 +9,6 @@ pub enum Meaning<'a> {
     Missing,
     /// A local.
     Local(&'a Local),
-    /// A name at file level, and its number in the order of first declaration.
+    /// A name at file scope, and its number in the order of first declaration.
     File(usize, &'a File),
 }

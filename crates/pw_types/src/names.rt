@@ -1,9 +1,9 @@
-//! What names designate: at file level, and in a function.
+//! What names designate: at file scope, and in a function.
 
 use pw_base::Name;
 use pw_tree::{Sig, Ty};
 
-/// What a name at file level designates.
+/// What a name at file scope designates.
 #[derive(Drop)]
 pub enum Kind {
     Function(Sig),
@@ -11,7 +11,7 @@ pub enum Kind {
     Variable(Ty, Option<u32>),
 }
 
-/// A name at file level, by its first declaration.
+/// A name at file scope, by its first declaration.
 #[derive(Drop)]
 pub struct File {
     pub name: Name,

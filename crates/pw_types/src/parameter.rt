@@ -5,6 +5,7 @@ ghost use Rattle.pw_tree.specs.Placed.{HaveNames};
 ghost use Rattle.pw_types.specs.Declarations as spec;
 ghost use Rattle.pw_types.specs.Steps.CheckingDeclarations.{faults_of_parameter};
 ghost use Rattle.pw_types.specs.Steps.Refusals.{Judges};
+ghost use Rattle.pw_types.specs.Steps.UnitFaults.{faults_of_parameters};
 
 use crate::fault::Refusal;
 use crate::names::Local;
@@ -16,7 +17,7 @@ use pw_base::{Limits, Name, NoMemory};
 use pw_tree::Param;
 use std::alloc::Global;
 
-/// The faults of a parameter's name in a definition, behind those before it.
+/// The faults of a parameter's name in a definition, after those before it.
 fn judge_defined_name(alloc: Global, before: &[Local], at: u32, name: &Name) -> Result<(), Refusal>
     ensures { Judges (spec.faults_of_parameter_name true (length before.now) before.now at (Some name.now)) (λ _. ⊤) result }
 {
@@ -39,7 +40,7 @@ fn judge_declared_name(alloc: Global, at: u32, name: &Option<Name>) -> Result<()
 /// The first fault of a prototype's parameters.
 #[tactic(auto, using(crate::proofs::Parameters::by_number), unfolding(crate::specs::Steps::CheckingDeclarations::faults_by_number))]
 pub(crate) fn judge_declared(alloc: Global, params: &[Param]) -> Result<(), Refusal>
-    ensures { Judges (spec.faults_of_parameters false [] params.now) (λ _. ⊤) result }
+    ensures { Judges (faults_of_parameters false [] params.now) (λ _. ⊤) result }
 {
     let mut number = 0;
     let mut rest = params;
@@ -71,7 +72,7 @@ fn local(alloc: Global, number: u32, p: &Param) -> Result<Local, NoMemory>
     }
 }
 
-/// The faults of a parameter of a definition, behind those before it, and the local that it is.
+/// The faults of a parameter of a definition, after those before it, and the local that it is.
 fn judge_parameter(alloc: Global, before: &[Local], p: &Param) -> Result<Local, Refusal>
     requires { is_some p.now.name ≡ true }
     ensures { Judges (faults_of_parameter before.now p.now) (λ local. (local ≡ spec.local_of (length before.now) p.now) × (length before.now < limits.parameters)) result }
@@ -89,10 +90,10 @@ fn judge_parameter(alloc: Global, before: &[Local], p: &Param) -> Result<Local, 
 }
 
 /// The locals that the parameters of a definition are, or their first fault.
-#[tactic(auto, unfolding(crate::specs::Declarations::faults_of_parameters, crate::specs::Declarations::locals_of, pw_tree::specs::Placed::HaveNames))]
+#[tactic(auto, unfolding(crate::specs::Steps::UnitFaults::faults_of_parameters, crate::specs::Declarations::locals_of, pw_tree::specs::Placed::HaveNames))]
 pub(crate) fn judge_defined(alloc: Global, params: &[Param]) -> Result<Vec<Local>, Refusal>
     requires { HaveNames params.now }
-    ensures { Judges (spec.faults_of_parameters true [] params.now) (λ locals. locals.items ≡ spec.locals_of [] params.now) result }
+    ensures { Judges (faults_of_parameters true [] params.now) (λ locals. locals.items ≡ spec.locals_of [] params.now) result }
 {
     let mut locals = Vec::new(alloc);
     let mut rest = params;

@@ -3,8 +3,8 @@ ghost use Rattle.std.specs.Prelude.{◌≡◌, ◌≤◌, OnOk};
 ghost use Rattle.pw_base.specs.Limits as limits;
 ghost use Rattle.pw_tree.specs.Declarations.{declaration_form_of, declaration_of};
 ghost use Rattle.pw_tree.specs.Placed.{HasTypes};
-ghost use Rattle.pw_types.specs.Declarations.{faults_of_declaration};
-ghost use Rattle.pw_types.specs.Steps.CheckingUnits.{faults_of_parts, IsFresh, IsJudged, IsBehind};
+ghost use Rattle.pw_types.specs.Steps.UnitFaults.{faults_of_declaration};
+ghost use Rattle.pw_types.specs.Steps.CheckingUnits.{faults_of_parts, IsFresh, IsJudged, IsAfter};
 ghost use Rattle.pw_types.specs.Steps.Refusals.{Judges};
 
 use crate::declarator::judge_head;
@@ -16,7 +16,7 @@ use pw_tree::{Decl, TFun, TVar};
 use sqlite_items::Items;
 use std::alloc::Global;
 
-/// What the declarations so far gave: the names at file level, how many elements their variables have, the numbers of the
+/// What the declarations so far gave: the names at file scope, how many elements their variables have, the numbers of the
 /// names that they use, and what they define.
 #[derive(Drop)]
 pub(crate) struct Progress {
@@ -54,11 +54,11 @@ impl Progress {
     }
 
     /// The next declaration.
-    #[tactic(auto, unfolding(crate::specs::Declarations::faults_of_declaration))]
+    #[tactic(auto, unfolding(crate::specs::Steps::UnitFaults::faults_of_declaration))]
     pub fn declare(&mut self, alloc: Global, whole: &Whole<'_>, d: &Decl) -> Result<(), Refusal>
         requires types { HasTypes (declaration_form_of d.now.kind) }
         requires room { self.old.elements ≤ limits.module_elements }
-        ensures { Judges (faults_of_declaration whole.now self.old.files self.old.elements (declaration_of d.now)) (λ _. IsBehind whole.now self.old (declaration_of d.now) self.new) result }
+        ensures { Judges (faults_of_declaration whole.now self.old.files self.old.elements (declaration_of d.now)) (λ _. IsAfter whole.now self.old (declaration_of d.now) self.new) result }
     {
         match self.judge(alloc, whole, d)? {
             Defined::Nothing => {}

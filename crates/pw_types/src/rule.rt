@@ -9,7 +9,7 @@ use std::fmt::{self, Display, Formatter, Write};
 pub enum Rule {
     /// A name has no visible declaration, or a static prototype no definition in the unit.
     Unknown,
-    /// A second definition at file level, or a second local in one block.
+    /// A second definition at file scope, or a second local in one block.
     Redeclared,
     /// A declaration has another type or linkage than an earlier one of its name.
     Conflict,

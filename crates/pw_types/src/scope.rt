@@ -13,7 +13,7 @@ use pw_tree::Ref;
 use std::alloc::Global;
 use std::marker::Model;
 
-/// What is visible: the names at file level so far, the names of the functions and of the variables that the whole unit
+/// What is visible: the names at file scope so far, the names of the functions and of the variables that the whole unit
 /// defines, and the locals, the newest last.
 #[derive(Drop)]
 pub struct Scope<'a> {
@@ -60,7 +60,7 @@ pub fn has_local(locals: &[Local], name: &[u8]) -> bool
 }
 
 impl<'a> Scope<'a> {
-    /// What a name means: the newest local of the name, which hides the others and a name at file level.
+    /// What a name means: the newest local of the name, which hides the others and a name at file scope.
     pub fn meaning(&self, name: &[u8]) -> Meaning<'_>
         ensures { Means self.now name.now result }
     {

@@ -31,9 +31,9 @@ impl<'a> Walk<'a> {
                     push(&mut frames, frame)?;
                     step = self.enter(&setting, part)?;
                 }
-                StatementStep::Done(command) => match frames.pop() {
-                    Some(frame) => step = self.resume(frame, command)?,
-                    None => return Ok(command),
+                StatementStep::Done(typed) => match frames.pop() {
+                    Some(frame) => step = self.resume(frame, typed)?,
+                    None => return Ok(typed),
                 },
             }
         }
@@ -50,8 +50,8 @@ impl<'a> Walk<'a> {
         let mut done = Items::new(self.alloc);
         let mut rest = body;
         'row: while let [stmt, more @ ..] = rest {
-            let command = self.statement(setting, stmt)?;
-            push(&mut done, command.into_inner())?;
+            let typed = self.statement(setting, stmt)?;
+            push(&mut done, typed.into_inner())?;
             rest = more;
         }
         Ok(done)
@@ -59,8 +59,8 @@ impl<'a> Walk<'a> {
 }
 
 /// The typed statements of a function's body, or its first fault. `scope` has the parameters as its locals, of which there
-/// are `count`, and `ty` is the type of the function's result. The numbers of the names that are used are noted behind those
-/// of `used`. Nothing is said of `scope` behind it.
+/// are `count`, and `ty` is the type of the function's result. The numbers of the names that are used are noted after those
+/// of `used`. Nothing is said of `scope` after it.
 pub fn judge_body(
     alloc: Global,
     scope: &mut Scope<'_>,

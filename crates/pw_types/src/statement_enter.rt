@@ -3,7 +3,7 @@ ghost use Rattle.std.specs.Prelude.{◌≡◌, ◌+◌, ◌<◌, IfOk, Some, Non
 ghost use Rattle.pw_tree.specs.Expressions.{Span, expression_of};
 ghost use Rattle.pw_tree.specs.Statements as statement;
 ghost use Rattle.pw_tree.specs.Statements.{statement_of, statements_of, optional_statement};
-ghost use Rattle.pw_types.specs.Steps.CheckingStatements.{Leads, Steps, IsWhole, outcome_at, behind_first_at, typed_maybe};
+ghost use Rattle.pw_types.specs.Steps.CheckingStatements.{Leads, Steps, IsWhole, outcome_at, after_first_at, typed_maybe};
 ghost use Rattle.pw_types.specs.Steps.StatementWeights.{weight, weight_of_all, weight_of_maybe, weight_of_step};
 
 use crate::fault::Refusal;
@@ -25,7 +25,7 @@ pub(crate) fn done<'s>(
     ensures { IsWhole judged result }
 {
     match judged {
-        Ok(command) => Ok(StatementStep::Done(Boxed::new(alloc, command)?)),
+        Ok(typed) => Ok(StatementStep::Done(Boxed::new(alloc, typed)?)),
         Err(refusal) => Err(refusal),
     }
 }
@@ -95,8 +95,8 @@ impl<'a> Walk<'a> {
         StatementStep::Part(StatementFrame { outer, form }, setting.body(), body)
     }
 
-    /// `for (first; c; last) body`, from behind its first part.
-    pub fn behind_first<'s>(
+    /// `for (first; c; last) body`, from after its first part.
+    pub fn after_first<'s>(
         &mut self,
         outer: &Outer<'s>,
         first: Option<Boxed<TStmt>>,
@@ -104,7 +104,7 @@ impl<'a> Walk<'a> {
         last: &'s Option<Boxed<Stmt>>,
         body: &'s Stmt,
     ) -> Result<StatementStep<'s>, Refusal>
-        ensures judged { Steps (behind_first_at outer.now (typed_maybe first) (option_map expression_of c.now) (optional_statement (option_map statement_of last.now)) (statement_of body.now) self.old) self.new result }
+        ensures judged { Steps (after_first_at outer.now (typed_maybe first) (option_map expression_of c.now) (optional_statement (option_map statement_of last.now)) (statement_of body.now) self.old) self.new result }
         ensures less { IfOk result (λ step. weight_of_step step < weight_of_maybe (optional_statement (option_map statement_of last.now)) + (weight (statement_of body.now) + 3)) }
     {
         let c = self.maybe_value(Role::Value, c)?;
@@ -144,7 +144,7 @@ impl<'a> Walk<'a> {
                 let form = StatementForm::First(c, last, body);
                 Ok(StatementStep::Part(StatementFrame { outer, form }, setting.head(), first.get()))
             }
-            None => self.behind_first(&outer, None, c, last, body),
+            None => self.after_first(&outer, None, c, last, body),
         }
     }
 

@@ -77,7 +77,7 @@ impl<'a> Walk<'a> {
     }
 
     /// `ty name = value ;`, or `ty name ;`
-    #[tactic(auto, unfolding(crate::specs::Statements::faults_by))]
+    #[tactic(auto, unfolding(crate::specs::Steps::StatementFaults::faults_by))]
     pub fn local(
         &mut self,
         setting: &Setting<'_>,

@@ -28,11 +28,11 @@ use sqlite_items::Boxed;
 pub(crate) enum AssignTarget {
     /// The local of this number.
     Local(u32, Ty),
-    /// A variable: its number among the names at file level, and how the unit names it.
+    /// A variable: its number among the names at file scope, and how the unit names it.
     Variable(usize, Ref, Ty),
 }
 
-/// An array: its number among the names at file level, how the unit names it, its elements' type and its size.
+/// An array: its number among the names at file scope, how the unit names it, its elements' type and its size.
 #[derive(Drop)]
 pub(crate) struct Array {
     pub number: usize,
@@ -52,7 +52,7 @@ fn set_end(in_head: bool, at: StatementSpan) -> u64
     }
 }
 
-/// The `]` behind the index of an assignment: as many brackets stand round the index behind it as before it.
+/// The `]` after the index of an assignment: as many brackets stand round the index after it as before it.
 #[tactic(auto, using(crate::proofs::PhrasePlaces::place_is))]
 fn index_end(at: StatementSpan, i: &Expr) -> u64
     ensures { result ≡ placed.index_end (place_of at) (expression_of i.now) }
@@ -61,7 +61,7 @@ fn index_end(at: StatementSpan, i: &Expr) -> u64
     u64::from(i.last) + before + 1
 }
 
-/// The line of the `[` behind a name.
+/// The line of the `[` after a name.
 fn bracket_line(lines: &[u32], first: u32) -> u32
     ensures { result ≡ slice_index_or lines.now (suc first) 0 }
 {
@@ -140,7 +140,7 @@ impl<'a> Walk<'a> {
     }
 
     /// `name = value`. Refusals: `Unknown`, `NeedsIndex`, `AssignType`; those of the value; `TooDeep`, at the end.
-    #[tactic(auto, unfolding(crate::specs::Statements::faults_by))]
+    #[tactic(auto, unfolding(crate::specs::Steps::StatementFaults::faults_by))]
     fn set(
         &mut self,
         setting: &Setting<'_>,
@@ -166,7 +166,7 @@ impl<'a> Walk<'a> {
 
     /// `name[index] = value`. Refusals: `Unknown`, `NotArray`; those of the index; `Operands`; those of the value;
     /// `TooDeep`, at the end.
-    #[tactic(auto, unfolding(crate::specs::Statements::faults_by))]
+    #[tactic(auto, unfolding(crate::specs::Steps::StatementFaults::faults_by))]
     fn set_element(
         &mut self,
         setting: &Setting<'_>,

@@ -18,7 +18,7 @@ use pw_tree::{Expr, TStmt};
 use sqlite_items::Items;
 
 /// `;`
-#[tactic(auto, using(crate::proofs::SimpleStatements::empty_is), unfolding(crate::specs::Statements::faults_by))]
+#[tactic(auto, using(crate::proofs::SimpleStatements::empty_is), unfolding(crate::specs::Steps::StatementFaults::faults_by))]
 pub(crate) fn empty(walk: &Walk<'_>, setting: &Setting<'_>, at: StatementSpan) -> TStmt
     ensures { outcome_at setting.now walk.now (statement.empty (place_of at)) ≡ judged_at (typed_statement_of result) walk.now }
 {
@@ -26,7 +26,7 @@ pub(crate) fn empty(walk: &Walk<'_>, setting: &Setting<'_>, at: StatementSpan) -
 }
 
 /// `break ;`. Refusal: `OutsideLoop`.
-#[tactic(auto, using(crate::proofs::SimpleStatements::breaks_is), unfolding(crate::specs::Statements::faults_by))]
+#[tactic(auto, using(crate::proofs::SimpleStatements::breaks_is), unfolding(crate::specs::Steps::StatementFaults::faults_by))]
 pub(crate) fn break_off(
     walk: &Walk<'_>,
     setting: &Setting<'_>,
@@ -41,7 +41,7 @@ pub(crate) fn break_off(
 }
 
 /// `continue ;`. Refusal: `OutsideLoop`.
-#[tactic(auto, using(crate::proofs::SimpleStatements::continues_is), unfolding(crate::specs::Statements::faults_by))]
+#[tactic(auto, using(crate::proofs::SimpleStatements::continues_is), unfolding(crate::specs::Steps::StatementFaults::faults_by))]
 pub(crate) fn go_on(
     walk: &Walk<'_>,
     setting: &Setting<'_>,
@@ -57,7 +57,7 @@ pub(crate) fn go_on(
 
 impl<'a> Walk<'a> {
     /// `e ;`
-    #[tactic(auto, unfolding(crate::specs::Statements::faults_by))]
+    #[tactic(auto, unfolding(crate::specs::Steps::StatementFaults::faults_by))]
     pub fn evaluate(
         &mut self,
         setting: &Setting<'_>,
@@ -71,7 +71,7 @@ impl<'a> Walk<'a> {
     }
 
     /// `return ;`. Refusal: `ReturnType`.
-    #[tactic(auto, using(crate::proofs::SimpleStatements::returns_none), unfolding(crate::specs::Statements::faults_by))]
+    #[tactic(auto, using(crate::proofs::SimpleStatements::returns_none), unfolding(crate::specs::Steps::StatementFaults::faults_by))]
     fn return_none(&self, setting: &Setting<'_>, at: StatementSpan) -> Result<TStmt, Refusal>
         ensures { Finishes (outcome_at setting.now self.now (statement.returns (place_of at) None)) self.now result }
     {
@@ -82,7 +82,7 @@ impl<'a> Walk<'a> {
     }
 
     /// `return e ;`. Refusal: `ReturnType`.
-    #[tactic(auto, unfolding(crate::specs::Statements::faults_by))]
+    #[tactic(auto, unfolding(crate::specs::Steps::StatementFaults::faults_by))]
     fn return_value(
         &mut self,
         setting: &Setting<'_>,

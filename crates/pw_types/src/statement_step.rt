@@ -5,7 +5,7 @@ use pw_base::NoMemory;
 use pw_tree::{Expr, Stmt, TExpr, TStmt, Ty};
 use sqlite_items::{Boxed, Items};
 
-/// An item behind others.
+/// An item after others.
 pub(crate) fn push<T: Drop>(items: &mut Items<T>, item: T) -> Result<(), NoMemory>
     ensures { IfOk result (λ _. items.new ≡ items.old ++ item ∷ []) }
 {
@@ -47,24 +47,24 @@ pub(crate) struct StatementFrame<'a> {
     pub form: StatementForm<'a>,
 }
 
-/// What was judged of a statement before the part that it waits for, and what comes behind the part.
+/// What was judged of a statement before the part that it waits for, and what comes after the part.
 #[derive(Drop)]
 pub(crate) enum StatementForm<'a> {
-    /// A statement of a block: those before it, and those behind it.
+    /// A statement of a block: those before it, and those after it.
     Block(Items<TStmt>, &'a [Stmt]),
-    /// The first part of an `if`, behind the condition; the second may come behind it.
+    /// The first part of an `if`, after the condition; the second may come after it.
     Then(Boxed<TExpr>, &'a Option<Boxed<Stmt>>),
-    /// The second part of an `if`, behind the condition and the first.
+    /// The second part of an `if`, after the condition and the first.
     Else(Boxed<TExpr>, Boxed<TStmt>),
-    /// The body of a `while`, behind the condition.
+    /// The body of a `while`, after the condition.
     While(Boxed<TExpr>),
-    /// The body of a `do`; the condition comes behind it.
+    /// The body of a `do`; the condition comes after it.
     Do(&'a Expr),
-    /// The first part of a `for`; the condition, the last part and the body come behind it.
+    /// The first part of a `for`; the condition, the last part and the body come after it.
     First(&'a Option<Expr>, &'a Option<Boxed<Stmt>>, &'a Stmt),
-    /// The last part of a `for`, behind the first part and the condition; the body comes behind it.
+    /// The last part of a `for`, after the first part and the condition; the body comes after it.
     Last(Option<Boxed<TStmt>>, Option<Boxed<TExpr>>, &'a Stmt),
-    /// The body of a `for`, behind the first part, the condition and the last part.
+    /// The body of a `for`, after the first part, the condition and the last part.
     For(Option<Boxed<TStmt>>, Option<Boxed<TExpr>>, Option<Boxed<TStmt>>),
 }
 

@@ -71,7 +71,7 @@ impl<'a> Walk<'a> {
         }
     }
 
-    /// Notes that a name at file level is used.
+    /// Notes that a name at file scope is used.
     pub fn note(&mut self, number: usize) -> Result<(), NoMemory>
         ensures { OnOk result (Notes (number ∷ []) 0 self.old self.new) }
     {

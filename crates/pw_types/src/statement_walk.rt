@@ -7,7 +7,7 @@ use crate::scope::Scope;
 use crate::statement_step::{Outer, Setting};
 use std::alloc::Global;
 
-/// The state behind the statements that are judged so far.
+/// The state after the statements that are judged so far.
 #[derive(Drop)]
 pub(crate) struct Walk<'a> {
     pub alloc: Global,
@@ -17,7 +17,7 @@ pub(crate) struct Walk<'a> {
     pub start: usize,
     /// How many parameters and locals the function has.
     pub count: u32,
-    /// The numbers of the names at file level that were used.
+    /// The numbers of the names at file scope that were used.
     pub used: Vec<usize>,
     /// The greatest number of values that one expression held at a time.
     pub held: u32,

@@ -1,6 +1,6 @@
 //! The texts of types.
 ghost use Rattle.std.specs.Prelude.{◌≡◌, decimal, IfOk};
-ghost use Rattle.pw_tree.specs.Types.{IsType};
+ghost use Rattle.pw_tree.specs.Types.{IsResultType};
 ghost use Rattle.pw_tree.specs.TypeTexts as texts;
 ghost use Rattle.pw_types.specs.declared.names.Kind.TheVariants as kinds;
 ghost use Rattle.pw_types.specs.Steps.Texts.{HasText};
@@ -14,7 +14,7 @@ use std::alloc::Global;
 
 /// The letter of a type.
 fn letter_of(ty: Ty) -> u8
-    requires { IsType ty }
+    requires { IsResultType ty }
     ensures { result ≡ texts.letter_of ty }
 {
     match ty {
@@ -77,7 +77,7 @@ fn text_of(alloc: Global, kind: &Kind) -> Result<Items<u8>, NoMemory>
     }
 }
 
-/// The text of the type of a name at file level.
+/// The text of the type of a name at file scope.
 #[tactic(auto, using(crate::proofs::TypeTexts::typed_text))]
 pub(crate) fn type_text(alloc: Global, kind: &Kind) -> Result<TypeText, NoMemory>
     requires { HasText kind.now }

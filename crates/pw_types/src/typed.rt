@@ -17,6 +17,6 @@ pub struct Body {
     pub statements: Items<TStmt>,
     /// The greatest number of values that one of its expressions holds at a time, no more than the limit.
     pub held: u32,
-    /// How many parameters and locals the function has behind them.
+    /// How many parameters and locals the function has after them.
     pub count: u32,
 }

@@ -4,8 +4,9 @@ ghost use Rattle.pw_tree.specs.Declarations.{declaration_of, untyped_unit_of};
 ghost use Rattle.pw_tree.specs.Placed.{HaveTypes, IsParsed};
 ghost use Rattle.pw_tree.specs.Units.{unit_of};
 ghost use Rattle.pw_types.specs.Units as spec;
-ghost use Rattle.pw_types.specs.Steps.CheckingUnits.{IsAll, IsDeclared, faults_at_end, names_in};
+ghost use Rattle.pw_types.specs.Steps.CheckingUnits.{IsAll, IsDeclared, faults_at_end, names_in, unit_by_number};
 ghost use Rattle.pw_types.specs.Steps.Refusals.{Judges};
+ghost use Rattle.pw_types.specs.Steps.UnitFaults.{faults_of_declarations, faults_in_order};
 
 use crate::declared::is_extern;
 use crate::declared_names::Names;
@@ -60,10 +61,10 @@ fn variables_of(alloc: Global, decls: &[Decl]) -> Result<Names, NoMemory>
 }
 
 /// What the declarations of a unit give, or their first fault.
-#[tactic(auto, unfolding(crate::specs::Units::faults_of_declarations, crate::specs::Units::files_behind, crate::specs::Units::typed_functions, crate::specs::Units::typed_variables, crate::specs::Units::uses_of_declarations, pw_tree::specs::Placed::HaveTypes))]
+#[tactic(auto, unfolding(crate::specs::Steps::UnitFaults::faults_of_declarations, crate::specs::Units::files_after, crate::specs::Units::typed_functions, crate::specs::Units::typed_variables, crate::specs::Steps::Uses::uses_of_declarations, pw_tree::specs::Placed::HaveTypes))]
 fn judge_declarations(alloc: Global, whole: &Whole<'_>, decls: &[Decl]) -> Result<Progress, Refusal>
     requires { HaveTypes (map declaration_of decls.now) }
-    ensures { Judges (spec.faults_of_declarations whole.now [] 0 (map declaration_of decls.now)) (IsAll whole.now (map declaration_of decls.now)) result }
+    ensures { Judges (faults_of_declarations whole.now [] 0 (map declaration_of decls.now)) (IsAll whole.now (map declaration_of decls.now)) result }
 {
     let mut progress = Progress::new(alloc);
     let mut rest = decls;
@@ -102,7 +103,7 @@ fn judge_end(alloc: Global, files: &[File], last: u32) -> Result<(), Refusal>
 }
 
 /// The external names of a unit whose declarations gave this, or the fault at its last token.
-#[tactic(auto, using(crate::proofs::UnitTexts::texts_behind), unfolding(crate::specs::Steps::Texts::HaveTexts))]
+#[tactic(auto, using(crate::proofs::UnitTexts::texts_after), unfolding(crate::specs::Steps::Texts::HaveTexts))]
 fn judge_names(alloc: Global, unit: &Unit, progress: &Progress) -> Result<Items<Ext>, Refusal>
     requires parsed { IsParsed (untyped_unit_of unit.now) }
     requires declared { IsDeclared (untyped_unit_of unit.now) progress.now }
@@ -117,7 +118,7 @@ fn judge_names(alloc: Global, unit: &Unit, progress: &Progress) -> Result<Items<
 fn judge_rest(alloc: Global, unit: &Unit, progress: Progress) -> Result<TUnit, Refusal>
     requires parsed { IsParsed (untyped_unit_of unit.now) }
     requires declared { IsDeclared (untyped_unit_of unit.now) progress }
-    ensures { Judges (spec.faults_of (untyped_unit_of unit.now)) (λ typed. unit_of typed ≡ spec.typed_unit (untyped_unit_of unit.now)) result }
+    ensures { Judges (faults_in_order (untyped_unit_of unit.now)) (λ typed. unit_of typed ≡ unit_by_number (untyped_unit_of unit.now)) result }
 {
     let names = judge_names(alloc, unit, &progress)?;
     Ok(TUnit {
@@ -130,7 +131,7 @@ fn judge_rest(alloc: Global, unit: &Unit, progress: Progress) -> Result<TUnit, R
 /// The typed unit, or the first fault.
 pub(crate) fn judge_unit(alloc: Global, unit: &Unit) -> Result<TUnit, Refusal>
     requires { IsParsed (untyped_unit_of unit.now) }
-    ensures { Judges (spec.faults_of (untyped_unit_of unit.now)) (λ typed. unit_of typed ≡ spec.typed_unit (untyped_unit_of unit.now)) result }
+    ensures { Judges (faults_in_order (untyped_unit_of unit.now)) (λ typed. unit_of typed ≡ unit_by_number (untyped_unit_of unit.now)) result }
 {
     let decls = unit.decls.as_slice();
     let functions = functions_of(alloc, decls)?;

@@ -7,7 +7,7 @@ use Rattle.std.specs.Int.{byte_at, bytes_low_first}
 use Rattle.byteorder.specs.Endian.{little_from}
 use Rattle.byteorder.specs.Numbers.{little_from-cons}
 use Rattle.pw_base.specs.Bytes.{le, le_bytes}
-use Rattle.pw_base.specs.Field.{field, front, field_at}
+use Rattle.pw_base.specs.Field.{field, first_field, field_at}
 
 little_is_le : (n : ℕ) (bytes : List ℕ) → n ≤ length bytes → little_from 0 n bytes ≡ le (take n bytes)
 little_is_le zero bytes long = refl
@@ -31,12 +31,12 @@ bytes_are_field n value = low_first_is_le_bytes 0 n value ∙ ap (le_bytes n) (d
 
 -- what is read, where the bytes are all there
 pub number_is_field : (n off : ℕ) (bytes rest : List ℕ) → rest ≡ drop off bytes → off + n ≤ length bytes → Some (little_from 0 n rest) ≡ field_at n bytes off
-unfolding front
+unfolding first_field
 number_is_field n off bytes rest is long =
     let enough = le-leb (0 + n) (length (drop off bytes)) (omega (arith, length-drop off bytes)) in
     rw (is, enough, little_is_le n (drop off bytes) (omega (arith, length-drop off bytes))) refl
 
 -- and that none is read where they pass the end
 pub no_field : (n off : ℕ) (bytes : List ℕ) → 1 ≤ n → length bytes < off + n → None ≡ field_at n bytes off
-unfolding front
+unfolding first_field
 no_field n off bytes some short = let few = lt-leb (0 + n) (length (drop off bytes)) (omega (arith, length-drop off bytes)) in rw few refl

@@ -7,6 +7,7 @@ use Rattle.pw_grammar.specs.Declarations.{negated}
 use Rattle.pw_grammar.specs.Reading.Steps.{Parser, ◌>>=◌, pure, refuse, sees, here, line_here, take, skip, expect, name, either}
 use Rattle.pw_grammar.specs.Reading.Expressions.{expression}
 use Rattle.pw_grammar.specs.Reading.Statements.{type_name, is_some, some, elements, statement}
+use Rattle.pw_tree.specs.Types.{is_void}
 use Rattle.pw_tree.specs.declared.ty.Ty.{Ty}
 use Rattle.pw_tree.specs.declared.ty.Ty.TheVariants as ty
 use Rattle.pw_tree.specs.declared.expr.Expr.{Expr}
@@ -194,12 +195,6 @@ variable n linkage ty = do
   pure (declarator, d.Var ty count xs)
 
 -- ---- declarations and units
-
-abbrev pub is_void : Ty → Bool
-is_void ty.Void = true
-is_void ty.Long = false
-is_void ty.Ulong = false
-is_void (ty.Fn n) = false
 
 -- what comes after the name
 unfoldable pub declarator : Parser Expr → Parser Stmt → ℕ → Linkage → Ty → Parser (ℕ × DeclKind)

@@ -4,7 +4,7 @@ use Rattle.std.specs.Prelude.{ℕ, zero, suc, ◌+◌, ◌-◌, if◌then◌else
 use Rattle.pw_grammar.specs.declared.sort.Sort.{Sort}
 use Rattle.pw_grammar.specs.declared.sort.Sort.TheVariants as s
 use Rattle.pw_grammar.specs.Terminals.{prefix_of, binary_of, level_of}
-use Rattle.pw_grammar.specs.Expressions.{name_in, value_in, is_unsigned}
+use Rattle.pw_grammar.specs.Expressions.{name_in, value_in, is_unsigned_constant}
 use Rattle.pw_grammar.specs.Reading.Steps.{Parser, either, on_option, ◌>>=◌, pure, refuse, next_sort, sees, here, take, skip, expect, finish}
 use Rattle.pw_tree.specs.declared.operator.Un.{Un}
 use Rattle.pw_tree.specs.declared.operator.Bin.{Bin}
@@ -23,7 +23,7 @@ unfoldable pub constant : Parser Expr
 constant = do
   at ← here
   t ← take
-  finish at t.line (e.Num (value_in t.kind) (is_unsigned t.kind))
+  finish at t.line (e.Num (value_in t.kind) (is_unsigned_constant t.kind))
 
 unfoldable pub bracketed : Parser Expr → Parser Expr
 bracketed expr = do
@@ -123,13 +123,13 @@ operators zero found = pure found
 operators (suc n) found = prefix_operator >>= (λ x. on_option x (pure found) (λ op. operators n (found ++ op ∷ [])))
 
 -- the operand after these operators, the first of which has the number `at`; `last` is the operand's last token
-unfoldable pub wrapped : ℕ → ℕ → List (Un × ℕ) → Expr → Expr
-wrapped at last [] a = a
-wrapped at last (op ∷ ops) a =
-    roll-Expr (record { first = at; last = last; line = op.1; kind = e.Unary op.0 (wrapped (suc at) last ops a) })
+unfoldable pub under_operators : ℕ → ℕ → List (Un × ℕ) → Expr → Expr
+under_operators at last [] a = a
+under_operators at last (op ∷ ops) a =
+    roll-Expr (record { first = at; last = last; line = op.1; kind = e.Unary op.0 (under_operators (suc at) last ops a) })
 
 unfoldable pub wrap : ℕ → List (Un × ℕ) → Expr → Parser Expr
-wrap at ops a = λ i. Ok (wrapped at (i.at - 1) ops a, i)
+wrap at ops a = λ i. Ok (under_operators at (i.at - 1) ops a, i)
 
 unfoldable pub prefix : Parser Expr → ℕ → Parser Expr
 prefix expr n = do

@@ -3,7 +3,7 @@ use Rattle.std.specs.Prelude.{ℕ, zero, suc, Bool, true, false, ◌||◌, if◌
 use Rattle.pw_grammar.specs.declared.sort.Sort.{Sort}
 use Rattle.pw_grammar.specs.declared.sort.Sort.TheVariants as s
 use Rattle.pw_grammar.specs.Terminals.{is_same}
-use Rattle.pw_grammar.specs.Statements.{type_of}
+use Rattle.pw_grammar.specs.Statements.{type_of_keyword}
 use Rattle.pw_grammar.specs.Reading.Steps.{Parser, ◌>>=◌, pure, refuse, next_sort, sees, here, line_here, skip, expect, name, either, finish_statement}
 use Rattle.pw_grammar.specs.Reading.Expressions.{expression}
 use Rattle.pw_tree.specs.declared.ty.Ty.{Ty}
@@ -30,14 +30,14 @@ unsigned_long = do
   pure Ulong
 
 unfoldable pub type_name : Parser Ty
-type_name = λ i. if sees s.Unsigned i then unsigned_long i else type_by (type_of (next_sort i)) i
+type_name = λ i. if sees s.Unsigned i then unsigned_long i else type_by (type_of_keyword (next_sort i)) i
 
 abbrev pub is_some : {A : Type 0} → Option A → Bool
 is_some None = false
 is_some (Some a) = true
 
 unfoldable pub begins_type : Sort → Bool
-begins_type x = is_same x s.Unsigned || is_some (type_of x)
+begins_type x = is_same x s.Unsigned || is_some (type_of_keyword x)
 
 -- ---- parts that may be left out
 

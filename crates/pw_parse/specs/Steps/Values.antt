@@ -1,13 +1,13 @@
 -- The value that a constant carries.
 use Rattle.std.specs.Prelude.{ℕ, Bool}
-use Rattle.pw_grammar.specs.Expressions.{value_in, is_unsigned}
+use Rattle.pw_grammar.specs.Expressions.{value_in, is_unsigned_constant}
 use Rattle.pw_grammar.specs.Reading.Steps.{Parser, take, ◌>>=◌, pure}
 
 -- takes a token, and answers the value of the constant that it is, and whether it is unsigned
 abbrev pub value : Parser (ℕ × Bool)
 value = do
   t ← take
-  pure (value_in t.kind, is_unsigned t.kind)
+  pure (value_in t.kind, is_unsigned_constant t.kind)
 
 -- takes a token, and answers the value of the constant that it is
 abbrev pub number : Parser ℕ

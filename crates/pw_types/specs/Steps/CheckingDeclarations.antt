@@ -10,7 +10,7 @@ use Rattle.pw_tree.specs.declared.decl.InitItem.{InitItem}
 use Rattle.pw_tree.specs.declared.decl.InitKind.{InitKind}
 use Rattle.pw_tree.specs.Declarations.{Declaration, DeclarationForm, prototype, definition, variable}
 use Rattle.pw_tree.specs.TypedStatements.{typed_statements_of}
-use Rattle.pw_tree.specs.Units.{Function, function_of}
+use Rattle.pw_tree.specs.Units.{Function, typed_function_of}
 use Rattle.pw_types.specs.declared.rule.Rule.TheVariants as rules
 use Rattle.pw_types.specs.declared.fault.Fault.{Fault}
 use Rattle.pw_types.specs.declared.names.File.{File}
@@ -18,7 +18,9 @@ use Rattle.pw_types.specs.declared.names.Local.{Local}
 use Rattle.pw_types.specs.Faults.{broken, broken_by}
 use Rattle.pw_types.specs.Reserved.{is_reserved}
 use Rattle.pw_types.specs.Scopes.{Scope, file_named}
-use Rattle.pw_types.specs.Declarations.{is_parameter_too_many, faults_of_parameter_name, faults_of_parameters, locals_of, parameters_in, is_definition_of_function, is_redefined, conflicts, is_too_large, has_bad_size, elements_of, does_not_initialise, is_unknown_name, name_in, uses_of_element, uses_of_elements, uses_of_initialiser, uses_of_form, is_external, file_scope, Whole}
+use Rattle.pw_types.specs.Declarations.{is_parameter_too_many, faults_of_parameter_name, locals_of, parameters_in, is_definition_of_function, is_redefined, conflicts, is_too_large, has_bad_size, elements_of, does_not_initialise, is_unknown_name, name_in, is_external, file_scope, Whole}
+use Rattle.pw_types.specs.Steps.UnitFaults.{faults_of_parameters}
+use Rattle.pw_types.specs.Steps.Uses.{uses_of_element, uses_of_elements, uses_of_initialiser, uses_of_form}
 use Rattle.pw_types.specs.declared.typed.Body.{Body}
 use Rattle.pw_types.specs.declared.defined.Defined.{Defined}
 use Rattle.pw_types.specs.declared.defined.Defined.TheVariants.{Nothing, Function as AFunction, Variable as AVariable}
@@ -26,7 +28,7 @@ use Rattle.pw_types.specs.Units.{element_of, elements_in, typed_functions_of, ty
 
 -- ---- parameters
 
--- a parameter of a definition, behind those before it
+-- a parameter of a definition, after those before it
 abbrev pub faults_of_parameter : List Local → Param → List Fault
 faults_of_parameter before p =
     faults_of_parameter_name true (length before) before p.last p.name
@@ -84,12 +86,12 @@ faults_of_value scope ty is_extra at kind =
     broken_by rules.Unknown at (name_in kind) (is_unknown_name scope kind)
     ++ broken rules.Initialiser at (does_not_initialise scope ty kind || is_extra)
 
--- the element's value; the name that it uses was noted behind the others
+-- the element's value; the name that it uses was noted after the others
 pub record IsElement (scope : Scope) (kind : InitKind) (old new : List ℕ) (value : Init) : Type 0 where
   pub is : value ≡ element_of scope kind
   pub used : new ≡ old ++ uses_of_element scope kind
 
--- the elements' values; the names that they use were noted behind the others
+-- the elements' values; the names that they use were noted after the others
 pub record AreElements (scope : Scope) (items : List InitItem) (old new : List ℕ) (values : List Init) : Type 0 where
   pub are : values ≡ elements_in scope items
   pub used : new ≡ old ++ uses_of_elements scope items
@@ -119,7 +121,7 @@ variable_with d ty size init = record { name = d.name; global = is_external d.li
 
 abbrev pub functions_in : Defined → List Function
 functions_in Nothing = []
-functions_in (AFunction f) = function_of f ∷ []
+functions_in (AFunction f) = typed_function_of f ∷ []
 functions_in (AVariable v) = []
 
 abbrev pub variables_in : Defined → List TVar
@@ -127,7 +129,7 @@ variables_in Nothing = []
 variables_in (AFunction f) = []
 variables_in (AVariable v) = v ∷ []
 
--- This is what the declaration defines; the names that it uses were noted behind the others.
+-- This is what the declaration defines; the names that it uses were noted after the others.
 pub record Defines (w : Whole) (files : List File) (d : Declaration) (old new : List ℕ) (defined : Defined) : Type 0 where
   pub functions : functions_in defined ≡ typed_functions_of w files d d.form
   pub variables : variables_in defined ≡ typed_variables_of w files d d.form

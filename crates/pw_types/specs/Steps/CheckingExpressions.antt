@@ -24,7 +24,7 @@ use Rattle.pw_tree.specs.Held.{holds_left, held_both}
 use Rattle.pw_types.specs.Typed.{Array, array_of, Designated, function_of, constant_type}
 use Rattle.pw_tree.specs.TypedExpressions.{type_of}
 use Rattle.pw_types.specs.Expressions.{is_base, is_callee, needs_value, first_parameter, how_many}
-use Rattle.pw_types.specs.Uses.{file_number, uses}
+use Rattle.pw_types.specs.Steps.Uses.{file_number, uses}
 use Rattle.pw_types.specs.Steps.Judging.{Judge, ◌>>=◌, pure, refuse, noting, on_option}
 
 -- ---- what is judged
@@ -72,7 +72,7 @@ is_other_value Base ty = false
 is_other_value (Argument want) ty = false
 is_other_value Written ty = false
 
--- a broken rule, or the first behind it
+-- a broken rule, or the first after it
 abbrev pub rule_where : Rule → Bool → Option Rule → Option Rule
 rule_where rule b next = if b then Some rule else next
 
@@ -228,15 +228,15 @@ pointer_parameters Long = None
 pointer_parameters Ulong = None
 
 -- what judges the arguments of a call, for these parameters, and the call
-abbrev pub Behind : Type 0
-Behind = Calling → List Ty → Judge Valued
+abbrev pub After : Type 0
+After = Calling → List Ty → Judge Valued
 
-abbrev pub direct_call : Head → Expressions → Behind → Designated → Judge Valued
-direct_call h es behind d = behind (calling h (named d.reference d.sig.result) d.sig.params es) d.sig.params
+abbrev pub direct_call : Head → Expressions → After → Designated → Judge Valued
+direct_call h es after d = after (calling h (named d.reference d.sig.result) d.sig.params es) d.sig.params
 
-abbrev pub pointer_call : Head → Expressions → Behind → Valued → Judge Valued
-pointer_call h es behind v = on_option (pointer_parameters (type_of v.tree)) (refuse (fault_under h rules.NotCallable))
-    (λ k. behind (calling h (through v) (replicate k Long) es) (replicate k Long))
+abbrev pub pointer_call : Head → Expressions → After → Valued → Judge Valued
+pointer_call h es after v = on_option (pointer_parameters (type_of v.tree)) (refuse (fault_under h rules.NotCallable))
+    (λ k. after (calling h (through v) (replicate k Long) es) (replicate k Long))
 
 -- ---- all forms
 

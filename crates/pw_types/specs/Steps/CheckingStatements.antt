@@ -1,10 +1,10 @@
 -- Judging a statement: what it comes to, and how frames say what is still to be done when a part of it is judged.
-use Rattle.std.specs.Prelude.{◌≡◌, ℕ, ◌+◌, max, List, [], ◌∷◌, ◌++◌, length, map, take, Option, Some, option_map, Result, Ok, Err, ⊤}
+use Rattle.std.specs.Prelude.{◌≡◌, ℕ, ◌+◌, max, List, [], ◌∷◌, ◌++◌, length, map, take, Option, option_map, Result, Ok, Err}
 use Rattle.pw_tree.specs.Expressions.{Span, Expression, expression_of}
 use Rattle.pw_tree.specs.TypedExpressions.{TypedExpression, typed_expression_of}
 use Rattle.pw_tree.specs.Statements.{Statement, Statements, OptionalStatement, nil, cons, optional_statement, statement_of, statements_of}
 use Rattle.pw_tree.specs.TypedStatements.{TypedStatement, TypedStatements}
-use Rattle.pw_tree.specs.TypedStatements as command
+use Rattle.pw_tree.specs.TypedStatements as tree
 use Rattle.pw_tree.specs.declared.stmt.Stmt.{Stmt}
 use Rattle.pw_tree.specs.declared.tstmt.TStmt.{TStmt}
 use Rattle.pw_types.specs.declared.role.Role.TheVariants as roles
@@ -20,21 +20,20 @@ use Rattle.pw_types.specs.declared.statement_step.StatementForm.{StatementForm}
 use Rattle.pw_types.specs.declared.statement_step.StatementForm.TheVariants as forms
 use Rattle.pw_types.specs.declared.statement_step.StatementStep.{StatementStep}
 use Rattle.pw_types.specs.declared.statement_step.StatementStep.TheVariants as steps
-use Rattle.pw_types.specs.Faults.{first_of}
 use Rattle.pw_tree.specs.Held.{held, held_option, held_by, held_by_all, held_by_maybe}
-use Rattle.pw_types.specs.Uses.{uses}
-use Rattle.pw_types.specs.Blocks.{Setting, part, body, head, Block, behind, behind_maybe, locals_in_all, uses_of_option, uses_by, uses_by_all, uses_by_maybe}
-use Rattle.pw_types.specs.Statements.{faults_of_whole, faults_of_option, faults_by, faults_by_all, faults_by_maybe}
+use Rattle.pw_types.specs.Steps.Uses.{uses, uses_of_option, uses_by, uses_by_all, uses_by_maybe}
+use Rattle.pw_types.specs.Blocks.{Setting, part, body, head, Block, after, after_maybe, locals_in_all}
+use Rattle.pw_types.specs.Steps.StatementFaults.{faults_of_whole, faults_of_option, faults_by, faults_by_all, faults_by_maybe}
 use Rattle.pw_types.specs.TypedStatements.{typed_expression, typed_statement, typed_statements, optional_typed_statement}
 use Rattle.pw_types.specs.Steps.Refusals.{Fails}
 
 -- ---- what a statement comes to
 
 -- All faults that judging meets, and what it gives where it meets none: the typed statement, the names that were used so
--- far, the greatest number of values held so far, and the block behind it.
+-- far, the greatest number of values held so far, and the block after it.
 pub record WalkResult : Type 0 where
   pub faults : List Fault
-  pub command : TypedStatement
+  pub typed : TypedStatement
   pub used : List ℕ
   pub held : ℕ
   pub block : Block
@@ -43,111 +42,111 @@ pub record WalkResult : Type 0 where
 abbrev pub outcome : Setting → Block → List ℕ → ℕ → Statement → WalkResult
 outcome x b used most s = record {
   faults = faults_by x b s;
-  command = typed_statement x b s;
+  typed = typed_statement x b s;
   used = used ++ uses_by b s;
   held = max most (held_by (typed_statement x b s));
-  block = behind s b;
+  block = after s b;
 }
 
 -- one that is judged without fault
 abbrev pub judged : TypedStatement → Block → List ℕ → ℕ → WalkResult
-judged c b used most = record { faults = []; command = c; used = used; held = most; block = b }
+judged c b used most = record { faults = []; typed = c; used = used; held = most; block = b }
 
 -- ---- what is still to be done
 
--- the block in which a statement stands, behind it: what was declared in the statement is not visible
+-- the block in which a statement stands, after it: what was declared in the statement is not visible
 abbrev pub leave : ℕ → ℕ → Block → Block
 leave start visible b = record b { scope = record b.scope { locals = take visible b.scope.locals }; start = start }
 
-unfoldable pub behind_all : Statements → Block → Block
-behind_all nil b = b
-behind_all (cons s ss) b = behind_all ss (behind s b)
+unfoldable pub after_all : Statements → Block → Block
+after_all nil b = b
+after_all (cons s ss) b = after_all ss (after s b)
 
 -- typed statements before others
 unfoldable pub before : List TypedStatement → TypedStatements → TypedStatements
 before [] more = more
-before (c ∷ cs) more = command.cons c (before cs more)
+before (c ∷ cs) more = tree.cons c (before cs more)
 
 -- a block, of which these statements are judged and this one comes to `w`
 abbrev pub rest_of_block : Setting → (Block → Block) → List TypedStatement → Statements → WalkResult → WalkResult
 rest_of_block x out done rest w = record {
   faults = w.faults ++ faults_by_all (part x) w.block rest;
-  command = command.block (before done (command.cons w.command (typed_statements (part x) w.block rest)));
+  typed = tree.block (before done (tree.cons w.typed (typed_statements (part x) w.block rest)));
   used = w.used ++ uses_by_all w.block rest;
   held = max w.held (held_by_all (typed_statements (part x) w.block rest));
-  block = out (behind_all rest w.block);
+  block = out (after_all rest w.block);
 }
 
 -- an `if`, whose condition is judged, and whose first part comes to `w`
 abbrev pub rest_of_if : Setting → (Block → Block) → TypedExpression → OptionalStatement → WalkResult → WalkResult
 rest_of_if x out c d w = record {
   faults = w.faults ++ faults_by_maybe (part x) w.block d;
-  command = command.if_else c w.command (optional_typed_statement (part x) w.block d);
+  typed = tree.if_else c w.typed (optional_typed_statement (part x) w.block d);
   used = w.used ++ uses_by_maybe w.block d;
   held = max w.held (held_by_maybe (optional_typed_statement (part x) w.block d));
-  block = out (behind_maybe d w.block);
+  block = out (after_maybe d w.block);
 }
 
 -- a `do`, whose body comes to `w`
 abbrev pub rest_of_do : (Block → Block) → Expression → WalkResult → WalkResult
 rest_of_do out c w = record {
   faults = w.faults ++ faults_of_whole (out w.block).scope roles.Value c;
-  command = command.do_loop w.command (typed_expression (out w.block).scope c);
+  typed = tree.do_loop w.typed (typed_expression (out w.block).scope c);
   used = w.used ++ uses (out w.block).scope c;
   held = max w.held (held (typed_expression (out w.block).scope c));
   block = out w.block;
 }
 
--- a `for`, whose first part is judged, and behind whose last part stands `w`
-abbrev pub rest_of_for : Setting → (Block → Block) → command.OptionalTypedStatement → Option TypedExpression → command.OptionalTypedStatement → Statement → WalkResult → WalkResult
+-- a `for`, whose first part is judged, and after whose last part stands `w`
+abbrev pub rest_of_for : Setting → (Block → Block) → tree.OptionalTypedStatement → Option TypedExpression → tree.OptionalTypedStatement → Statement → WalkResult → WalkResult
 rest_of_for x out first c last s w = record {
   faults = w.faults ++ faults_by (body x) w.block s;
-  command = command.for_loop first c last (typed_statement (body x) w.block s);
+  typed = tree.for_loop first c last (typed_statement (body x) w.block s);
   used = w.used ++ uses_by w.block s;
   held = max w.held (held_by (typed_statement (body x) w.block s));
-  block = out (behind s w.block);
+  block = out (after s w.block);
 }
 
--- a `for`, behind whose first part stands `w`
-abbrev pub behind_first : Setting → (Block → Block) → command.OptionalTypedStatement → Option Expression → OptionalStatement → Statement → WalkResult → WalkResult
-behind_first x out first c last s w = record {
+-- a `for`, after whose first part stands `w`
+abbrev pub after_first : Setting → (Block → Block) → tree.OptionalTypedStatement → Option Expression → OptionalStatement → Statement → WalkResult → WalkResult
+after_first x out first c last s w = record {
   faults = w.faults
       ++ (faults_of_option w.block.scope roles.Value c
-      ++ (faults_by_maybe (head x) w.block last ++ faults_by (body x) (behind_maybe last w.block) s));
-  command = command.for_loop first (option_map (typed_expression w.block.scope) c) (optional_typed_statement (head x) w.block last)
-      (typed_statement (body x) (behind_maybe last w.block) s);
-  used = w.used ++ (uses_of_option w.block.scope c ++ (uses_by_maybe w.block last ++ uses_by (behind_maybe last w.block) s));
+      ++ (faults_by_maybe (head x) w.block last ++ faults_by (body x) (after_maybe last w.block) s));
+  typed = tree.for_loop first (option_map (typed_expression w.block.scope) c) (optional_typed_statement (head x) w.block last)
+      (typed_statement (body x) (after_maybe last w.block) s);
+  used = w.used ++ (uses_of_option w.block.scope c ++ (uses_by_maybe w.block last ++ uses_by (after_maybe last w.block) s));
   held = max w.held
       (max (held_option (option_map (typed_expression w.block.scope) c))
-      (max (held_by_maybe (optional_typed_statement (head x) w.block last)) (held_by (typed_statement (body x) (behind_maybe last w.block) s))));
-  block = out (behind s (behind_maybe last w.block));
+      (max (held_by_maybe (optional_typed_statement (head x) w.block last)) (held_by (typed_statement (body x) (after_maybe last w.block) s))));
+  block = out (after s (after_maybe last w.block));
 }
 
 -- a statement of which only this is left: to be this typed statement
 abbrev pub closed : (Block → Block) → TypedStatement → WalkResult → WalkResult
-closed out c w = record w { command = c; block = out w.block }
+closed out c w = record w { typed = c; block = out w.block }
 
 -- ---- frames
 
 -- the typed statement that an optional one is
-abbrev pub typed_maybe : Option TStmt → command.OptionalTypedStatement
-typed_maybe t = command.optional_typed_statement (option_map command.typed_statement_of t)
+abbrev pub typed_maybe : Option TStmt → tree.OptionalTypedStatement
+typed_maybe t = tree.optional_typed_statement (option_map tree.typed_statement_of t)
 
 -- what a statement comes to whose part, for which it waits, comes to `w`
 abbrev pub resumed_form : Setting → (Block → Block) → StatementForm → WalkResult → WalkResult
-resumed_form x out (forms.Block done rest) w = rest_of_block x out (map command.typed_statement_of done) (statements_of rest.now) w
+resumed_form x out (forms.Block done rest) w = rest_of_block x out (map tree.typed_statement_of done) (statements_of rest.now) w
 resumed_form x out (forms.Then c d) w = rest_of_if x out (typed_expression_of c) (optional_statement (option_map statement_of d.now)) w
 resumed_form x out (forms.Else c a) w =
-    closed out (command.if_else (typed_expression_of c) (command.typed_statement_of a) (command.present w.command)) w
-resumed_form x out (forms.While c) w = closed out (command.while_loop (typed_expression_of c) w.command) w
+    closed out (tree.if_else (typed_expression_of c) (tree.typed_statement_of a) (tree.present w.typed)) w
+resumed_form x out (forms.While c) w = closed out (tree.while_loop (typed_expression_of c) w.typed) w
 resumed_form x out (forms.Do c) w = rest_of_do out (expression_of c.now) w
 resumed_form x out (forms.First c last s) w =
-    behind_first x out (command.present w.command) (option_map expression_of c.now) (optional_statement (option_map statement_of last.now))
+    after_first x out (tree.present w.typed) (option_map expression_of c.now) (optional_statement (option_map statement_of last.now))
     (statement_of s.now) w
 resumed_form x out (forms.Last first c s) w =
-    rest_of_for x out (typed_maybe first) (option_map typed_expression_of c) (command.present w.command) (statement_of s.now) w
+    rest_of_for x out (typed_maybe first) (option_map typed_expression_of c) (tree.present w.typed) (statement_of s.now) w
 resumed_form x out (forms.For first c last) w =
-    closed out (command.for_loop (typed_maybe first) (option_map typed_expression_of c) (typed_maybe last) w.command) w
+    closed out (tree.for_loop (typed_maybe first) (option_map typed_expression_of c) (typed_maybe last) w.typed) w
 
 abbrev pub setting_of : Given → Setting
 setting_of x = record { result = x.result; lines = x.lines.now; in_loop = x.in_loop; in_head = x.in_head }
@@ -185,12 +184,12 @@ judged_at c w = judged c (block_of w) w.used.items w.held
 -- a block, of which these statements are judged
 abbrev pub block_at : List TStmt → List Stmt → Outer → WalkResult → WalkResult
 block_at done rest o w =
-    rest_of_block (setting_of o.setting) (leave o.start o.visible) (map command.typed_statement_of done) (statements_of rest) w
+    rest_of_block (setting_of o.setting) (leave o.start o.visible) (map tree.typed_statement_of done) (statements_of rest) w
 
--- a `for`, from behind its first part in this state
-abbrev pub behind_first_at : Outer → command.OptionalTypedStatement → Option Expression → OptionalStatement → Statement → Walk → WalkResult
-behind_first_at o first c last s w =
-    behind_first (setting_of o.setting) (leave o.start o.visible) first c last s (judged_at (command.block command.nil) w)
+-- a `for`, from after its first part in this state
+abbrev pub after_first_at : Outer → tree.OptionalTypedStatement → Option Expression → OptionalStatement → Statement → Walk → WalkResult
+after_first_at o first c last s w =
+    after_first (setting_of o.setting) (leave o.start o.visible) first c last s (judged_at (tree.block tree.nil) w)
 
 -- out of a statement
 pub record Leaves (o : Outer) (old new : Walk) : Type 0 where
@@ -200,13 +199,13 @@ pub record Leaves (o : Outer) (old new : Walk) : Type 0 where
 
 -- judged without fault, which leads to this state, or the first fault
 abbrev pub Finishes : WalkResult → Walk → Result TStmt Refusal → Type 0
-Finishes w new (Ok t) = w ≡ judged_at (command.typed_statement_of t) new
+Finishes w new (Ok t) = w ≡ judged_at (tree.typed_statement_of t) new
 Finishes w new (Err stop) = Fails w.faults stop
 
 -- what is still to be done comes to this
 abbrev pub of_step : StatementStep → Walk → WalkResult
 of_step (steps.Part f x s) w = resumed f (outcome_at x w (statement_of s.now))
-of_step (steps.Done t) w = judged_at (command.typed_statement_of t) w
+of_step (steps.Done t) w = judged_at (tree.typed_statement_of t) w
 
 abbrev pub Leads : WalkResult → Walk → StatementStep → Type 0
 Leads w new step = w ≡ of_step step new
@@ -225,7 +224,7 @@ IsWhole (Err stop) result = result ≡ Err stop
 -- ---- statements in a row
 
 -- What statements in a row come to, where these stand before them: all faults, and the typed statements, the names that
--- were used, the greatest number of values held, and how many locals the function has behind them.
+-- were used, the greatest number of values held, and how many locals the function has after them.
 pub record Sequence : Type 0 where
   pub faults : List Fault
   pub commands : TypedStatements
@@ -243,7 +242,7 @@ sequence x b used most done ss = record {
 }
 
 abbrev pub sequence_at : Given → Walk → List TStmt → Statements → Sequence
-sequence_at x w done ss = sequence (setting_of x) (block_of w) w.used.items w.held (map command.typed_statement_of done) ss
+sequence_at x w done ss = sequence (setting_of x) (block_of w) w.used.items w.held (map tree.typed_statement_of done) ss
 
 -- statements that are judged without fault, which leads to this state, or the first fault
 abbrev pub FinishesAll : Given → Statements → (old new : Walk) → Result (List TStmt) Refusal → Type 0

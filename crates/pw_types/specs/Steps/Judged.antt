@@ -12,14 +12,14 @@ use Rattle.pw_types.specs.declared.typed.Body.{Body}
 use Rattle.pw_types.specs.Scopes.{Scope}
 use Rattle.pw_tree.specs.Held.{held, held_by_all}
 use Rattle.pw_types.specs.Typed.{typed}
-use Rattle.pw_types.specs.Uses.{uses}
-use Rattle.pw_types.specs.Expressions.{faults}
-use Rattle.pw_types.specs.Blocks.{Setting, Block, locals_in_all, uses_by_all}
-use Rattle.pw_types.specs.Statements.{faults_by_all}
+use Rattle.pw_types.specs.Steps.Uses.{uses, uses_by_all}
+use Rattle.pw_types.specs.Steps.ExpressionFaults.{faults}
+use Rattle.pw_types.specs.Blocks.{Setting, Block, locals_in_all}
+use Rattle.pw_types.specs.Steps.StatementFaults.{faults_by_all}
 use Rattle.pw_types.specs.TypedStatements.{typed_statements}
 use Rattle.pw_types.specs.Steps.Refusals.{Judges}
 
--- the expression's typed tree, and what it holds; the names that it uses were noted behind the others
+-- the expression's typed tree, and what it holds; the names that it uses were noted after the others
 pub record IsTypedTree (scope : Scope) (e : Expression) (old new : List ℕ) (t : Typed) : Type 0 where
   pub tree : typed scope e ≡ Some (typed_expression_of t.tree)
   pub held : t.held ≡ min (held (typed_expression_of t.tree)) (suc limits.held_values)
@@ -28,7 +28,7 @@ pub record IsTypedTree (scope : Scope) (e : Expression) (old new : List ℕ) (t 
 abbrev pub JudgesExpression : Scope → Role → Expression → (old new : List ℕ) → Result Typed Refusal → Type 0
 JudgesExpression scope role e old new = Judges (faults scope role e) (IsTypedTree scope e old new)
 
--- the typed statements of a body, and how many locals the function has behind them
+-- the typed statements of a body, and how many locals the function has after them
 pub record IsTypedBody (x : Setting) (b : Block) (ss : Statements) (old new : List ℕ) (body : Body) : Type 0 where
   pub statements : trees.typed_statements_of body.statements ≡ typed_statements x b ss
   pub held : body.held ≡ held_by_all (typed_statements x b ss)

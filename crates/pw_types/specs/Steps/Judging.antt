@@ -22,7 +22,7 @@ pure a = λ used. Ok (a, used)
 abbrev pub refuse : {A : Type 0} → Fault → Judge A
 refuse fault = λ used. Err fault
 
--- the same behind uses of these names
+-- the same after uses of these names
 abbrev pub noting : {A : Type 0} → List ℕ → Judge A → Judge A
 noting numbers p = λ used. p (used ++ numbers)
 

@@ -23,7 +23,7 @@ use Rattle.pw_types.specs.declared.expression_step.ExpressionStep.{ExpressionSte
 use Rattle.pw_types.specs.declared.expression_step.ExpressionStep.TheVariants.{Part, Instead, Done}
 use Rattle.pw_types.specs.Scopes.{Scope}
 use Rattle.pw_types.specs.Typed.{Array, array_of, Designated, function_of}
-use Rattle.pw_types.specs.Uses.{uses}
+use Rattle.pw_types.specs.Steps.Uses.{uses}
 use Rattle.pw_types.specs.Steps.Judging.{JudgeResult, Judge, and_then, ◌>>=◌, pure, refuse, noting, on_option}
 use Rattle.pw_types.specs.Steps.CheckingExpressions.{Valued, Aim, named, through, Calling, Taken, unary_value, binary_value, choice_value, element_value, output_value, taking, none_taken, calling, direct_call, pointer_call, checked, checked_arguments}
 
@@ -74,7 +74,7 @@ index_from scope h b i = on_option (array_of scope b) (checked scope Base b)
 
 -- ---- frames
 
--- what comes behind the part that a frame waits for
+-- what comes after the part that a frame waits for
 abbrev pub resumed : Scope → ExpressionFrame → Valued → Judge Valued
 resumed scope (Operand h op) v = unary_value h op v
 resumed scope (Left h op r) v = checked scope Value (expression_of r.now) >>= binary_value h op v
@@ -106,7 +106,7 @@ Gives p (Ok t) = p ≡ pure (valued t)
 Gives p (Err (refusals.Fault f)) = p ≡ refuse f
 Gives p (Err refusals.NoMemory) = ⊤
 
--- the same behind the names that were used on the way
+-- the same after the names that were used on the way
 abbrev pub GivesWith : Judge Valued → List ℕ → List ℕ → Result Typed Refusal → Type 0
 GivesWith p old new (Ok t) = p old ≡ Ok (valued t, new)
 GivesWith p old new (Err (refusals.Fault f)) = p old ≡ Err f
@@ -122,7 +122,7 @@ Continues scope p (Err refusals.NoMemory) = ⊤
 abbrev pub ContinuesInEach : (Scope → Judge Valued) → Result ExpressionStep Refusal → Type 0
 ContinuesInEach p result = (scope : Scope) → Continues scope (p scope) result
 
--- the same behind the names that were used on the way
+-- the same after the names that were used on the way
 abbrev pub ContinuesWith : Scope → Judge Valued → List ℕ → List ℕ → Result ExpressionStep Refusal → Type 0
 ContinuesWith scope p old new (Ok step) = p old ≡ continued scope step new
 ContinuesWith scope p old new (Err (refusals.Fault f)) = p old ≡ Err f

@@ -25,8 +25,9 @@ use Rattle.pw_types.specs.Faults.{broken}
 use Rattle.pw_tree.specs.Types.{is_number}
 use Rattle.pw_tree.specs.Held.{held}
 use Rattle.pw_types.specs.Typed.{typed}
-use Rattle.pw_types.specs.Uses.{uses, file_number}
-use Rattle.pw_types.specs.Expressions.{has_type, faults}
+use Rattle.pw_types.specs.Steps.Uses.{uses, file_number}
+use Rattle.pw_types.specs.Expressions.{has_type}
+use Rattle.pw_types.specs.Steps.ExpressionFaults.{faults}
 use Rattle.pw_types.specs.Steps.StatementValues.{Notes}
 use Rattle.pw_types.specs.Steps.Refusals.{Judges}
 

@@ -8,13 +8,14 @@ use Rattle.pw_types.specs.declared.role.Role.{Role}
 use Rattle.pw_types.specs.declared.fault.Refusal.{Refusal}
 use Rattle.pw_types.specs.declared.statement_walk.Walk.{Walk}
 use Rattle.pw_types.specs.Faults.{broken}
-use Rattle.pw_types.specs.Expressions.{faults}
+use Rattle.pw_types.specs.Steps.ExpressionFaults.{faults}
 use Rattle.pw_types.specs.declared.rule.Rule.TheVariants as rules
 use Rattle.pw_tree.specs.Held.{held, held_option}
-use Rattle.pw_types.specs.Uses.{uses}
+use Rattle.pw_types.specs.Steps.Uses.{uses, uses_of_option}
 use Rattle.pw_types.specs.Typed.{typed}
-use Rattle.pw_types.specs.Blocks.{uses_of_option, with_local}
-use Rattle.pw_types.specs.Statements.{faults_of_whole, faults_of_option, holds_too_many}
+use Rattle.pw_types.specs.Blocks.{with_local}
+use Rattle.pw_types.specs.Statements.{holds_too_many}
+use Rattle.pw_types.specs.Steps.StatementFaults.{faults_of_whole, faults_of_option}
 use Rattle.pw_types.specs.TypedStatements.{typed_expression}
 use Rattle.pw_types.specs.Steps.Refusals.{Judges}
 

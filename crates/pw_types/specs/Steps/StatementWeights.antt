@@ -8,7 +8,7 @@ use Rattle.pw_types.specs.declared.statement_step.StatementStep.{StatementStep}
 use Rattle.pw_types.specs.declared.statement_step.StatementStep.TheVariants as steps
 
 unfoldable mutual
-  -- a statement is entered, and left behind each of its parts
+  -- a statement is entered, and left after each of its parts
   pub weight : Statement → ℕ
   weight (empty at) = 1
   weight (block at ss) = 2 + weight_of_all ss
@@ -31,7 +31,7 @@ unfoldable mutual
   weight_of_maybe absent = 0
   weight_of_maybe (present s) = weight s
 
--- what is left behind the part that the statement waits for
+-- what is left after the part that the statement waits for
 abbrev pub weight_of_form : StatementForm → ℕ
 weight_of_form (forms.Block done rest) = 1 + weight_of_all (statements_of rest.now)
 weight_of_form (forms.Then c d) = 2 + weight_of_maybe (optional_statement (option_map statement_of d.now))

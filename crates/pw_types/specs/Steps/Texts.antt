@@ -1,16 +1,15 @@
 -- Which kinds of names have a type's text, and which names are used.
-use Rattle.std.specs.Prelude.{◌≡◌, ℕ, ◌<◌, ◌≤◌, Bool, false, List, [], ◌∷◌, length, Option, Some, None, ⊤, nat_eq, slice_index_or}
+use Rattle.std.specs.Prelude.{◌≡◌, ℕ, ◌<◌, Bool, false, List, [], ◌∷◌, length, ⊤, nat_eq, slice_index_or}
 use Rattle.std.specs.List.{list_any}
-use Rattle.pw_base.specs.Limits as limits
-use Rattle.pw_tree.specs.declared.ty.Ty.{Ty}
-use Rattle.pw_tree.specs.Types.{IsType, IsValueType, AreValueTypes, IsArraySize}
+use Rattle.pw_tree.specs.Types.{IsValueType, IsArraySize}
+use Rattle.pw_tree.specs.WellTypedExpressions.{IsSignature}
 use Rattle.pw_types.specs.declared.names.Kind.{Kind}
 use Rattle.pw_types.specs.declared.names.Kind.TheVariants.{Function, Variable}
 use Rattle.pw_types.specs.declared.names.File.{File}
 
--- a kind of names that has a text
+-- a kind of names whose type has a text
 abbrev pub HasText : Kind → Type 0
-HasText (Function sig) = IsType sig.result × AreValueTypes sig.params × (length sig.params ≤ limits.parameters)
+HasText (Function sig) = IsSignature sig
 HasText (Variable ty size) = IsValueType ty × IsArraySize size
 
 -- each of the names has one

@@ -10,8 +10,8 @@ returns-in-empty c = (λ no. cc, λ is_size. absurd (size_is_some c.args.digits.
 pub returns-then-is_numeral : goal.returns-then-is_numeral
 returns-then-is_numeral c =
     let whole = first_and_rest c.args.digits.now c.in-len1-up.len_at_least in
-    let tells = size_of_number c.args.digits.now c.number.result c.number.type_inv (c.number.ensures.0 ∙ sym whole) c.number.ensures.1 in
-    (λ test. tells.0 (leb-true _ _ test), λ is_size. le-leb _ _ (tells.1 is_size))
+    let decides = size_of_number c.args.digits.now c.number.result c.number.type_inv (c.number.ensures.0 ∙ sym whole) c.number.ensures.1 in
+    (λ test. decides.0 (leb-true _ _ test), λ is_size. le-leb _ _ (decides.1 is_size))
 
 pub returns-else-is_numeral : goal.returns-else-is_numeral
 returns-else-is_numeral c =

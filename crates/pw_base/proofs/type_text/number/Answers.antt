@@ -1,4 +1,4 @@
--- Each digit goes behind the number of those before it.
+-- Each digit follows the number of those before it.
 use Rattle.pw_base.proofs.Sizes.{numeral_parts, numeral_start, numeral_step}
 use Rattle.pw_base.proofs.type_text.number.Goals as goal
 

@@ -1,6 +1,6 @@
 -- The address is where the next function stands, and no function before it is `main`.
 use Rattle.std.proofs.Common.{◌≡◌}
-use Rattle.pw_agree.specs.Image.{start_of}
+use Rattle.pw_first_agree.specs.Image.{start_of}
 use Rattle.pw_build.proofs.Sizes.{NoneBefore}
 use Rattle.pw_build.proofs.entry.main_address.Given as goal
 

@@ -1,7 +1,7 @@
 -- The text and the slot are put into fresh regions.
 use Rattle.std.proofs.Common.{◌≡◌, ◌∙◌, ap, subst, List, ℕ}
 use Rattle.pw_mem.specs.Memory.{Writes, put, seal}
-use Rattle.pw_agree.specs.Image.{data_start}
+use Rattle.pw_first_agree.specs.Image.{data_start}
 use Rattle.pw_build.proofs.Parts.{filled, eight_bytes}
 use Rattle.pw_build.proofs.memory_image.fill.Goals as goal
 

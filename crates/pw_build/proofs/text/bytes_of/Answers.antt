@@ -1,4 +1,4 @@
--- A turn puts the bytes of one word more.
+-- An iteration puts the bytes of one word more.
 use Rattle.std.proofs.Common.{◌≡◌, ◌++◌, ◌∙◌, ap, sym, take, get_or}
 use Rattle.pw_mem.specs.Words.{text_bytes}
 use Rattle.pw_build.proofs.Parts.{text_bytes-more, four_bytes}

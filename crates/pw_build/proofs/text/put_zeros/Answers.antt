@@ -1,4 +1,4 @@
--- A turn puts one zero more.
+-- An iteration puts one zero more.
 use Rattle.std.proofs.Common.{◌++◌, ◌∷◌, [], ◌∙◌, ap, sym, append-nil, append_assoc}
 use Rattle.pw_mem.specs.Memory.{zeros}
 use Rattle.pw_build.proofs.Sizes.{zeros_more, zeros_none}

@@ -1,4 +1,4 @@
--- As many zeros as turns are done.
+-- As many zeros as iterations are done.
 use Rattle.std.proofs.Common.{◌≡◌, ◌++◌}
 use Rattle.pw_mem.specs.Memory.{zeros}
 use Rattle.pw_build.proofs.text.put_zeros.Given as goal

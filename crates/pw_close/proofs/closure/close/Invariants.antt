@@ -1,6 +1,6 @@
 -- The functions up to this level are marked, and each level marked one at least.
 use Rattle.std.proofs.Common.{◌+◌, ◌≤◌}
-use Rattle.pw_close.specs.Steps.{unmarked}
+use Rattle.pw_close.specs.Steps.Marks.{unmarked}
 use Rattle.pw_close.proofs.Closing.{ClosedTo}
 use Rattle.pw_close.proofs.closure.close.Given as goal
 

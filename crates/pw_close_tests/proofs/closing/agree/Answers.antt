@@ -1,4 +1,4 @@
--- Levels that closing told have parents, by the law of levels.
+-- Levels that closing gives have parents, by the law of levels.
 use Rattle.pw_close_tests.proofs.closing.agree.Goals as goal
 
 pub path-requires-clause-parents : goal.path-requires-clause-parents

@@ -1,10 +1,13 @@
--- The functions that were read can be placed.
-use Rattle.std.proofs.Common.{subst, sym, List}
-use Rattle.pw_first.specs.declared.writer.Writer.{Writer}
-use Rattle.pw_agree.specs.Image.{CanPlace}
+-- The words, and then their command.
+use Rattle.std.proofs.Common.{refl}
+use Rattle.std.proofs.lemmas.Result.{err_from_is_err_and}
+use Rattle.pw_cmd.specs.Stages.{stopped, went_on}
 use Rattle.pw_cmd.proofs.perform.perform.Goals as goal
 
-pub run_program-requires : goal.run_program-requires
-run_program-requires g c =
-    let P : List Writer → Type 0 = λ funs. CanPlace funs in
-    subst P (sym c.as_slice.ensures) c.in_ok-funs.ensures.placed
+pub returns-in_err-file : goal.returns-in_err-file
+returns-in_err-file g c =
+    let p = err_from_is_err_and c.from_residual.result c.from_residual.ensures.1 in
+    rw (p.1, p.2) (stopped _ (c.in_err-file.ensures _) refl)
+
+pub returns : goal.returns
+returns g c = went_on _ _ (c.in_ok-file.ensures _) c.one.ensures

@@ -1,7 +1,7 @@
 -- Each record goes on to what is left, and a record's fault is that of all.
 use Rattle.std.proofs.Common.{◌+◌, arith}
 use Rattle.std.proofs.lemmas.Result.{err_from_is_err_and}
-use Rattle.pw_module.specs.Reading.{many, place, function_at}
+use Rattle.pw_module.specs.Reading.{many, remaining, function_record_at}
 use Rattle.pw_deps.proofs.Loop.{goes_on, is_done, ends}
 use Rattle.pw_deps.proofs.repeat.functions.Goals as goal
 
@@ -9,19 +9,19 @@ pub returns-in_err-found-clause-value : goal.returns-in_err-found-clause-value
 returns-in_err-found-clause-value c =
     let p = err_from_is_err_and c.from_residual-in_err-found.result c.from_residual-in_err-found.ensures.1 in
     rw (p.1, p.2)
-    (ends c.in_err-found.field-0.0 (function_at c.args.frame.symbols c.args.frame.text c.args.units c.args.frame.total) c.loop-index.functions c.args.count c.loop-index.index (place c.loop-index.former c.loop-index.left.now) (many (function_at c.args.frame.symbols c.args.frame.text c.args.units c.args.frame.total) 0 c.args.count (place 0 c.args.rest.now))
+    (ends c.in_err-found.field-0.0 (function_record_at c.args.frame.symbols c.args.frame.text c.args.units c.args.frame.total) c.loop-index.functions c.args.count c.loop-index.index (remaining c.loop-index.former c.loop-index.left.now) (many (function_record_at c.args.frame.symbols c.args.frame.text c.args.units c.args.frame.total) 0 c.args.count (remaining 0 c.args.rest.now))
     c.loop-index-test.true c.in_err-found.ensures.value c.loop-index.invariant.read)
 
 pub loop-index-preserved : goal.loop-index-preserved
 loop-index-preserved c =
     record {
       read = rw (c.in_ok-push.ensures.ok, c.from.ensures, c.from-in-loop-index.ensures)
-          (goes_on (function_at c.args.frame.symbols c.args.frame.text c.args.units c.args.frame.total) c.loop-index.functions c.args.count c.loop-index.index (place c.loop-index.former c.loop-index.left.now) c.in_ok-found.found (place (c.in_ok-found.found.start + c.in_ok-found.found.size) c.in_ok-found.after.now) (many (function_at c.args.frame.symbols c.args.frame.text c.args.units c.args.frame.total) 0 c.args.count (place 0 c.args.rest.now))
+          (goes_on (function_record_at c.args.frame.symbols c.args.frame.text c.args.units c.args.frame.total) c.loop-index.functions c.args.count c.loop-index.index (remaining c.loop-index.former c.loop-index.left.now) c.in_ok-found.found (remaining (c.in_ok-found.found.start + c.in_ok-found.found.size) c.in_ok-found.after.now) (many (function_record_at c.args.frame.symbols c.args.frame.text c.args.units c.args.frame.total) 0 c.args.count (remaining 0 c.args.rest.now))
           c.loop-index-test.true c.in_ok-found.ensures.value c.loop-index.invariant.read);
       shorter = omega (arith, c.in_ok-found.ensures.shorter, c.loop-index.invariant.shorter);
     }
 
 pub returns-clause-value : goal.returns-clause-value
 returns-clause-value c =
-    is_done (function_at c.args.frame.symbols c.args.frame.text c.args.units c.args.frame.total) c.loop-index.functions c.args.count c.loop-index.index (place c.loop-index.former c.loop-index.left.now) (many (function_at c.args.frame.symbols c.args.frame.text c.args.units c.args.frame.total) 0 c.args.count (place 0 c.args.rest.now))
+    is_done (function_record_at c.args.frame.symbols c.args.frame.text c.args.units c.args.frame.total) c.loop-index.functions c.args.count c.loop-index.index (remaining c.loop-index.former c.loop-index.left.now) (many (function_record_at c.args.frame.symbols c.args.frame.text c.args.units c.args.frame.total) 0 c.args.count (remaining 0 c.args.rest.now))
     c.loop-index-test.false c.loop-index.invariant.read

@@ -1,12 +1,12 @@
 -- What was read, with what is still read from the bytes left, is all.
 use Rattle.std.proofs.Common.{◌≡◌, ◌≤◌, ◌-◌, length}
-use Rattle.pw_module.specs.Reading.{many, place, function_at}
-use Rattle.pw_deps.proofs.Loop.{with_front}
+use Rattle.pw_module.specs.Reading.{many, remaining, function_record_at}
+use Rattle.pw_deps.proofs.Loop.{preceded_by}
 use Rattle.pw_deps.proofs.repeat.functions.Given as goal
 
 abbrev pub invariant-loop-index : goal.invariant-loop-index
 invariant-loop-index l =
     record {
-      read : with_front l.functions (many (function_at l.frame.symbols l.frame.text l.units l.frame.total) l.index (l.count - l.index) (place l.former l.left)) ≡ many (function_at l.frame.symbols l.frame.text l.units l.frame.total) 0 l.count (place 0 l.fn.rest);
+      read : preceded_by l.functions (many (function_record_at l.frame.symbols l.frame.text l.units l.frame.total) l.index (l.count - l.index) (remaining l.former l.left)) ≡ many (function_record_at l.frame.symbols l.frame.text l.units l.frame.total) 0 l.count (remaining 0 l.fn.rest);
       shorter : length l.left ≤ length l.fn.rest;
     }

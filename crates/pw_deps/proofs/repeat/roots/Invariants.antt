@@ -1,12 +1,12 @@
 -- What was read, with what is still read from the bytes left, is all.
 use Rattle.std.proofs.Common.{◌≡◌, ◌≤◌, ◌-◌, length}
-use Rattle.pw_module.specs.Reading.{many, place, root_at}
-use Rattle.pw_deps.proofs.Loop.{with_front}
+use Rattle.pw_module.specs.Reading.{many, remaining, root_record_at}
+use Rattle.pw_deps.proofs.Loop.{preceded_by}
 use Rattle.pw_deps.proofs.repeat.roots.Given as goal
 
 abbrev pub invariant-loop-index : goal.invariant-loop-index
 invariant-loop-index l =
     record {
-      read : with_front l.roots (many (root_at l.frame.symbols l.frame.total) l.index (l.count - l.index) (place 0 l.left)) ≡ many (root_at l.frame.symbols l.frame.total) 0 l.count (place 0 l.fn.rest);
+      read : preceded_by l.roots (many (root_record_at l.frame.symbols l.frame.total) l.index (l.count - l.index) (remaining 0 l.left)) ≡ many (root_record_at l.frame.symbols l.frame.total) 0 l.count (remaining 0 l.fn.rest);
       shorter : length l.left ≤ length l.fn.rest;
     }

@@ -5,4 +5,4 @@ use Rattle.pw_module.specs.Spelling as spelling
 use Rattle.pw_deps.proofs.writing.put_roots.Given as goal
 
 abbrev pub invariant-loop-root : goal.invariant-loop-root
-invariant-loop-root l = l.to.items ≡ l.fn.to.items ++ flat_map spelling.root (take l.root-index l.roots)
+invariant-loop-root l = l.to.items ≡ l.fn.to.items ++ flat_map spelling.root_bytes (take l.root-index l.roots)

@@ -5,4 +5,4 @@ use Rattle.pw_module.specs.Spelling as spelling
 use Rattle.pw_deps.proofs.writing.put_units.Given as goal
 
 abbrev pub invariant-loop-unit : goal.invariant-loop-unit
-invariant-loop-unit l = l.to.items ≡ l.fn.to.items ++ flat_map spelling.text (take l.unit-index l.units)
+invariant-loop-unit l = l.to.items ≡ l.fn.to.items ++ flat_map spelling.sized_string_bytes (take l.unit-index l.units)

@@ -1,4 +1,4 @@
--- Of at most 8 bytes, those behind the first say less than 2 ^ 56.
+-- Of at most 8 bytes, those after the first say less than 2 ^ 56.
 use Rattle.std.proofs.Common.{◌≤◌, ◌-◌, length, take, drop, arith}
 use Rattle.std.proofs.lemmas.List.{places}
 use Rattle.pw_mem.proofs.Bytes.{room_for_byte}

@@ -6,17 +6,17 @@ use Rattle.pw_types.proofs.checking.error_of.Goals as goal
 
 pub offset_bounds-lines-fault : goal.offset_bounds-lines-fault
 offset_bounds-lines-fault c =
-    let here : c.args.fault.at < length c.args.unit.now.lines = within (untyped_unit_of c.args.unit.now) c.args.fault c.requires.written c.requires.first in
-    let few : length c.args.unit.now.lines < 2 ^ 32 = c.requires.written.few in
+    let here : c.args.fault.at < length c.args.unit.now.lines = within (untyped_unit_of c.args.unit.now) c.args.fault c.requires.parsed c.requires.first in
+    let few : length c.args.unit.now.lines < 2 ^ 32 = c.requires.parsed.few in
     omega arith
 
 pub bounds-lines-fault : goal.bounds-lines-fault
 bounds-lines-fault c =
-    let here : c.args.fault.at < length c.args.unit.now.lines = within (untyped_unit_of c.args.unit.now) c.args.fault c.requires.written c.requires.first in
+    let here : c.args.fault.at < length c.args.unit.now.lines = within (untyped_unit_of c.args.unit.now) c.args.fault c.requires.parsed c.requires.first in
     omega (arith, ap length c.as_slice-lines.ensures)
 
 pub overflow_cast-result : goal.overflow_cast-result
 overflow_cast-result c =
-    let here : c.args.fault.at < length c.args.unit.now.lines = within (untyped_unit_of c.args.unit.now) c.args.fault c.requires.written c.requires.first in
-    let few : length c.args.unit.now.lines < 2 ^ 32 = c.requires.written.few in
+    let here : c.args.fault.at < length c.args.unit.now.lines = within (untyped_unit_of c.args.unit.now) c.args.fault c.requires.parsed c.requires.first in
+    let few : length c.args.unit.now.lines < 2 ^ 32 = c.requires.parsed.few in
     omega arith

@@ -1,4 +1,4 @@
--- Resuming the frames behind what is to be done next gives what the whole gives.
+-- Resuming the frames after what is to be done next gives what the whole gives.
 use Rattle.std.proofs.Common.{◌≡◌, ◌+◌}
 use Rattle.pw_tree.specs.Expressions.{expression_of}
 use Rattle.pw_types.specs.Steps.CheckingExpressions.{checked}

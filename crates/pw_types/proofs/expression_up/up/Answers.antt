@@ -10,5 +10,5 @@ returns-in-Callee-clause-continues c = λ scope.
 
 pub returns-in-Argument-clause-continues : goal.returns-in-Argument-clause-continues
 returns-in-Argument-clause-continues c = λ scope.
-    let P : ExpressionFrame → Type 0 = λ f. Continues scope (resumed scope f (valued c.args.typed)) c.behind_argument.result in
-    subst P (sym c.in-Argument.is) (c.behind_argument.ensures.continues scope)
+    let P : ExpressionFrame → Type 0 = λ f. Continues scope (resumed scope f (valued c.args.typed)) c.after_argument.result in
+    subst P (sym c.in-Argument.is) (c.after_argument.ensures.continues scope)

@@ -1,6 +1,7 @@
 -- What is left has the faults of the whole, and gives what is missing of its values and uses.
 use Rattle.std.proofs.Common.{◌≡◌, ◌++◌, length}
-use Rattle.pw_types.specs.Declarations.{faults_of_elements, uses_of_elements}
+use Rattle.pw_types.specs.Steps.UnitFaults.{faults_of_elements}
+use Rattle.pw_types.specs.Steps.Uses.{uses_of_elements}
 use Rattle.pw_types.specs.Units.{elements_in}
 use Rattle.pw_types.proofs.initialiser.judge_elements.Given as goal
 

@@ -1,6 +1,6 @@
 -- What is left has the faults of the whole.
 use Rattle.std.proofs.Common.{◌≡◌, false, [], length}
-use Rattle.pw_types.specs.Declarations.{faults_of_parameters}
+use Rattle.pw_types.specs.Steps.UnitFaults.{faults_of_parameters}
 use Rattle.pw_types.specs.Steps.CheckingDeclarations.{faults_by_number}
 use Rattle.pw_types.proofs.parameter.judge_declared.Given as goal
 

@@ -1,7 +1,8 @@
 -- What is left has the faults of the whole, and gives its locals.
 use Rattle.std.proofs.Common.{◌≡◌, true, [], length}
 use Rattle.pw_tree.specs.Placed.{HaveNames}
-use Rattle.pw_types.specs.Declarations.{faults_of_parameters, locals_of}
+use Rattle.pw_types.specs.Declarations.{locals_of}
+use Rattle.pw_types.specs.Steps.UnitFaults.{faults_of_parameters}
 use Rattle.pw_types.proofs.parameter.judge_defined.Given as goal
 
 abbrev pub invariant-loop-rest : goal.invariant-loop-rest

@@ -1,6 +1,6 @@
 -- What the functions so far of the level lead to is marked, and where nothing was, nothing changed.
 use Rattle.std.proofs.Common.{◌≡◌, ◌+◌, ◌≤◌, false, cond}
-use Rattle.pw_close.specs.Steps.{MarksNext, unmarked}
+use Rattle.pw_close.specs.Steps.Marks.{MarksNext, unmarked}
 use Rattle.pw_close.proofs.graph.Levels.mark_next.Given as goal
 
 abbrev pub invariant-loop-from : goal.invariant-loop-from

@@ -1,6 +1,6 @@
 -- The roots so far have level 0.
 use Rattle.std.proofs.Common.{length, take}
-use Rattle.pw_close.specs.Steps.{MarksRoots}
+use Rattle.pw_close.specs.Steps.Marks.{MarksRoots}
 use Rattle.pw_close.proofs.graph.Levels.mark_roots.Given as goal
 
 abbrev pub invariant-loop-root : goal.invariant-loop-root

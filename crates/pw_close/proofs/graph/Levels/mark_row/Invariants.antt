@@ -1,6 +1,6 @@
 -- The functions of the row so far are marked, and where none was, nothing changed.
 use Rattle.std.proofs.Common.{◌≡◌, ◌+◌, ◌≤◌, false, take, cond}
-use Rattle.pw_close.specs.Steps.{MarksRow, unmarked}
+use Rattle.pw_close.specs.Steps.Marks.{MarksRow, unmarked}
 use Rattle.pw_close.proofs.graph.Levels.mark_row.Given as goal
 
 abbrev pub invariant-loop-n : goal.invariant-loop-n

@@ -1,6 +1,6 @@
--- The copies made so far are the first parts, and each turn leaves one part less.
+-- The copies made so far are the first parts, and each iteration leaves one part less.
 use Rattle.std.proofs.Common.{◌≡◌, ◌-◌, length, take}
-use Rattle.pw_tree.specs.Nested.{parts_of_kind}
+use Rattle.pw_tree.specs.Steps.Nested.{parts_of_kind}
 use Rattle.pw_tree.proofs.stmt.StmtKind.copied_parts.Given as goal
 
 abbrev pub invariant-loop-part : goal.invariant-loop-part

@@ -1,6 +1,6 @@
 use Rattle.std.proofs.Common.{◌∙◌, sym, ap, List, ℕ}
 use Rattle.pw_types.specs.Scopes.{file_named}
-use Rattle.pw_types.specs.Uses.{file_number}
+use Rattle.pw_types.specs.Steps.Uses.{file_number}
 use Rattle.pw_types.proofs.Keys.{bytes}
 use Rattle.pw_types.proofs.KeyedFiles.{found, placed}
 use Rattle.pw_types.proofs.file_scope.FileScope.find.Goals as goal

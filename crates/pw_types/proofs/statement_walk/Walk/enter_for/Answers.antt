@@ -16,6 +16,6 @@ returns-in-Some-clause-less c =
 
 pub returns-in-None-clause-judged : goal.returns-in-None-clause-judged
 returns-in-None-clause-judged c =
-    λ at. subst (λ (w : WalkResult). Steps w c.behind_first.new.self c.behind_first.result)
+    λ at. subst (λ (w : WalkResult). Steps w c.after_first.new.self c.after_first.result)
     (sym (enters_bare_for c.args.setting.now c.outer-outer.result c.args.self.now at _ _ _ _ (is_absent c.args.first.now c.in-None.is) c.outer-outer.ensures))
-    c.behind_first.ensures.judged
+    c.after_first.ensures.judged

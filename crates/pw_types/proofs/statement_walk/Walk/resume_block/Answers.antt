@@ -9,7 +9,7 @@ use Rattle.pw_types.proofs.statement_walk.Walk.resume_block.Goals as goal
 pub returns-in-empty-clause-judged : goal.returns-in-empty-clause-judged
 returns-in-empty-clause-judged c =
     finished_steps _ c.leave.new.self (Ok (kinds.Block c.push.new.items)) c.done.result c.done.ensures
-    (block_is_done c.args.outer.now c.args.self.now c.leave.new.self c.args.before c.push.new.items c.args.command c.args.rest.now
+    (block_is_done c.args.outer.now c.args.self.now c.leave.new.self c.args.before c.push.new.items c.args.typed c.args.rest.now
     (none_left c.args.rest.now c.in-empty.len_below) (rw c.into_inner.ensures at c.in_ok-push.ensures) c.leave.ensures)
 
 pub returns-in-empty-clause-less : goal.returns-in-empty-clause-less
@@ -17,7 +17,7 @@ returns-in-empty-clause-less c = nothing_left _ (Ok (kinds.Block c.push.new.item
 
 pub returns-in-len1-up-clause-judged : goal.returns-in-len1-up-clause-judged
 returns-in-len1-up-clause-judged c =
-    block_waits c.args.outer.now c.part.result c.args.self.now c.args.before c.push.new.items c.args.command c.args.rest.now _ c.first-item.result
+    block_waits c.args.outer.now c.part.result c.args.self.now c.args.before c.push.new.items c.args.typed c.args.rest.now _ c.first-item.result
     (parted c.args.rest.now c.first-item.result c.in-len1-up.len_at_least c.first-item.is) (rw c.into_inner.ensures at c.in_ok-push.ensures) c.part.ensures
 
 pub returns-in-len1-up-clause-less : goal.returns-in-len1-up-clause-less

@@ -3,4 +3,4 @@ use Rattle.pw_types.proofs.statement_walk.Walk.resume_while.Goals as goal
 
 pub returns : goal.returns
 returns c =
-    rw c.into_inner.ensures (while_is_done c.args.outer.now c.args.self.now c.leave.new.self c.args.c c.args.command c.leave.ensures)
+    rw c.into_inner.ensures (while_is_done c.args.outer.now c.args.self.now c.leave.new.self c.args.c c.args.typed c.leave.ensures)

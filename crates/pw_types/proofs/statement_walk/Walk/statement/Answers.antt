@@ -25,19 +25,19 @@ parts-preserved-in-Part c =
 pub returns-in_err-step-in-Some : goal.returns-in_err-step-in-Some
 returns-in_err-step-in-Some c =
     let p = err_from_is_err_and c.from_residual-in_err-step-in-Some.result c.from_residual-in_err-step-in-Some.ensures.1 in
-    rw (p.1, p.2) (done_stops _ c.parts.frames c.pop.new.self c.in-Some.frame c.in-Done.command c.parts.self c.in_err-step-in-Some.field-0.0
+    rw (p.1, p.2) (done_stops _ c.parts.frames c.pop.new.self c.in-Some.frame c.in-Done.typed c.parts.self c.in_err-step-in-Some.field-0.0
     (at_step _ c.parts.frames c.parts.self c.parts.step _ c.parts.invariant c.in-Done.is) c.in-Some.ensures c.in_err-step-in-Some.ensures.judged)
 
 pub parts-smaller : goal.parts-smaller
 parts-smaller c =
-    done_less c.parts.frames c.pop.new.self c.in-Some.frame c.in-Done.command c.parts.step c.in_ok-step-in-Some.step
+    done_less c.parts.frames c.pop.new.self c.in-Some.frame c.in-Done.typed c.parts.step c.in_ok-step-in-Some.step
     c.in-Some.ensures c.in-Done.is c.in_ok-step-in-Some.ensures.less
 
 pub parts-preserved : goal.parts-preserved
 parts-preserved c =
-    done_leads _ c.parts.frames c.pop.new.self c.in-Some.frame c.in-Done.command c.parts.self c.resume.new.self c.in_ok-step-in-Some.step
+    done_leads _ c.parts.frames c.pop.new.self c.in-Some.frame c.in-Done.typed c.parts.self c.resume.new.self c.in_ok-step-in-Some.step
     (at_step _ c.parts.frames c.parts.self c.parts.step _ c.parts.invariant c.in-Done.is) c.in-Some.ensures c.in_ok-step-in-Some.ensures.judged
 
 pub returns-in-None : goal.returns-in-None
 returns-in-None c =
-    all_done _ c.parts.frames _ (at_step _ c.parts.frames c.parts.self c.parts.step (Done c.in-Done.command) c.parts.invariant c.in-Done.is) c.in-None.ensures.0
+    all_done _ c.parts.frames _ (at_step _ c.parts.frames c.parts.self c.parts.step (Done c.in-Done.typed) c.parts.invariant c.in-Done.is) c.in-None.ensures.0

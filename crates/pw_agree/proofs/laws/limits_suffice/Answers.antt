@@ -1,5 +1,0 @@
-use Rattle.pw_agree.proofs.Agree.{limits_suffice}
-use Rattle.pw_agree.proofs.laws.limits_suffice.Goals as goal
-
-pub returns : goal.returns
-returns c = limits_suffice

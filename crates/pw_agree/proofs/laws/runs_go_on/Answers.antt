@@ -1,5 +1,0 @@
-use Rattle.pw_agree.proofs.CutShort.{front_of_longer}
-use Rattle.pw_agree.proofs.laws.runs_go_on.Goals as goal
-
-pub returns : goal.returns
-returns c = front_of_longer

@@ -1,5 +1,0 @@
-use Rattle.pw_agree.proofs.Agree.{runs_of_images_are_meant}
-use Rattle.pw_agree.proofs.laws.runs_of_images_are_meant.Goals as goal
-
-pub returns : goal.returns
-returns c = runs_of_images_are_meant

@@ -1,5 +1,0 @@
-use Rattle.pw_agree.proofs.TextStays.{text_stays}
-use Rattle.pw_agree.proofs.laws.text_stays.Goals as goal
-
-pub returns : goal.returns
-returns c = text_stays

@@ -1,0 +1,6 @@
+pub mod Interposition
+pub mod PointerInLibrary
+pub mod StaticNames
+pub mod BreadthFirst
+pub mod Variables
+pub mod Binding

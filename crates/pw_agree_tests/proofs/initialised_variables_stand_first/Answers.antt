@@ -1,0 +1,5 @@
+use Rattle.pw_agree_tests.proofs.Variables.{initialised_stand_first}
+use Rattle.pw_agree_tests.proofs.initialised_variables_stand_first.Goals as goal
+
+pub returns : goal.returns
+returns c = initialised_stand_first

@@ -1,0 +1,5 @@
+use Rattle.pw_agree_tests.proofs.BreadthFirst.{search_is_breadth_first}
+use Rattle.pw_agree_tests.proofs.modules_are_searched_breadth_first.Goals as goal
+
+pub returns : goal.returns
+returns c = search_is_breadth_first

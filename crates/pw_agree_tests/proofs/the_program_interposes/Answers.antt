@@ -1,0 +1,5 @@
+use Rattle.pw_agree_tests.proofs.Interposition.{program_interposes}
+use Rattle.pw_agree_tests.proofs.the_program_interposes.Goals as goal
+
+pub returns : goal.returns
+returns c = program_interposes

@@ -1,6 +1,0 @@
-use Rattle.std.proofs.Common.{arith, sym, ◌∙◌, ap, ◌+◌, ◌*◌, length}
-use Rattle.pw_code.proofs.CodeWords.{size-function}
-use Rattle.pw_code.proofs.function.function_size.Goals as goal
-
-pub returns : goal.returns
-returns c = ap (λ n. 15 + 3 * n) c.len.ensures ∙ sym (size-function c.args.fun.now)

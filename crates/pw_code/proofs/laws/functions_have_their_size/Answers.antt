@@ -1,0 +1,5 @@
+use Rattle.pw_code.proofs.Sizes.{size-function}
+use Rattle.pw_code.proofs.laws.functions_have_their_size.Goals as goal
+
+pub returns : goal.returns
+returns c = size-function

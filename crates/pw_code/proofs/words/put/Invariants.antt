@@ -1,6 +1,0 @@
-use Rattle.std.proofs.Common.{◌≡◌, ◌++◌, map, take}
-use Rattle.pw_isa.specs.Encoding.{word_of}
-use Rattle.pw_code.proofs.words.put.Given as goal
-
-abbrev pub invariant-loop-inst : goal.invariant-loop-inst
-invariant-loop-inst l = l.to.items ≡ l.fn.to.items ++ map word_of (take l.inst-index l.insts)

@@ -1,0 +1,5 @@
+use Rattle.pw_first_agree.proofs.Agree.{limits_suffice}
+use Rattle.pw_first_agree.proofs.laws.limits_suffice.Goals as goal
+
+pub returns : goal.returns
+returns c = limits_suffice

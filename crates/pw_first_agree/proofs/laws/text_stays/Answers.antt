@@ -1,0 +1,5 @@
+use Rattle.pw_first_agree.proofs.TextStays.{text_stays}
+use Rattle.pw_first_agree.proofs.laws.text_stays.Goals as goal
+
+pub returns : goal.returns
+returns c = text_stays

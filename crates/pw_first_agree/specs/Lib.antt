@@ -1,0 +1,5 @@
+pub mod Image
+pub mod Start
+pub mod Meaning
+pub mod KeptCode
+pub mod Agreement

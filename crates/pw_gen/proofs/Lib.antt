@@ -1,0 +1,24 @@
+-- The lemmas that the answers of this crate cite.
+pub mod Elements
+pub mod FunctionTexts
+pub mod VariableOrder
+pub mod References
+pub mod DistinctNames
+pub mod SoundPieces
+pub mod SoundExpressions
+pub mod SoundStatements
+pub mod NamedFunctions
+pub mod SoundObject
+pub mod Gathering
+pub mod NumberLists
+pub mod Jumps
+pub mod Appended
+pub mod LoopPlaces
+pub mod ForCode
+pub mod EachStatement
+pub mod Conditions
+pub mod EmittingParts
+pub mod FunctionBodies
+pub mod Parameters
+pub mod FewVariables
+pub mod CountedNumbers

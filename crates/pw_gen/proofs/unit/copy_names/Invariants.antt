@@ -1,0 +1,6 @@
+-- The copies made so far are the first names.
+use Rattle.std.proofs.Common.{◌≡◌, take}
+use Rattle.pw_gen.proofs.unit.copy_names.Given as goal
+
+abbrev pub invariant-loop-name : goal.invariant-loop-name
+invariant-loop-name l = l.copies ≡ take l.name-index l.names

@@ -1,0 +1,3 @@
+-- What this crate promises, beside the definitions of the code scheme.
+pub mod Laws
+pub mod Steps

@@ -1,0 +1,7 @@
+pub mod Appending
+pub mod Distances
+pub mod Held
+pub mod Arguments
+pub mod Trees
+pub mod Emitting
+pub mod Whole

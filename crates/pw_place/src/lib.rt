@@ -1,0 +1,14 @@
+//! Placing: objects are merged into the parts of one module.
+//!
+//! The functions stand one after another, a program's entry first; each external name that the code refers to has a slot at
+//! the start of the data, the variables follow, and every reference is resolved to a slot or to the definition itself. Where
+//! that can't be done, the first fault is reported.
+#![tactic(auto)]
+
+mod distance;
+mod link_error;
+mod placed;
+
+pub use distance::hi_lo;
+pub use link_error::{LinkError, What};
+pub use placed::Placed;

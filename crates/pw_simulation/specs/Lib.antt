@@ -1,0 +1,14 @@
+-- What a run of a project's image has to do with what the project means: the world of a run, code at a place, the memory, values
+-- and the machine's state at each moment; when a world shows a project; the function whose body runs, and calls. Then the laws.
+pub mod World
+pub mod CodeAt
+pub mod Memories
+pub mod Values
+pub mod Moments
+pub mod Sees
+pub mod Bodies
+pub mod Calls
+pub mod Straight
+pub mod Laws
+pub mod Tables
+pub mod Witness

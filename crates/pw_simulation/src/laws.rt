@@ -1,0 +1,42 @@
+//! The laws of a run, over definitions alone. Each is the contract of a function, which does nothing.
+
+ghost use Rattle.pw_simulation.specs.Calls.{ExpressionsRun};
+ghost use Rattle.pw_simulation.specs.Laws.{AddressesAreBrought, DoublewordsAreLoaded, DoublewordsAreStored, FaultsStop};
+ghost use Rattle.pw_simulation.specs.Straight.{LoadImmediateLoads};
+ghost use Rattle.pw_simulation.specs.Witness.{WorldSees};
+
+/// The code that loads a number leaves it in its register, whatever number of 64 bits it is.
+pub fn load_immediate_loads()
+    ensures { LoadImmediateLoads }
+{}
+
+/// A pair of instructions brings the address of what a name means: by its slot, or of the unit's own definition.
+pub fn addresses_are_brought()
+    ensures { AddressesAreBrought }
+{}
+
+/// The code of a checked fault ends the run, with the fault's kind and line, inside the function that it stands in.
+pub fn faults_stop()
+    ensures { FaultsStop }
+{}
+
+/// A doubleword of memory is loaded into a register.
+pub fn doublewords_are_loaded()
+    ensures { DoublewordsAreLoaded }
+{}
+
+/// A register is stored in a doubleword of memory.
+pub fn doublewords_are_stored()
+    ensures { DoublewordsAreStored }
+{}
+
+/// If calls do what they mean, the code of an expression does what the expression comes to.
+pub fn expressions_run()
+    ensures { ExpressionsRun }
+{}
+
+/// There is a world that shows a project, with a variable, function values in it, a loop, an index and a call through a
+/// pointer: the laws about worlds are not empty.
+pub fn a_world_shows_a_project()
+    ensures { WorldSees }
+{}

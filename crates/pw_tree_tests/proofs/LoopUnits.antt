@@ -1,0 +1,89 @@
+-- Units with an endless loop, and with one that is left, are well typed.
+use Rattle.std.proofs.Common.{[], refl, arith, inl, inr}
+use Rattle.std.specs.List.{IsDistinct}
+use Rattle.pw_tree.specs.Types.{AreValueTypes}
+use Rattle.pw_tree.specs.Held.{held, held_by}
+use Rattle.pw_tree.specs.WellTypedExpressions.{Throughout, AreNumbers, ArgumentsFit, expressions_in}
+use Rattle.pw_tree.specs.WellTypedStatements.{Everywhere, StatementReads, LeavesLoops, phrases_in}
+use Rattle.pw_tree.specs.WellTypedUnits.{below, IsWellTyped}
+use Rattle.pw_tree_tests.specs.LoopUnits.{dots, one_break}
+
+pub dots_is_well_typed : IsWellTyped dots
+unfolding IsDistinct AreValueTypes held held_by Throughout AreNumbers ArgumentsFit Everywhere StatementReads LeavesLoops phrases_in expressions_in below
+dots_is_well_typed = record {
+  definitions_differ = (tt, tt);
+  names_differ = (tt, tt);
+  texts = (
+    inr (inl (record { result = 108; params = []; spelled = refl; typed = refl; valued = refl; few = omega arith })),
+    tt,
+  );
+  functions_named = ((λ e. refl), tt);
+  variables_named = tt;
+  few_elements = omega arith;
+  functions = (
+    record {
+      signature = record { result = tt; params = tt; few = omega arith };
+      line = omega arith;
+      few_locals = omega arith;
+      few_held = omega arith;
+      few_phrases = omega arith;
+      held = refl;
+      parameters = omega arith;
+      classes = [];
+      are_classes = record { each = refl; values = tt; parameters = refl };
+      fits = (
+        (record { classes_fit = tt; parts = refl }, (record { classes_fit = tt; parts = tt }, (record { classes_fit = tt; parts = ((refl, refl), refl) }, tt))),
+        (record { classes_fit = (tt, refl); parts = refl }, tt),
+      );
+      reads = ((tt, ((tt, tt), tt)), (tt, tt));
+      loops = ((tt, tt), (tt, tt));
+      simple_parts = ((tt, (tt, (tt, tt))), (tt, tt));
+      numbers = (
+        (record { line = tt; expressions = record { line = omega arith; value = omega arith } }, (record { line = tt; expressions = tt }, (record { line = tt; expressions = (record { line = omega arith; value = tt }, record { line = omega arith; value = omega arith }) }, tt))),
+        (record { line = tt; expressions = record { line = omega arith; value = omega arith } }, tt),
+      );
+    },
+    tt,
+  );
+  variables = tt;
+}
+
+pub one_break_is_well_typed : IsWellTyped one_break
+unfolding IsDistinct AreValueTypes held held_by Throughout AreNumbers ArgumentsFit Everywhere StatementReads LeavesLoops phrases_in expressions_in below
+one_break_is_well_typed = record {
+  definitions_differ = (tt, tt);
+  names_differ = (tt, tt);
+  texts = (
+    inr (inl (record { result = 108; params = []; spelled = refl; typed = refl; valued = refl; few = omega arith })),
+    tt,
+  );
+  functions_named = ((λ e. refl), tt);
+  variables_named = tt;
+  few_elements = omega arith;
+  functions = (
+    record {
+      signature = record { result = tt; params = tt; few = omega arith };
+      line = omega arith;
+      few_locals = omega arith;
+      few_held = omega arith;
+      few_phrases = omega arith;
+      held = refl;
+      parameters = omega arith;
+      classes = [];
+      are_classes = record { each = refl; values = tt; parameters = refl };
+      fits = (
+        (record { classes_fit = tt; parts = refl }, (record { classes_fit = tt; parts = tt }, (record { classes_fit = tt; parts = tt }, tt))),
+        (record { classes_fit = (tt, refl); parts = refl }, tt),
+      );
+      reads = ((tt, (tt, tt)), (tt, tt));
+      loops = ((refl, tt), (tt, tt));
+      simple_parts = ((tt, (tt, (tt, tt))), (tt, tt));
+      numbers = (
+        (record { line = tt; expressions = record { line = omega arith; value = omega arith } }, (record { line = tt; expressions = tt }, (record { line = tt; expressions = tt }, tt))),
+        (record { line = tt; expressions = record { line = omega arith; value = omega arith } }, tt),
+      );
+    },
+    tt,
+  );
+  variables = tt;
+}

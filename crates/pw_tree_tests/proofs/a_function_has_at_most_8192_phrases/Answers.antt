@@ -1,5 +1,0 @@
-use Rattle.pw_tree_tests.proofs.IllTyped.{too_many_phrases}
-use Rattle.pw_tree_tests.proofs.a_function_has_at_most_8192_phrases.Goals as goal
-
-pub returns : goal.returns
-returns c = too_many_phrases

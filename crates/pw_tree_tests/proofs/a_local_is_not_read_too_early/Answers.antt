@@ -1,5 +1,0 @@
-use Rattle.pw_tree_tests.proofs.IllTyped.{read_too_early}
-use Rattle.pw_tree_tests.proofs.a_local_is_not_read_too_early.Goals as goal
-
-pub returns : goal.returns
-returns c = read_too_early

@@ -1,5 +1,0 @@
-use Rattle.pw_tree_tests.proofs.IllTyped.{number_for_pointer}
-use Rattle.pw_tree_tests.proofs.a_number_is_no_pointer.Goals as goal
-
-pub returns : goal.returns
-returns c = number_for_pointer

@@ -1,5 +1,0 @@
-use Rattle.pw_tree_tests.proofs.IllTyped.{number_called}
-use Rattle.pw_tree_tests.proofs.a_number_is_not_called.Goals as goal
-
-pub returns : goal.returns
-returns c = number_called

@@ -1,5 +1,0 @@
-use Rattle.pw_tree_tests.proofs.IllTyped.{parameter_without_local}
-use Rattle.pw_tree_tests.proofs.a_parameter_is_a_local.Goals as goal
-
-pub returns : goal.returns
-returns c = parameter_without_local

@@ -1,5 +1,0 @@
-use Rattle.pw_tree_tests.proofs.IllTyped.{variable_called}
-use Rattle.pw_tree_tests.proofs.a_variable_is_not_called.Goals as goal
-
-pub returns : goal.returns
-returns c = variable_called

@@ -1,5 +1,0 @@
-use Rattle.pw_tree_tests.proofs.IllTyped.{external_by_number}
-use Rattle.pw_tree_tests.proofs.an_external_function_goes_by_its_name.Goals as goal
-
-pub returns : goal.returns
-returns c = external_by_number

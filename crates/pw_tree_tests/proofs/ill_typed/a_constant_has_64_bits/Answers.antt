@@ -1,0 +1,5 @@
+use Rattle.pw_tree_tests.proofs.IllTyped.{wide_constant}
+use Rattle.pw_tree_tests.proofs.ill_typed.a_constant_has_64_bits.Goals as goal
+
+pub returns : goal.returns
+returns c = wide_constant

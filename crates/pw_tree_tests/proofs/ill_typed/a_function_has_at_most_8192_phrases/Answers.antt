@@ -1,0 +1,5 @@
+use Rattle.pw_tree_tests.proofs.IllTyped.{too_many_phrases}
+use Rattle.pw_tree_tests.proofs.ill_typed.a_function_has_at_most_8192_phrases.Goals as goal
+
+pub returns : goal.returns
+returns c = too_many_phrases

@@ -1,0 +1,5 @@
+use Rattle.pw_tree_tests.proofs.IllTyped.{name_twice}
+use Rattle.pw_tree_tests.proofs.ill_typed.a_name_stands_once.Goals as goal
+
+pub returns : goal.returns
+returns c = name_twice

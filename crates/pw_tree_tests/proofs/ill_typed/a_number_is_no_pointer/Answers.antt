@@ -1,0 +1,5 @@
+use Rattle.pw_tree_tests.proofs.IllTyped.{number_for_pointer}
+use Rattle.pw_tree_tests.proofs.ill_typed.a_number_is_no_pointer.Goals as goal
+
+pub returns : goal.returns
+returns c = number_for_pointer

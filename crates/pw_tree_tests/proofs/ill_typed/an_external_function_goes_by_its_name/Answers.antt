@@ -1,0 +1,5 @@
+use Rattle.pw_tree_tests.proofs.IllTyped.{external_by_number}
+use Rattle.pw_tree_tests.proofs.ill_typed.an_external_function_goes_by_its_name.Goals as goal
+
+pub returns : goal.returns
+returns c = external_by_number

@@ -1,0 +1,5 @@
+use Rattle.pw_tree_tests.proofs.IllTyped.{external_without_name}
+use Rattle.pw_tree_tests.proofs.ill_typed.an_external_function_has_its_name.Goals as goal
+
+pub returns : goal.returns
+returns c = external_without_name

@@ -1,0 +1,5 @@
+use Rattle.pw_tree_tests.proofs.IllTyped.{initialiser_too_long}
+use Rattle.pw_tree_tests.proofs.ill_typed.an_initialiser_fits_its_variable.Goals as goal
+
+pub returns : goal.returns
+returns c = initialiser_too_long
