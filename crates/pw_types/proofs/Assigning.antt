@@ -33,7 +33,7 @@ use Rattle.pw_types.specs.Statements.{faults_of_target, faults_of_array, type_of
 use Rattle.pw_types.specs.Steps.StatementFaults.{faults_by}
 use Rattle.pw_types.specs.TypedStatements.{typed_expression, typed_statement, assigned, element_assigned, bracket_line}
 use Rattle.pw_types.specs.Steps.CheckingStatements.{WalkResult, block_of, outcome_at, judged_at, setting_of}
-use Rattle.pw_types.specs.Steps.StatementValues.{Notes, IsValue}
+use Rattle.pw_types.specs.Steps.StatementValues.{Notes, IsJudgedValue}
 use Rattle.pw_types.specs.Steps.StatementTargets.{IsFile, IsLocal, IsArray, IsIndex, IsElementValue, faults_of_index, faults_of_element_value, holds_too_many_beside}
 use Rattle.pw_types.proofs.EnclosingStatements.{same, on_left, tree_is}
 use Rattle.pw_types.proofs.SimpleStatements.{noted}
@@ -71,7 +71,7 @@ faults_at scope ty e end = faults scope (roles.Assigned ty) e ++ broken rules.To
 
 pub sets_local : (x : Given) (old new : Walk) (at : Span) (name : List ℕ) (e : Expression) (n : ℕ) (ty : Ty) (t : TExpr)
     → faults_of_target old.scope name at.first ≡ [] → IsLocal old.scope name n ty
-    → faults_at old.scope (Some ty) e (set_end x.in_head at) ≡ [] → IsValue e old new t
+    → faults_at old.scope (Some ty) e (set_end x.in_head at) ≡ [] → IsJudgedValue e old new t
     → outcome_at x old (set at name None e) ≡ judged_at (tree.typed_statement_of (kinds.SetLocal n (Some t))) new
 unfolding faults_by typed_statement uses_by held_by
 sets_local x old new at name e n ty t free target none value =
@@ -89,7 +89,7 @@ sets_local x old new at name e n ty t free target none value =
 
 pub sets_variable : (x : Given) (old mid new : Walk) (at : Span) (name : List ℕ) (e : Expression) (n : ℕ) (r : Ref) (ty : Ty) (t : TExpr)
     → faults_of_target old.scope name at.first ≡ [] → IsFile old.scope name n r ty None → Notes (n ∷ []) 0 old mid
-    → faults_at mid.scope (Some ty) e (set_end x.in_head at) ≡ [] → IsValue e mid new t
+    → faults_at mid.scope (Some ty) e (set_end x.in_head at) ≡ [] → IsJudgedValue e mid new t
     → outcome_at x old (set at name None e) ≡ judged_at (tree.typed_statement_of (kinds.SetVar r t)) new
 unfolding faults_by typed_statement uses_by held_by
 sets_variable x old mid new at name e n r ty t free target note none value =

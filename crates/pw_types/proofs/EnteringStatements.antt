@@ -24,7 +24,7 @@ use Rattle.pw_types.specs.declared.statement_step.StatementForm.TheVariants as f
 use Rattle.pw_types.specs.Blocks.{Setting, body, head, Block}
 use Rattle.pw_types.specs.Steps.StatementFaults.{faults_of_whole, faults_of_option, faults_by}
 use Rattle.pw_types.specs.Steps.CheckingStatements.{WalkResult, outcome, block_of, outer_at, outcome_at, judged_at, setting_of, resumed_at, leave, after_first_at, typed_maybe, block_at}
-use Rattle.pw_types.specs.Steps.StatementValues.{Notes, IsValue, IsMaybeValue, JudgesValue, JudgesMaybeValue}
+use Rattle.pw_types.specs.Steps.StatementValues.{Notes, IsJudgedValue, IsMaybeValue, JudgesValue, JudgesMaybeValue}
 use Rattle.pw_types.proofs.EnclosingStatements.{tree_is, block_begins, block_of_none, if_begins, while_begins, do_begins, for_begins, for_begins_bare, for_goes_on, for_has_no_last}
 use Rattle.pw_types.proofs.Failing.{fails_of, fails_on_left}
 use Rattle.pw_types.specs.Steps.Refusals.{Fails}
@@ -33,7 +33,7 @@ use Rattle.pw_types.specs.Steps.Refusals.{Fails}
 
 pub value_fails : (role : Role) (e : Expression) (old new : Walk) (stop : Refusal) → JudgesValue role e old new (Err stop)
     → Fails (faults_of_whole old.scope role e) stop
-value_fails role e old new stop is = fails_of {A = TExpr} (faults_of_whole old.scope role e) (IsValue e old new) stop is
+value_fails role e old new stop is = fails_of {A = TExpr} (faults_of_whole old.scope role e) (IsJudgedValue e old new) stop is
 
 pub maybe_value_fails : (role : Role) (e : Option Expression) (old new : Walk) (stop : Refusal) → JudgesMaybeValue role e old new (Err stop)
     → Fails (faults_of_option old.scope role e) stop
@@ -68,7 +68,7 @@ entered form o x x' y us k old new s notes o_is x_is =
     ∙ ap (λ (z : Given). resumed_at o form (outcome_at z new s)) (sym x_is))
 
 pub enters_if : (x x' : Given) (o : Outer) (old new : Walk) (at : Span) (c : Expression) (a : Stmt) (d : Bor (Option Stmt)) (t : TExpr)
-    → faults_of_whole old.scope roles.Value c ≡ [] → IsValue c old new t → o ≡ outer_at x new → x' ≡ record x { in_head = false }
+    → faults_of_whole old.scope roles.Value c ≡ [] → IsJudgedValue c old new t → o ≡ outer_at x new → x' ≡ record x { in_head = false }
     → outcome_at x old (if_else at c (statement_of a) (optional_statement (option_map statement_of d.now)))
     ≡ resumed_at o (forms.Then t d) (outcome_at x' new (statement_of a))
 enters_if x x' o old new at c a d t none value o_is x_is =
@@ -76,7 +76,7 @@ enters_if x x' o old new at c a d t none value o_is x_is =
     ∙ entered (forms.Then t d) o x x' (record x { in_head = false }) _ _ old new (statement_of a) value.notes o_is x_is
 
 pub enters_while : (x x' : Given) (o : Outer) (old new : Walk) (at : Span) (c : Expression) (s : Stmt) (t : TExpr)
-    → faults_of_whole old.scope roles.Value c ≡ [] → IsValue c old new t → o ≡ outer_at x new → x' ≡ record x { in_loop = true; in_head = false }
+    → faults_of_whole old.scope roles.Value c ≡ [] → IsJudgedValue c old new t → o ≡ outer_at x new → x' ≡ record x { in_loop = true; in_head = false }
     → outcome_at x old (while_loop at c (statement_of s)) ≡ resumed_at o (forms.While t) (outcome_at x' new (statement_of s))
 enters_while x x' o old new at c s t none value o_is x_is =
     while_begins (setting_of x) (block_of old) old.used.items old.held at c (statement_of s) (typed_expression_of t) none (tree_is old.scope c (typed_expression_of t) value.tree)

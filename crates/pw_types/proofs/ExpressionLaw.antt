@@ -19,7 +19,7 @@ use Rattle.pw_types.specs.Steps.Uses.{uses, uses_of_all}
 use Rattle.pw_types.specs.Expressions.{is_base, own, callee_in}
 use Rattle.pw_types.specs.Steps.ExpressionFaults.{faults, faults_of_arguments, unless_direct}
 use Rattle.pw_types.specs.Steps.Judging.{Judge, ◌>>=◌, refuse, noting, on_option}
-use Rattle.pw_types.specs.Steps.CheckingExpressions.{Valued, Taken, none_taken, pointer_parameters, pointer_call, direct_call, fault_under, head, Aim, named, through, Calling, calling, unary_value, binary_value, choice_value, element_value, output_value, taking, first_wanted, others_wanted, checked, checked_arguments}
+use Rattle.pw_types.specs.Steps.CheckingExpressions.{Valued, Taken, none_taken, pointer_parameters, pointer_call, direct_call, fault_under, head, Aim, named, through, Calling, calling, unary_operation_value, binary_operation_value, choice_value, element_value, output_value, taking, first_wanted, others_wanted, checked, checked_arguments}
 use Rattle.pw_types.proofs.JudgedPhrases.{full, Judged, bind, refused_base, noted, no_more}
 use Rattle.pw_types.proofs.OwnRules.{rules_of, by_rules}
 use Rattle.pw_types.proofs.JudgedForms.{leaf_judged, unary_judged, binary_judged, choice_judged, element_judged, output_judged}
@@ -114,13 +114,13 @@ mutual
   expression_judged scope role (word at name) h =
       by_rules scope role (word at name) (name_judged scope role at name (meaning scope name) h)
   expression_judged scope role (unary at op e) h =
-      no_more (bind role (own scope role (unary at op e)) (typed scope (unary at op e)) [] (unary_value (head role at) op) (expression_judged scope Value e no_base)
+      no_more (bind role (own scope role (unary at op e)) (typed scope (unary at op e)) [] (unary_operation_value (head role at) op) (expression_judged scope Value e no_base)
       (λ v is _. by_rules scope role (unary at op e) (unary_judged role at op (typed scope e) v is)))
   expression_judged scope role (binary at op l r) h =
       bind role (faults scope Value r ++ own scope role (binary at op l r)) (typed scope (binary at op l r)) (uses scope r)
-      (λ a. checked scope Value r >>= binary_value (head role at) op a) (expression_judged scope Value l no_base)
+      (λ a. checked scope Value r >>= binary_operation_value (head role at) op a) (expression_judged scope Value l no_base)
       (λ a left _. no_more (bind role (own scope role (binary at op l r)) (typed scope (binary at op l r)) []
-      (binary_value (head role at) op (full a)) (expression_judged scope Value r no_base)
+      (binary_operation_value (head role at) op (full a)) (expression_judged scope Value r no_base)
       (λ b right _. by_rules scope role (binary at op l r) (binary_judged role at op (typed scope l) (typed scope r) a b left right))))
   expression_judged scope role (conditional at c a b) h =
       let e : Expression = conditional at c a b in

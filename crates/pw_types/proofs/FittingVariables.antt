@@ -28,7 +28,6 @@ use Rattle.pw_types.specs.Faults.{broken, broken_by}
 use Rattle.pw_types.specs.Scopes.{Scope, Meaning, missing, a_local, declared, meaning, function_reference}
 use Rattle.pw_types.specs.Typed.{Designated, function_named, function_of_meaning, function_of_kind}
 use Rattle.pw_types.specs.Steps.Uses.{uses_of_meaning, uses_of_name, file_number, uses_of_element, uses_of_elements, uses_of_initialiser}
-use Rattle.pw_types.specs.Declarations as declarations
 use Rattle.pw_types.specs.Declarations.{is_extern, defines, elements_of_form, elements_of, is_too_large, points_to, does_not_initialise, name_in, is_unknown_name, is_wrong_element, faults_of_element, Whole, file_scope, declared_by}
 use Rattle.pw_types.specs.Steps.UnitFaults.{faults_of_elements, faults_of_initialiser, faults_of_declaration, faults_of_declarations}
 use Rattle.pw_types.specs.Units.{designated_or, element_of, elements_in, typed_variable, typed_variables_of, typed_variables}
@@ -96,10 +95,6 @@ module _ (unit : TypedUnit) (used : List ℕ) (scope : Scope) (fit : FilesFit un
         (one_element item.kind small.0 (or_left _ _ wrong) (among_left used (uses_of_element scope item.kind) (uses_of_elements scope items) u), later.1),
       )
 
-same_room : (size : Option ℕ) → declarations.room size ≡ room size
-same_room None = refl
-same_room (Some n) = refl
-
 -- ---- variables
 
 module _ (unit : TypedUnit) (used : List ℕ) (w : Whole) (files : List File) (d : Declaration) (ty : Ty) (size : Option ℕ)
@@ -109,11 +104,11 @@ module _ (unit : TypedUnit) (used : List ℕ) (w : Whole) (files : List File) (d
       IsWellTypedVariable unit (typed_variable w files d ty size items)
   variable_well_typed None text none small u = record { type = text.0; size = text.1; initialiser = tt }
   variable_well_typed (Some items) text none small u =
-      let r = elements_fit unit used (file_scope w files) fit ty text.0 (declarations.room size) 0 items (omega arith) none small u in
+      let r = elements_fit unit used (file_scope w files) fit ty text.0 (room size) 0 items (omega arith) none small u in
       record {
         type = text.0;
         size = text.1;
-        initialiser = (omega (arith, r.0, same_room size), r.1);
+        initialiser = (omega (arith, r.0), r.1);
       }
 
 -- ---- how many elements

@@ -29,7 +29,8 @@ use Rattle.pw_types.specs.Scopes.{Scope, Meaning, missing, a_local, declared, me
 use Rattle.pw_types.specs.Blocks.{Setting, Block}
 use Rattle.pw_types.specs.TypedStatements.{typed_statements}
 use Rattle.pw_types.specs.Typed.{function_of_meaning, function_of_kind}
-use Rattle.pw_types.specs.Declarations.{is_extern, points_to, does_not_initialise, is_unknown_name, name_in, is_wrong_element, faults_of_element, room, outermost, setting, declared_by, elements_of, Whole, file_scope}
+use Rattle.pw_tree.specs.WellTypedUnits.{room}
+use Rattle.pw_types.specs.Declarations.{is_extern, points_to, does_not_initialise, is_unknown_name, name_in, is_wrong_element, faults_of_element, outermost, setting, declared_by, elements_of, Whole, file_scope}
 use Rattle.pw_types.specs.Units.{whole_of, files_after, designated_or, element_of, elements_in, typed_function, typed_variable, typed_functions_of, typed_variables_of, typed_functions, typed_variables, refers_to, is_kept, external_name, external_names, definitions_of, typed_unit}
 use Rattle.pw_types.specs.Steps.Uses.{file_number, uses_of_name, uses_of_element, uses_of_elements, uses_of_initialiser, uses_of_form, uses_of_declarations, is_kept_by_number, names_by_number}
 use Rattle.pw_types.specs.Steps.UnitFaults.{faults_of_elements, faults_of_initialiser, faults_of_form, faults_of_declaration, faults_of_declarations, faults_in_order}

@@ -21,7 +21,7 @@ use Rattle.pw_types.specs.Steps.Uses.{uses}
 use Rattle.pw_types.specs.Expressions.{is_base}
 use Rattle.pw_types.specs.Steps.ExpressionFaults.{faults}
 use Rattle.pw_types.specs.Steps.Judged.{JudgesExpression}
-use Rattle.pw_types.specs.Steps.Judging.{JudgeResult, Judge, and_then}
+use Rattle.pw_types.specs.Steps.Judging.{JudgeResult, Judge, judge_then}
 use Rattle.pw_types.specs.Steps.CheckingExpressions.{Valued, checked}
 use Rattle.pw_types.specs.Steps.ResumingExpressions.{valued, resumed, resume, continued, GivesWith, Continues, ContinuesWith, size, frame_size, step_size, frames_size}
 use Rattle.pw_types.proofs.JudgedPhrases.{full, Judged, sound, faulty}
@@ -31,16 +31,16 @@ use Rattle.pw_types.proofs.ExpressionLaw.{expression_judged}
 
 -- the innermost frame goes on first
 pub resume_last : (scope : Scope) (fs : List ExpressionFrame) (f : ExpressionFrame) (o : JudgeResult Valued)
-    → resume scope (fs ++ f ∷ []) o ≡ resume scope fs (and_then o (resumed scope f))
+    → resume scope (fs ++ f ∷ []) o ≡ resume scope fs (judge_then o (resumed scope f))
 unfolding resume
 resume_last scope [] f o = refl
-resume_last scope (g ∷ fs) f o = ap (λ r. and_then r (resumed scope g)) (resume_last scope fs f o)
+resume_last scope (g ∷ fs) f o = ap (λ r. judge_then r (resumed scope g)) (resume_last scope fs f o)
 
 -- a fault is the fault of the whole
 pub resume_fault : (scope : Scope) (fs : List ExpressionFrame) (fault : Fault) → resume scope fs (Err fault) ≡ Err fault
 unfolding resume
 resume_fault scope [] fault = refl
-resume_fault scope (g ∷ fs) fault = ap (λ r. and_then r (resumed scope g)) (resume_fault scope fs fault)
+resume_fault scope (g ∷ fs) fault = ap (λ r. judge_then r (resumed scope g)) (resume_fault scope fs fault)
 
 pub size_last : (fs : List ExpressionFrame) (f : ExpressionFrame) → frames_size (fs ++ f ∷ []) ≡ frames_size fs + frame_size f
 unfolding frames_size

@@ -24,7 +24,7 @@ use Rattle.pw_types.specs.Steps.StatementWeights.{weight_of_form, weight_of_step
 use Rattle.pw_types.specs.Blocks.{Block}
 use Rattle.pw_types.specs.Steps.StatementFaults.{faults_of_whole}
 use Rattle.pw_types.specs.Steps.CheckingStatements.{WalkResult, judged, block_of, outcome_at, judged_at, setting_of, resumed_at, leave, block_at, rest_of_block, rest_of_if, rest_of_do, Leaves, Finishes, Steps, resumed, IsWhole}
-use Rattle.pw_types.specs.Steps.StatementValues.{IsValue, JudgesValue}
+use Rattle.pw_types.specs.Steps.StatementValues.{IsJudgedValue, JudgesValue}
 use Rattle.pw_types.proofs.EnclosingStatements.{same, tree_is, block_ends, block_goes_on, if_ends, if_goes_on, do_ends}
 use Rattle.pw_types.proofs.Failing.{fails_as}
 use Rattle.pw_types.proofs.SimpleStatements.{noted}
@@ -92,7 +92,7 @@ pub while_is_done : (o : Outer) (old new : Walk) (c : TExpr) (s : TStmt) → Lea
 while_is_done o old new c s left = left_as o _ _ old new (sym (command_of-While c s)) left
 
 pub do_is_done : (o : Outer) (old mid new : Walk) (c : Expression) (s : TStmt) (t : TExpr) → Leaves o old mid
-    → faults_of_whole mid.scope roles.Value c ≡ [] → IsValue c mid new t
+    → faults_of_whole mid.scope roles.Value c ≡ [] → IsJudgedValue c mid new t
     → rest_of_do (leave o.start o.visible) c (judged_at (tree.typed_statement_of s) old) ≡ judged_at (tree.typed_statement_of (kinds.Do s t)) new
 do_is_done o old mid new c s t left none value =
     ap (λ (b : Block). of_block b old.used.items old.held) (sym left.block)

@@ -25,7 +25,7 @@ use Rattle.pw_types.specs.Statements.{returns_other}
 use Rattle.pw_types.specs.Steps.StatementFaults.{faults_of_whole, faults_by}
 use Rattle.pw_types.specs.TypedStatements.{typed_statement}
 use Rattle.pw_types.specs.Steps.CheckingStatements.{WalkResult, judged, block_of, outcome_at, judged_at}
-use Rattle.pw_types.specs.Steps.StatementValues.{Notes, IsValue}
+use Rattle.pw_types.specs.Steps.StatementValues.{Notes, IsJudgedValue}
 use Rattle.pw_types.proofs.EnclosingStatements.{same, on_left, tree_is}
 use Rattle.pw_types.proofs.TreeTypes.{type_is}
 
@@ -44,7 +44,7 @@ both_none : {xs ys : List Fault} → xs ≡ [] → ys ≡ [] → xs ++ ys ≡ []
 both_none {ys} first second = on_left first ∙ second
 
 pub evaluates : (x : Given) (old new : Walk) (at : Span) (e : Expression) (t : TExpr)
-    → faults_of_whole old.scope roles.Statement e ≡ [] → IsValue e old new t
+    → faults_of_whole old.scope roles.Statement e ≡ [] → IsJudgedValue e old new t
     → outcome_at x old (evaluate at e) ≡ judged_at (tree.typed_statement_of (kinds.Eval t)) new
 unfolding faults_by typed_statement uses_by held_by
 evaluates x old new at e t none value =
@@ -75,14 +75,14 @@ returns_none x old at void =
     ∙ (unnoted (tree.returns None) old ∙ ap (λ (c : TypedStatement). judged_at c old) (sym (command_of-Return None)))
 
 -- whether a value is returned at another type
-other_result : (result : Ty) (old new : Walk) (e : Expression) (t : TExpr) → IsValue e old new t
+other_result : (result : Ty) (old new : Walk) (e : Expression) (t : TExpr) → IsJudgedValue e old new t
     → returns_other result old.scope (Some e) ≡ is_void result || not (converts (out-TExpr t).ty result)
 other_result result old new e t value =
     ap (λ (o : Option TypedExpression). has_type (λ ty. is_void result || not (converts ty result)) o) value.tree
     ∙ ap (λ (ty : Ty). is_void result || not (converts ty result)) (type_is t)
 
 pub returns_value : (x : Given) (old new : Walk) (at : Span) (e : Expression) (t : TExpr)
-    → faults_of_whole old.scope roles.Value e ≡ [] → IsValue e old new t → is_void x.result ≡ false → converts (out-TExpr t).ty x.result ≡ true
+    → faults_of_whole old.scope roles.Value e ≡ [] → IsJudgedValue e old new t → is_void x.result ≡ false → converts (out-TExpr t).ty x.result ≡ true
     → outcome_at x old (returns at (Some e)) ≡ judged_at (tree.typed_statement_of (kinds.Return (Some t))) new
 unfolding faults_by typed_statement uses_by held_by
 returns_value x old new at e t none value not_void fits =

@@ -13,7 +13,8 @@ use Rattle.pw_types.specs.declared.fault.Fault.{Fault}
 use Rattle.pw_types.specs.Faults.{broken, broken_by}
 use Rattle.pw_types.specs.Reserved.{is_reserved}
 use Rattle.pw_types.specs.Scopes.{Scope, file_named}
-use Rattle.pw_types.specs.Declarations.{faults_of_parameter_name, local_of, parameters_in, is_definition_of_function, conflicts, elements_of, is_too_large, room, outermost, setting, declared_by, is_redefined, Whole, file_scope}
+use Rattle.pw_tree.specs.WellTypedUnits.{room}
+use Rattle.pw_types.specs.Declarations.{faults_of_parameter_name, local_of, parameters_in, is_definition_of_function, conflicts, elements_of, is_too_large, outermost, setting, declared_by, is_redefined, Whole, file_scope}
 use Rattle.pw_types.specs.Steps.UnitFaults.{faults_of_parameters, faults_of_elements, faults_of_form, faults_of_declaration, faults_of_declarations, faults_in_order}
 use Rattle.pw_types.specs.Units.{whole_of, files_after, lacks_definition, faults_of_lacking}
 use Rattle.pw_types.specs.Nests.{parameters, elements, form, declarator, declaration, declarations, unit}

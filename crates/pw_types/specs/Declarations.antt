@@ -187,11 +187,6 @@ faults_of_element scope ty size number item =
     broken_by rules.Unknown item.last (name_in item.kind) (is_unknown_name scope item.kind)
     ++ broken rules.Initialiser item.last (is_wrong_element scope ty size number item.kind)
 
--- a variable that is no array has one element
-abbrev pub room : Option ℕ → ℕ
-room None = 1
-room (Some size) = size
-
 -- ---- after the declarator
 
 -- parameters belong to the outermost block of the body

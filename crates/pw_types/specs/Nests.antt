@@ -21,7 +21,8 @@ use Rattle.pw_types.specs.Typed.{Designated, typed, array_named, function_of, pa
 use Rattle.pw_types.specs.Expressions.{end_of, own, callee_in, first_parameter, other_parameters}
 use Rattle.pw_types.specs.Blocks.{Setting, part, body, head, Block, inner, after, after_maybe}
 use Rattle.pw_types.specs.Statements.{holds_too_many, has_other_index, set_holds_too_many, set_element_holds_too_many, is_outside_loop, faults_of_name, type_of_target, faults_of_target, faults_of_array, returns_other}
-use Rattle.pw_types.specs.Declarations.{Whole, is_parameter_too_many, file_scope, faults_of_parameter_name, local_of, parameters_in, is_definition_of_function, conflicts, is_redefined, is_too_large, elements_of, faults_of_element, room, outermost, setting, declared_by}
+use Rattle.pw_tree.specs.WellTypedUnits.{room}
+use Rattle.pw_types.specs.Declarations.{Whole, is_parameter_too_many, file_scope, faults_of_parameter_name, local_of, parameters_in, is_definition_of_function, conflicts, is_redefined, is_too_large, elements_of, faults_of_element, outermost, setting, declared_by}
 use Rattle.pw_types.specs.Units.{whole_of, files_after, lacks_definition, faults_of_lacking}
 
 -- A phrase: its parts in order of text, and the faults of its own.

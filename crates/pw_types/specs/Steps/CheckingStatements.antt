@@ -164,8 +164,8 @@ resume (f ∷ fs) w = resume fs (resumed f w)
 
 -- ---- what judging answers
 
-abbrev pub place_of : StatementSpan → Span
-place_of at = record { first = at.first; last = at.last; line = at.line }
+abbrev pub span_of_statement : StatementSpan → Span
+span_of_statement at = record { first = at.first; last = at.last; line = at.line }
 
 abbrev pub block_of : Walk → Block
 block_of w = record { scope = w.scope; start = w.start; count = w.count }

@@ -24,7 +24,7 @@ pub record IsDeclared (scope : Scope) (name : List ℕ) (n : ℕ) (f : Declared)
   pub name_is : f.name ≡ name
 
 -- what a name means
-abbrev pub Means : Scope → List ℕ → Found → Type 0
-Means scope name Missing = meaning scope name ≡ missing
-Means scope name (Local l) = meaning scope name ≡ a_local l.now
-Means scope name (File n f) = IsDeclared scope name n f.now
+abbrev pub FindsMeaning : Scope → List ℕ → Found → Type 0
+FindsMeaning scope name Missing = meaning scope name ≡ missing
+FindsMeaning scope name (Local l) = meaning scope name ≡ a_local l.now
+FindsMeaning scope name (File n f) = IsDeclared scope name n f.now
