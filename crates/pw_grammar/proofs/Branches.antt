@@ -5,7 +5,7 @@ use Rattle.pw_grammar.specs.contracts.sort.Sort.{the_type}
 use Rattle.pw_grammar.specs.declared.sort.Sort.{Sort}
 use Rattle.pw_grammar.specs.declared.error.SyntaxError.TheVariants.{At}
 use Rattle.pw_grammar.specs.Terminals.{first_sort, is_same}
-use Rattle.pw_grammar.specs.Reading.Steps.{Position, Parser, and_then, ◌>>=◌, pure, refuse, next_sort}
+use Rattle.pw_grammar.specs.Reading.Steps.{Position, Parser, read_then, ◌>>=◌, pure, refuse, next_sort}
 use Rattle.pw_grammar.proofs.Lawful.{Language, Agree, GoesOn, Says, Same, Lawful, Within, Lax, says_within, Seq, Shrinks, same_passed, near_or_far, leads_nowhere, says_both, same_both, settled_both}
 use Rattle.pw_lex.specs.declared.token.Token.{Token}
 
@@ -156,7 +156,7 @@ lawful_option {A} {B} h n L F G none_ some_ can = record {
 pub keeps_bind_from : {A B : Type 0} (c : Sort → Type 0) (m n : ℕ) (L : Language A) (M : A → Language B) (p q : Parser A) (f g : A → Parser B)
     → Lax L → Keeps c m L p q → ((a : A) → Lawful n (M a) (f a) (g a)) → Shrinks m n p → Keeps c m (Seq L M) (p >>= f) (q >>= g)
 keeps_bind_from c m n L M p q f g lax first second shrinks = record {
-  settled = λ i h short. settled_both f g n (p i) (λ a j left. (second a).settled j left) (shrinks i short) ∙ ap (λ o. and_then o g) (first.settled i h short);
+  settled = λ i h short. settled_both f g n (p i) (λ a j left. (second a).settled j left) (shrinks i short) ∙ ap (λ o. read_then o g) (first.settled i h short);
   says = λ i h. says_both L M lax f (λ a j. (second a).says j) (λ a at. (second a).can at) i (p i) (first.says i h);
   steady = λ k i j h same. same_both L M f k (p i) (p j) (λ a l. (second a).says l) (λ a l o. (second a).steady k l o) (first.steady k i j h same);
 }

@@ -4,11 +4,11 @@ use Rattle.std.proofs.lemmas.List.{append_assoc, append-nil, length-append}
 use Rattle.pw_grammar.specs.declared.sort.Sort.{Sort}
 use Rattle.pw_grammar.specs.declared.sort.Sort.TheVariants as s
 use Rattle.pw_grammar.specs.Terminals.{sort, first_sort}
-use Rattle.pw_grammar.specs.Expressions.{value_in, IsConstant}
+use Rattle.pw_grammar.specs.Expressions.{value_in, IsConstantSymbol}
 use Rattle.pw_grammar.specs.Statements.{first_line}
 use Rattle.pw_grammar.specs.Declarations as dc
 use Rattle.pw_grammar.specs.Declarations.{ElementDerivation, spelled_element, IsElement, kind_of_element, element_of, MoreElements, spelled_more_elements, AreMoreElements, more_elements_of, VariableDerivation, spelled_variable, IsExtent, IsSizeAndInitialiser, HasNoValue, MayHave, count_in, extent, elements_of, linkage_of, linkage_by}
-use Rattle.pw_grammar.specs.Reading.Steps.{Position, Parser, and_then, ◌>>=◌, pure, refuse, next_sort, sees, take, skip, either}
+use Rattle.pw_grammar.specs.Reading.Steps.{Position, Parser, read_then, ◌>>=◌, pure, refuse, next_sort, sees, take, skip, either}
 use Rattle.pw_grammar.specs.Reading.Declarations as rd
 use Rattle.pw_grammar.proofs.CompleteTokens.{spot, then_, counted, done, valued, step_skip, step_take, step_expect, step_name, sees_it, sees_other, either_this, either_other, behind, parted, fits}
 use Rattle.pw_grammar.proofs.CompleteStatements.{no_other}
@@ -21,18 +21,18 @@ use Rattle.pw_lex.specs.declared.token.Token.{Token}
 
 -- ---- elements
 
-sees_constant : (j : Position) → IsConstant (next_sort j) → (sees s.Number j || sees s.Character j) ≡ true
+sees_constant : (j : Position) → IsConstantSymbol (next_sort j) → (sees s.Number j || sees s.Character j) ≡ true
 sees_constant j (inl e) = ap (λ b. b || sees s.Character j) (sees_it s.Number j e)
 sees_constant j (inr e) = ap (λ b. b || sees s.Character j) (sees_other s.Number j (no_other e (λ p. cc))) ∙ sees_it s.Character j e
 
-step_constant : (at : ℕ) (t : Token) (ts : List Token) → IsConstant (sort t) → rd.constant_value (spot at (t ∷ ts)) ≡ Ok (value_in t.kind, spot (suc at) ts)
+step_constant : (at : ℕ) (t : Token) (ts : List Token) → IsConstantSymbol (sort t) → rd.constant_value (spot at (t ∷ ts)) ≡ Ok (value_in t.kind, spot (suc at) ts)
 unfolding rd.constant_value
 step_constant at t ts is =
-    ap (λ b. if b then and_then (take (spot at (t ∷ ts))) (λ t. pure (value_in t.kind)) else refuse (spot at (t ∷ ts))) (sees_constant (spot at (t ∷ ts)) is)
+    ap (λ b. if b then read_then (take (spot at (t ∷ ts))) (λ t. pure (value_in t.kind)) else refuse (spot at (t ∷ ts))) (sees_constant (spot at (t ∷ ts)) is)
     ∙ then_ _ (step_take at t ts) refl
 
 -- a constant is no such sort
-constant_no : (x y : Sort) → IsConstant x → (s.Number ≡ y → ⊥) → (s.Character ≡ y → ⊥) → x ≢ y
+constant_no : (x y : Sort) → IsConstantSymbol x → (s.Number ≡ y → ⊥) → (s.Character ≡ y → ⊥) → x ≢ y
 constant_no x y (inl e) f g = no_other e f
 constant_no x y (inr e) f g = no_other e g
 
@@ -115,10 +115,10 @@ step_more_elements (suc turns) (dc.more t x xs) found at ts is end short =
 -- ---- variables
 
 step_number : (at : ℕ) (t : Token) (ts : List Token) → sort t ≡ s.Number
-    → (if sees s.Number (spot at (t ∷ ts)) then and_then (take (spot at (t ∷ ts))) (λ t. pure (value_in t.kind)) else refuse (spot at (t ∷ ts)))
+    → (if sees s.Number (spot at (t ∷ ts)) then read_then (take (spot at (t ∷ ts))) (λ t. pure (value_in t.kind)) else refuse (spot at (t ∷ ts)))
     ≡ Ok (value_in t.kind, spot (suc at) ts)
 step_number at t ts is =
-    ap (λ b. if b then and_then (take (spot at (t ∷ ts))) (λ t. pure (value_in t.kind)) else refuse (spot at (t ∷ ts))) (sees_it s.Number (spot at (t ∷ ts)) is)
+    ap (λ b. if b then read_then (take (spot at (t ∷ ts))) (λ t. pure (value_in t.kind)) else refuse (spot at (t ∷ ts))) (sees_it s.Number (spot at (t ∷ ts)) is)
     ∙ then_ _ (step_take at t ts) refl
 
 step_size : (at : ℕ) (o n c : Token) (ts : List Token) → IsExtent o n c

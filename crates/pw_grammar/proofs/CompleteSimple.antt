@@ -35,8 +35,8 @@ out-Index a b = ap out-ExprKind (sym (e.rolls-Index a b)) ∙ out-roll-ExprKind 
 word_is : (at : ℕ) (x : Token) → r.word_of at (expression_tree at (identifier x)) ≡ Some (name_in x.kind)
 unfolding expression_tree
 word_is at x =
-    ap (λ v. r.word_at at v.first (out-ExprKind v.kind)) (out-roll-Expr (record { first = at; last = at + 1 - 1; line = x.line; kind = e.Word (name_in x.kind) }))
-    ∙ (ap (λ v. r.word_at at at v) (out-Word (name_in x.kind)) ∙ ap (λ b. if b then Some (name_in x.kind) else None) (same_number at))
+    ap (λ v. r.unbracketed_word at v.first (out-ExprKind v.kind)) (out-roll-Expr (record { first = at; last = at + 1 - 1; line = x.line; kind = e.Word (name_in x.kind) }))
+    ∙ (ap (λ v. r.unbracketed_word at at v) (out-Word (name_in x.kind)) ∙ ap (λ b. if b then Some (name_in x.kind) else None) (same_number at))
 
 target_word : (at : ℕ) (x : Token) → r.target at (expression_tree at (identifier x)) ≡ Some (name_in x.kind, None)
 unfolding r.target expression_tree

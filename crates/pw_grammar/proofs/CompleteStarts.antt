@@ -4,7 +4,7 @@ use Rattle.std.proofs.lemmas.List.{append_assoc}
 use Rattle.pw_grammar.specs.declared.sort.Sort.{Sort}
 use Rattle.pw_grammar.specs.declared.sort.Sort.TheVariants as s
 use Rattle.pw_grammar.specs.Terminals.{sort, first_sort, is_same, prefix_of}
-use Rattle.pw_grammar.specs.Expressions.{ExpressionDerivation, identifier, constant, bracketed, input, output, call, index, prefixed, binary, choice, spelled, IsAt, IsConstant}
+use Rattle.pw_grammar.specs.Expressions.{ExpressionDerivation, identifier, constant, bracketed, input, output, call, index, prefixed, binary, choice, spelled, IsAt, IsConstantSymbol}
 use Rattle.pw_grammar.specs.Statements.{type_of_keyword, SimpleDerivation, assign, assign_element, evaluate, spelled_simple, IsSimple}
 use Rattle.pw_grammar.specs.Reading.Steps.{Parser}
 use Rattle.pw_grammar.specs.Reading.Statements as r
@@ -40,7 +40,7 @@ prefix_starts _ op e = absurd (none e)
     none : None ≡ Some op → ⊥
     none p = cc
 
-constant_starts : (x : Sort) → IsConstant x → starts_expression x ≡ true
+constant_starts : (x : Sort) → IsConstantSymbol x → starts_expression x ≡ true
 constant_starts x (inl e) = ap starts_expression e
 constant_starts x (inr e) = ap starts_expression e
 

@@ -6,7 +6,7 @@ use Rattle.pw_grammar.specs.declared.sort.Sort.TheVariants as s
 use Rattle.pw_grammar.specs.Terminals.{sort, first_sort}
 use Rattle.pw_grammar.specs.Expressions.{ExpressionDerivation, spelled, IsAt, expression_tree, name_in}
 use Rattle.pw_grammar.specs.Statements.{first_line, statement_node}
-use Rattle.pw_grammar.specs.Reading.Steps.{Position, ReadResult, Parser, and_then, finish, pure, refuse, next_sort, sees, take, take_from, skip, expect, name, either, finish_statement}
+use Rattle.pw_grammar.specs.Reading.Steps.{Position, ReadResult, Parser, read_then, finish, pure, refuse, next_sort, sees, take, take_from, skip, expect, name, either, finish_statement}
 use Rattle.pw_grammar.proofs.Branches.{sorts_same, sorts_other}
 use Rattle.pw_grammar.proofs.CompleteEnds.{EndsExpression}
 use Rattle.pw_tree.specs.declared.expr.Expr.{Expr, roll-Expr}
@@ -19,8 +19,8 @@ abbrev pub spot : ℕ → List Token → Position
 spot at ts = record { at = at; rest = ts }
 
 -- one reader after another
-pub then_ : {A B : Type 0} {x : ReadResult A} {y : ReadResult B} {p : A × Position} (f : A → Parser B) → x ≡ Ok p → f p.0 p.1 ≡ y → and_then x f ≡ y
-then_ f first second = ap (λ o. and_then o f) first ∙ second
+pub then_ : {A B : Type 0} {x : ReadResult A} {y : ReadResult B} {p : A × Position} (f : A → Parser B) → x ≡ Ok p → f p.0 p.1 ≡ y → read_then x f ≡ y
+then_ f first second = ap (λ o. read_then o f) first ∙ second
 
 -- the same outcome, by another count of the tokens
 pub counted : {A : Type 0} {x : ReadResult A} {a : A} {n : ℕ} {ts : List Token} (m : ℕ) → x ≡ Ok (a, spot n ts) → n ≡ m → x ≡ Ok (a, spot m ts)
@@ -58,7 +58,7 @@ step_expect x at t ts e =
 pub step_name : (at : ℕ) (t : Token) (ts : List Token) → sort t ≡ s.Name → name (spot at (t ∷ ts)) ≡ Ok (name_in t.kind, spot (suc at) ts)
 unfolding name
 step_name at t ts e =
-    ap (λ b. if b then and_then (take (spot at (t ∷ ts))) (λ t. pure (name_in t.kind)) else refuse (spot at (t ∷ ts))) (sees_it s.Name (spot at (t ∷ ts)) e)
+    ap (λ b. if b then read_then (take (spot at (t ∷ ts))) (λ t. pure (name_in t.kind)) else refuse (spot at (t ∷ ts))) (sees_it s.Name (spot at (t ∷ ts)) e)
     ∙ then_ _ (step_take at t ts) refl
 
 pub either_this : {A : Type 0} (x : Sort) (p q : Parser A) (i : Position) → next_sort i ≡ x → either x p q i ≡ p i

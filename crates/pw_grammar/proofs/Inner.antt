@@ -4,7 +4,7 @@ use Rattle.std.proofs.lemmas.List.{append_assoc}
 use Rattle.pw_grammar.specs.declared.sort.Sort.{Sort}
 use Rattle.pw_grammar.specs.declared.sort.Sort.TheVariants as s
 use Rattle.pw_grammar.specs.Terminals.{sort, prefix_of, binary_of}
-use Rattle.pw_grammar.specs.Expressions.{ExpressionDerivation, identifier, constant, bracketed, input, output, call, index, prefixed, binary, choice, Arguments, nothing, arguments, More, end, more, spelled, spelled_arguments, spelled_more, IsAt, AreArguments, AreMore, IsConstant}
+use Rattle.pw_grammar.specs.Expressions.{ExpressionDerivation, identifier, constant, bracketed, input, output, call, index, prefixed, binary, choice, Arguments, nothing, arguments, More, end, more, spelled, spelled_arguments, spelled_more, IsAt, AreArguments, AreMore, IsConstantSymbol}
 use Rattle.pw_grammar.specs.Statements as y
 use Rattle.pw_grammar.specs.Faults.{opens_by, closes_by}
 use Rattle.pw_grammar.proofs.Late.{IsPlain, IsInner, inner_nil, inner_token, inner_cons, inner_both, inner_brackets}
@@ -24,7 +24,7 @@ opening_sort x z e p = subst (λ w. opens_by w ≡ true) (sym e) p
 pub closing_sort : (x z : Sort) → x ≡ z → (opens_by z ≡ false) × (closes_by z ≡ true) → (opens_by x ≡ false) × (closes_by x ≡ true)
 closing_sort x z e p = subst (λ w. (opens_by w ≡ false) × (closes_by w ≡ true)) (sym e) p
 
-pub plain_constant : (x : Sort) → IsConstant x → IsPlain x
+pub plain_constant : (x : Sort) → IsConstantSymbol x → IsPlain x
 plain_constant x (inl e) = plain_sort x s.Number e (refl, refl)
 plain_constant x (inr e) = plain_sort x s.Character e (refl, refl)
 

@@ -9,7 +9,7 @@ use Rattle.pw_grammar.proofs.Lawful.{near_or_far}
 use Rattle.pw_grammar.specs.declared.sort.Sort.{Sort}
 use Rattle.pw_grammar.specs.declared.sort.Sort.TheVariants as s
 use Rattle.pw_grammar.specs.Terminals.{sort, is_same}
-use Rattle.pw_grammar.specs.Faults.{opens, closes, opens_by, closes_by, bracket}
+use Rattle.pw_grammar.specs.Faults.{opens_bracket, closes_bracket, opens_by, closes_by, bracket}
 use Rattle.pw_grammar.specs.Reading.Limits.{Walk, is_inside, is_late, anew, step, first_late}
 use Rattle.pw_lex.specs.declared.token.Token.{Token}
 
@@ -120,7 +120,7 @@ inner_both u v a b = record {
 
 -- a token that is no bracket
 plain_bracket : (t : Token) (n : ℕ) → IsPlain (sort t) → bracket n t ≡ n
-plain_bracket t n (o, c) = ap (λ b. if b then suc n else (if closes t then n - 1 else n)) o ∙ ap (λ b. if b then n - 1 else n) c
+plain_bracket t n (o, c) = ap (λ b. if b then suc n else (if closes_bracket t then n - 1 else n)) o ∙ ap (λ b. if b then n - 1 else n) c
 
 pub inner_token : (t : Token) → IsPlain (sort t) → IsInner (t ∷ [])
 inner_token t plain = record {
@@ -146,10 +146,10 @@ pub inner_cons : (t : Token) (u : List Token) → IsPlain (sort t) → IsInner u
 inner_cons t u plain inner = inner_both (t ∷ []) u (inner_token t plain) inner
 
 opened : (t : Token) (n : ℕ) → opens_by (sort t) ≡ true → bracket n t ≡ suc n
-opened t n o = ap (λ b. if b then suc n else (if closes t then n - 1 else n)) o
+opened t n o = ap (λ b. if b then suc n else (if closes_bracket t then n - 1 else n)) o
 
 closed : (t : Token) (n : ℕ) → opens_by (sort t) ≡ false → closes_by (sort t) ≡ true → bracket (suc n) t ≡ n
-closed t n o c = ap (λ b. if b then suc (suc n) else (if closes t then suc n - 1 else suc n)) o ∙ (ap (λ b. if b then suc n - 1 else suc n) c ∙ less n)
+closed t n o c = ap (λ b. if b then suc (suc n) else (if closes_bracket t then suc n - 1 else suc n)) o ∙ (ap (λ b. if b then suc n - 1 else suc n) c ∙ less n)
   where
     less : (n : ℕ) → suc n - 1 ≡ n
     less n = omega arith

@@ -7,7 +7,7 @@ use Rattle.std.specs.Prelude.{max}
 use Rattle.pw_grammar.specs.declared.sort.Sort.{Sort}
 use Rattle.pw_grammar.specs.declared.sort.Sort.TheVariants as s
 use Rattle.pw_grammar.specs.Terminals.{sort, is_same}
-use Rattle.pw_grammar.specs.Expressions.{IsConstant}
+use Rattle.pw_grammar.specs.Expressions.{IsConstantSymbol}
 use Rattle.pw_grammar.specs.Statements as y
 use Rattle.pw_grammar.specs.Declarations as d
 use Rattle.pw_grammar.specs.Faults.{opens_by, closes_by}
@@ -278,7 +278,7 @@ inner_more_elements (d.more t x xs) i =
     inner_then t s.Comma (d.spelled_element x ++ d.spelled_more_elements xs) i.0 (refl, refl)
     (inner_both (d.spelled_element x) (d.spelled_more_elements xs) (inner_element x i.1) (inner_more_elements xs i.2))
 
-outer_constant : (t : Token) → IsConstant (sort t) → IsOuter (t ∷ [])
+outer_constant : (t : Token) → IsConstantSymbol (sort t) → IsOuter (t ∷ [])
 outer_constant t (inl e) = outer_one t s.Number e outer_number
 outer_constant t (inr e) = outer_one t s.Character e outer_character
 

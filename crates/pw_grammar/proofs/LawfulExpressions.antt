@@ -4,7 +4,7 @@ use Rattle.std.proofs.lemmas.List.{append-nil, length-append}
 use Rattle.pw_grammar.specs.declared.sort.Sort.{Sort}
 use Rattle.pw_grammar.specs.declared.sort.Sort.TheVariants as s
 use Rattle.pw_grammar.specs.Terminals.{sort, sort_of, is_same}
-use Rattle.pw_grammar.specs.Expressions.{identifier, constant, bracketed, input, output, spelled, IsAt, IsConstant, expression_tree, name_in, value_in, is_unsigned_constant}
+use Rattle.pw_grammar.specs.Expressions.{identifier, constant, bracketed, input, output, spelled, IsAt, IsConstantSymbol, expression_tree, name_in, value_in, is_unsigned_constant}
 use Rattle.pw_grammar.specs.Reading.Steps.{Position, Parser, refuse, next_sort, take}
 use Rattle.pw_grammar.specs.Reading.Expressions as r
 use Rattle.pw_grammar.proofs.Lawful.{Language, GoesOn, Says, Same, Lawful, Within, Seq, Pure, lawful_pure}
@@ -95,7 +95,7 @@ lawful_identifier n m c named ends = keeps_within c (suc n) _ _ _ _ (identifier_
     (keeps_take c ends (suc n)) (λ t. lawful_finish n first t.line (e.Word (name_in t.kind))) (take_shrinks n)))
 
 -- a number or a character
-constant_is : (m : ℕ) (c : Sort → Type 0) → ((x : Sort) → c x → IsConstant x)
+constant_is : (m : ℕ) (c : Sort → Type 0) → ((x : Sort) → c x → IsConstantSymbol x)
     → Within (Here (λ first. Seq (AToken c) (λ t. ANode first t.line (e.Num (value_in t.kind) (is_unsigned_constant t.kind))))) (AnExpression m)
 unfolding spelled IsAt expression_tree
 constant_is m c named at a u x y = record {
@@ -106,7 +106,7 @@ constant_is m c named at a u x y = record {
       (ap (λ v. at + length v) y.first.is);
 }
 
-lawful_constant : (n m : ℕ) (c : Sort → Type 0) → ((x : Sort) → c x → IsConstant x) → (c s.End → ⊥)
+lawful_constant : (n m : ℕ) (c : Sort → Type 0) → ((x : Sort) → c x → IsConstantSymbol x) → (c s.End → ⊥)
     → Keeps c (suc n) (AnExpression m) r.constant r.constant
 unfolding r.constant
 lawful_constant n m c named ends = keeps_within c (suc n) _ _ _ _ (constant_is m c named)

@@ -5,7 +5,7 @@ use Rattle.std.specs.Bool.{⊤}
 use Rattle.pw_grammar.specs.declared.sort.Sort.{Sort}
 use Rattle.pw_grammar.specs.declared.sort.Sort.TheVariants as s
 use Rattle.pw_grammar.specs.Terminals.{sort, is_same}
-use Rattle.pw_grammar.specs.Expressions.{value_in, IsConstant}
+use Rattle.pw_grammar.specs.Expressions.{value_in, IsConstantSymbol}
 use Rattle.pw_grammar.specs.Statements.{first_line}
 use Rattle.pw_grammar.specs.Declarations as g
 use Rattle.pw_grammar.specs.Reading.Steps.{sees, either}
@@ -27,12 +27,12 @@ abbrev pub value_of : Token → ℕ
 value_of t = value_in t.kind
 
 abbrev AConstant : Language ℕ
-AConstant = OneOf IsConstant value_of
+AConstant = OneOf IsConstantSymbol value_of
 
-constant_is : (x : Sort) → (is_same x s.Number || is_same x s.Character) ≡ true → IsConstant x
+constant_is : (x : Sort) → (is_same x s.Number || is_same x s.Character) ≡ true → IsConstantSymbol x
 constant_is x e = by_test (is_same x s.Number) refl e
   where
-    by_test : (b : Bool) → is_same x s.Number ≡ b → (b || is_same x s.Character) ≡ true → IsConstant x
+    by_test : (b : Bool) → is_same x s.Number ≡ b → (b || is_same x s.Character) ≡ true → IsConstantSymbol x
     by_test true f e = inl (same_sorts x s.Number f)
     by_test false f e = inr (same_sorts x s.Character e)
 
@@ -50,7 +50,7 @@ constant_goes_on at = record {
 
 lawful_constant : (n : ℕ) → Lawful n AConstant r.constant_value r.constant_value
 unfolding r.constant_value sees
-lawful_constant n = lawful_one_of n (λ x. is_same x s.Number || is_same x s.Character) IsConstant value_of constant_is end_is_no_constant constant_goes_on
+lawful_constant n = lawful_one_of n (λ x. is_same x s.Number || is_same x s.Character) IsConstantSymbol value_of constant_is end_is_no_constant constant_goes_on
 
 -- ---- elements
 
@@ -65,7 +65,7 @@ word_is at a u x y = record
     { phrase = g.ElementDerivation.word y.token; is = y.sort_is; spells = y.splits ∙ ap (λ v. y.token ∷ v) y.second.empty; value_is = y.second.is }
 
 abbrev WithConstant : (ℕ → Language InitKind) → Language InitKind
-WithConstant M = WithPhrase (λ (t : Token). IsConstant (sort t)) (λ t. t ∷ []) (λ at t. value_of t) M
+WithConstant M = WithPhrase (λ (t : Token). IsConstantSymbol (sort t)) (λ t. t ∷ []) (λ at t. value_of t) M
 
 positive_is : Within (WithConstant (λ n. Pure (i.Num n))) AKind
 positive_is at a u x y = record

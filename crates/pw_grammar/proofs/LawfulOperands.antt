@@ -6,7 +6,7 @@ use Rattle.pw_grammar.specs.declared.sort.Sort.TheVariants as s
 use Rattle.pw_grammar.specs.Terminals.{sort, sort_of, is_same}
 use Rattle.pw_grammar.specs.Expressions as g
 use Rattle.pw_grammar.specs.Expressions.{ExpressionDerivation, Arguments, More, spelled, spelled_arguments, spelled_more, IsAt, AreArguments, AreMore, expression_tree, argument_trees, more_argument_trees}
-use Rattle.pw_grammar.specs.Reading.Steps.{Position, ReadResult, Parser, and_then, ◌>>=◌, pure, sees, here, skip}
+use Rattle.pw_grammar.specs.Reading.Steps.{Position, ReadResult, Parser, read_then, ◌>>=◌, pure, sees, here, skip}
 use Rattle.pw_grammar.specs.Reading.Expressions as r
 use Rattle.pw_grammar.proofs.Lawful.{Language, GoesOn, Says, Lawful, Within, Lax, within, Seq, bind, Leaves, leaves_fewer, Pure, lawful_pure}
 use Rattle.pw_grammar.proofs.Branches.{Keeps, keeps, keeps_pure, lawful_test, keeps_within, keeps_bind_from, same_sorts}
@@ -39,7 +39,7 @@ lawful_none n L p p' q l = record {
 }
 
 leaves_both : {A B : Type 0} (n : ℕ) (M : A → Language B) (f : A → Parser B) → ((a : A) (j : Position) → Says (M a) j (f a j))
-    → (o : ReadResult A) → Leaves n o → Leaves n (and_then o f)
+    → (o : ReadResult A) → Leaves n o → Leaves n (read_then o f)
 leaves_both n M f says (Ok p) left = leaves_fewer (M p.0) p.1 n (f p.0 p.1) (says p.0 p.1) left
 leaves_both n M f says (Err e) left = tt
 

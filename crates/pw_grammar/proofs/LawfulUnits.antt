@@ -7,7 +7,7 @@ use Rattle.pw_grammar.specs.declared.sort.Sort.{Sort}
 use Rattle.pw_grammar.specs.declared.sort.Sort.TheVariants as s
 use Rattle.pw_grammar.specs.Terminals.{keyword_symbols, punctuator_symbols, sort, sort_of, first_sort, is_same}
 use Rattle.pw_grammar.specs.Declarations as g
-use Rattle.pw_grammar.specs.Reading.Steps.{Position, ReadResult, Parser, and_then, pure, refuse, sees, either}
+use Rattle.pw_grammar.specs.Reading.Steps.{Position, ReadResult, Parser, read_then, pure, refuse, sees, either}
 use Rattle.pw_grammar.specs.Reading.Expressions.{expression}
 use Rattle.pw_grammar.specs.Reading.Statements.{statement}
 use Rattle.pw_grammar.specs.Reading.Declarations as r
@@ -158,7 +158,7 @@ ended_by cs ds i j true at_it e =
 ended_by cs ds i j false at_it e = absurd cc
 
 ended_both : (o : ReadResult (List Decl)) (ds : List Decl) (j : Position)
-    → and_then o (λ cs. either s.End (pure cs) refuse) ≡ Ok (ds, j) → j.rest ≡ []
+    → read_then o (λ cs. either s.End (pure cs) refuse) ≡ Ok (ds, j) → j.rest ≡ []
 ended_both (Ok p) ds j e = ended_by p.0 ds p.1 j (sees s.End p.1) refl e
 ended_both (Err f) ds j e = absurd cc
 

@@ -6,7 +6,7 @@ use Rattle.pw_grammar.specs.declared.sort.Sort.TheVariants as s
 use Rattle.pw_grammar.specs.Terminals.{sort, sort_of, first_sort, is_same}
 use Rattle.pw_lex.specs.declared.token.TokenKind.{TokenKind}
 use Rattle.pw_grammar.specs.Expressions.{name_in}
-use Rattle.pw_grammar.specs.Reading.Steps.{Position, ReadResult, and_then, ◌>>=◌, pure, refuse, next_sort, sees, take, take_from, skip, expect, name}
+use Rattle.pw_grammar.specs.Reading.Steps.{Position, ReadResult, read_then, ◌>>=◌, pure, refuse, next_sort, sees, take, take_from, skip, expect, name}
 use Rattle.pw_grammar.proofs.Lawful.{Language, Leads, Agree, GoesOn, Says, Same, Lawful, Within, Lax, Seq, Leaves, Shrinks, Pure, lawful_pure, same_passed, near_or_far}
 use Rattle.pw_grammar.proofs.Branches.{Keeps, keeps_refuse, lawful_test, keeps_within, keeps_bind_from, same_sorts}
 use Rattle.pw_lex.specs.declared.token.Token.{Token}
@@ -106,7 +106,7 @@ keeps_skip c ends n = keeps_within c n _ _ _ _ (line_of_a_token c)
     (keeps_bind_from c n n (AToken c) (λ t. Pure t.line) take take (λ t. pure t.line) (λ t. pure t.line) (a_token_is_lax c)
     (keeps_take c ends n) (λ t. lawful_pure n t.line) (λ i short. take_leaves n i.at i.rest short))
 
-skip_leaves : (n : ℕ) (o : ReadResult Token) → Leaves n o → Leaves n (and_then o (λ t. pure t.line))
+skip_leaves : (n : ℕ) (o : ReadResult Token) → Leaves n o → Leaves n (read_then o (λ t. pure t.line))
 skip_leaves n (Ok p) l = l
 skip_leaves n (Err e) l = tt
 

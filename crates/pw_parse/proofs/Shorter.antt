@@ -4,7 +4,7 @@ use Rattle.std.specs.Bool.{⊤}
 use Rattle.pw_grammar.specs.declared.sort.Sort.{Sort}
 use Rattle.pw_grammar.specs.declared.sort.Sort.TheVariants as s
 use Rattle.pw_grammar.specs.Statements.{first_line}
-use Rattle.pw_grammar.specs.Reading.Steps.{Position, ReadResult, Parser, and_then, pure, sees, next_sort, skip, expect}
+use Rattle.pw_grammar.specs.Reading.Steps.{Position, ReadResult, Parser, read_then, pure, sees, next_sort, skip, expect}
 use Rattle.pw_grammar.specs.Reading.Expressions.{expression}
 use Rattle.pw_grammar.specs.Reading.Statements as r
 use Rattle.pw_grammar.proofs.Lawful.{Leaves, leaves_fewer}
@@ -31,7 +31,7 @@ use Rattle.pw_tree.specs.declared.stmt.StmtKind.TheVariants as k
 -- ---- steps leave fewer than m tokens of fewer than m
 
 then_leaves : {A B : Type 0} (m : ℕ) (o : ReadResult A) (g : A → Parser B) → Leaves m o
-    → ((a : A) (j : Position) → length j.rest < m → Leaves m (g a j)) → Leaves m (and_then o g)
+    → ((a : A) (j : Position) → length j.rest < m → Leaves m (g a j)) → Leaves m (read_then o g)
 then_leaves m (Ok q) g left rest = rest q.0 q.1 left
 then_leaves m (Err e) g left rest = tt
 
@@ -102,11 +102,11 @@ HeadsLeave m (Ok q) = HeadLeaves m q.0 q.1
 HeadsLeave m (Err e) = ⊤
 
 headed_leaves : (expr : Parser Expr) (stmt : Parser Stmt) (m n first line : ℕ) (x : Sort) (o : ReadResult HeadForm) → Leaves m o
-    → HeadsLeave m (and_then (and_then o (λ form. pure (Some form))) (λ form. p.fronted expr stmt n first line x form))
+    → HeadsLeave m (read_then (read_then o (λ form. pure (Some form))) (λ form. p.fronted expr stmt n first line x form))
 headed_leaves expr stmt m n first line x (Ok q) left = left
 headed_leaves expr stmt m n first line x (Err e) left = tt
 
-headless_leaves : (m first line : ℕ) (o : ReadResult StmtKind) → HeadsLeave m (and_then o (p.whole first line))
+headless_leaves : (m first line : ℕ) (o : ReadResult StmtKind) → HeadsLeave m (read_then o (p.whole first line))
 headless_leaves m first line (Ok q) = tt
 headless_leaves m first line (Err e) = tt
 
@@ -134,7 +134,7 @@ unfolding p.front
 front_shorter d i (f.Head g) j some is = subst (λ o. HeadsLeave (length i.rest) o) is
     (front_leaves (r.statement (d - 1)) d d i.at (first_line i.rest) (next_sort i) i)
 front_shorter d i (f.Whole y) j some is = subst (λ o. Leaves (length i.rest) o)
-    (front_at d i some ∙ ap (λ o. and_then o (follow (expression d) (r.statement (d - 1)))) is) (statement_leaves d i)
+    (front_at d i some ∙ ap (λ o. read_then o (follow (expression d) (r.statement (d - 1)))) is) (statement_leaves d i)
 
 -- ---- after a head's statement
 
@@ -148,7 +148,7 @@ Behinds m (Ok q) = Behind m q.0 q.1
 Behinds m (Err e) = ⊤
 
 else_leaves : (m first line : ℕ) (a : Expr) (y : Stmt) (o : ReadResult ℕ) → Leaves m o
-    → Behinds m (and_then o (λ _. pure (f.Head (record { first = first; line = line; form = h.Else a y }))))
+    → Behinds m (read_then o (λ _. pure (f.Head (record { first = first; line = line; form = h.Else a y }))))
 else_leaves m first line a y (Ok q) left = left
 else_leaves m first line a y (Err e) left = tt
 
@@ -164,7 +164,7 @@ do_end_leaves m n y i short = then_leaves m (expect s.While i) _ (expect_leaves 
     then_leaves m (r.test (expression n) j) _ (test_leaves m n j short1) (λ a l short2.
     then_leaves m (expect s.Semicolon l) _ (expect_leaves m s.Semicolon l short2) (λ e q short3. short3)))
 
-done_leaves : (m first line : ℕ) (o : ReadResult StmtKind) → Leaves (suc m) o → Behinds m (and_then o (p.whole first line))
+done_leaves : (m first line : ℕ) (o : ReadResult StmtKind) → Leaves (suc m) o → Behinds m (read_then o (p.whole first line))
 done_leaves m first line (Ok q) left = omega (arith, left)
 done_leaves m first line (Err e) left = tt
 

@@ -1,7 +1,7 @@
 -- Prefix operators, from the innermost on.
 use Rattle.std.proofs.Common.{◌≡◌, ℕ, zero, suc, ◌+◌, ◌-◌, ◌≤◌, List, [], ◌∷◌, ◌++◌, length, length-append, Option, Some, None, Ok, Err, ap, ◌∙◌, sym, refl, arith}
 use Rattle.pw_lex.specs.declared.token.Token.{Token}
-use Rattle.pw_grammar.specs.Reading.Steps.{Position, ReadResult, take, take_from, skip, and_then, pure, on_option, next_sort}
+use Rattle.pw_grammar.specs.Reading.Steps.{Position, ReadResult, take, take_from, skip, read_then, pure, on_option, next_sort}
 use Rattle.pw_grammar.specs.Terminals.{prefix_of}
 use Rattle.pw_grammar.specs.Reading.Expressions.{under_operators, prefix_by, prefix_operator, operators}
 use Rattle.pw_tree.specs.declared.operator.Un.{Un}
@@ -54,7 +54,7 @@ count None = 0
 count (Some op) = 1
 
 counted_skip : (op : Un) (at : ℕ) (ts : List Token) (x : Option (Un × ℕ)) (j : Position)
-    → and_then (and_then (take_from at ts) (λ t. pure t.line)) (λ line. pure (Some (op, line))) ≡ Ok (x, j) → j.at ≡ at + count x
+    → read_then (read_then (take_from at ts) (λ t. pure t.line)) (λ line. pure (Some (op, line))) ≡ Ok (x, j) → j.at ≡ at + count x
 unfolding take_from
 counted_skip op at [] x j h = cc
 counted_skip op at (t ∷ ts) x j h =
@@ -73,7 +73,7 @@ counted_by (Some op) i x j h = counted_skip op i.at i.rest x j h
 counted_next : (n : ℕ) → ((found : List (Un × ℕ)) (i : Position) (ops : List (Un × ℕ)) (j : Position) → operators n found i ≡ Ok (ops, j) → i.at + length ops ≡ j.at + length found)
     → (found : List (Un × ℕ)) (i : Position) (ops : List (Un × ℕ)) (j : Position) (r : ReadResult (Option (Un × ℕ)))
     → ((x : Option (Un × ℕ)) (k : Position) → r ≡ Ok (x, k) → k.at ≡ i.at + count x)
-    → and_then r (λ x. on_option x (pure found) (λ op. operators n (found ++ op ∷ []))) ≡ Ok (ops, j)
+    → read_then r (λ x. on_option x (pure found) (λ op. operators n (found ++ op ∷ []))) ≡ Ok (ops, j)
     → i.at + length ops ≡ j.at + length found
 counted_next n rest found i ops j (Err e) reach h = cc
 counted_next n rest found i ops j (Ok (None, k)) reach h =
