@@ -1,6 +1,6 @@
 -- How many words code has at most.
-use Rattle.std.proofs.Common.{◌≡◌, ℕ, zero, suc, ◌+◌, ◌*◌, ◌^◌, ◌<◌, ◌≤◌, Option, Some, None, refl, arith}
-use Rattle.pw_base.specs.Limits.{parameters, array_elements}
+use Rattle.std.proofs.Common.{◌≡◌, ℕ, ◌+◌, ◌*◌, ◌^◌, ◌<◌, ◌≤◌, Option, Some, None, arith}
+use Rattle.pw_base.specs.Limits.{array_elements}
 use Rattle.pw_tree.specs.declared.operator.Un.{Un}
 use Rattle.pw_tree.specs.declared.operator.Un.TheVariants.{Neg, Plus, Not, Bang}
 use Rattle.pw_tree.specs.declared.operator.Bin.{Bin}
@@ -8,11 +8,9 @@ use Rattle.pw_tree.specs.declared.operator.Bin.TheVariants.{Mul, Div, Rem, Add, 
 use Rattle.pw_tree.specs.TypedExpressions.{TypedExpression, TypedExpressions, constant, local, variable, designator, element, unary, binary, conditional, call, call_pointer, input, output, nil, cons}
 use Rattle.pw_tree.specs.TypedStatements as statements
 use Rattle.pw_tree.specs.TypedStatements.{TypedStatement, TypedStatements, OptionalTypedStatement}
-use Rattle.pw_tree.specs.Held.{count}
 use Rattle.pw_tree.specs.WellTypedExpressions.{Throughout, ThroughoutAll, expressions_in, expressions_in_all}
 use Rattle.pw_tree.specs.WellTypedStatements.{Everywhere, EverywhereIn, EverywhereIf, IfPresent, expressions_in_option, phrases_in, phrases_in_all, phrases_in_maybe}
-use Rattle.pw_code.specs.LoadImmediate.{immediate_words}
-use Rattle.pw_code.specs.Pieces.{fault_words, check_index_words, binary_words, unary_words}
+use Rattle.pw_code.specs.Pieces.{fault_words, check_index_words, unary_words}
 use Rattle.pw_code.specs.ExpressionCode.{operator_words, expression_words, arguments_words}
 use Rattle.pw_code.specs.StatementCode.{statement_words, statements_words, optional_words, else_words, set_local_words, value_words, condition_words}
 use Rattle.pw_code.specs.Bounds.{HasSmallOperands, HasShortCode, StatementHasSmallOperands}

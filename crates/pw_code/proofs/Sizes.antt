@@ -1,5 +1,5 @@
 -- The size of code is the size that is computed before it.
-use Rattle.std.proofs.Common.{◌≡◌, ℕ, zero, suc, ◌+◌, ◌*◌, Bool, true, false, cond, List, [], ◌∷◌, ◌++◌, Option, Some, None, length, refl, sym, ◌∙◌, ap, arith, pos, negsuc, nat_lt}
+use Rattle.std.proofs.Common.{◌≡◌, ℕ, zero, suc, ◌+◌, ◌*◌, Bool, true, false, List, [], ◌∷◌, ◌++◌, Option, Some, None, length, refl, ◌∙◌, ap, arith, nat_lt}
 use Rattle.std.specs.Prelude.{ℤ, if◌then◌else◌}
 use Rattle.std.specs.Int.{cast_signed, w64}
 use Rattle.pw_isa.specs.declared.instruction.Inst.TheVariants.{Jal}
@@ -14,12 +14,12 @@ use Rattle.pw_tree.specs.TypedStatements.{TypedStatement, TypedStatements, Optio
 use Rattle.pw_tree.specs.Held.{count}
 use Rattle.pw_tree.specs.Units.{Function}
 use Rattle.pw_code.specs.declared.frame.Frame.{Frame}
-use Rattle.pw_code.specs.Items.{Part, instruction, address, words_of_part, size}
+use Rattle.pw_code.specs.Items.{Part, instruction, words_of_part, size}
 use Rattle.pw_code.specs.LoadImmediate.{is_within, rest, load_32_bits, load_signed, load_immediate, signed_words, immediate_words}
-use Rattle.pw_code.specs.Pieces.{jump, back, fault, fault_words, check_index, check_index_words, check_divisor, division_fault, null_call_fault, index_fault, depth_fault, binary_code, binary_words, unary_code, unary_words, load_held}
+use Rattle.pw_code.specs.Pieces.{jump, back, fault, fault_words, check_index, check_index_words, binary_code, binary_words, unary_code, unary_words, load_held}
 use Rattle.pw_code.specs.ExpressionCode.{operator_words, operator_code, right_slot, expression_words, expression_code, arguments_words, arguments_code}
 use Rattle.pw_code.specs.StatementCode.{Targets, targets_in_loop, statement_words, statements_words, optional_words, else_words, set_local_words, value_words, condition_words, set_local_code, value_code, condition_code, statement_code, statements_code, optional_code, else_code}
-use Rattle.pw_code.specs.FunctionCode.{store_parameters, opens, opens_words, function_code, function_words, function_targets, frame_of, falls_off, closes}
+use Rattle.pw_code.specs.FunctionCode.{store_parameters, opens_words, function_code, function_words, function_targets, frame_of}
 
 -- ---- lists of parts
 

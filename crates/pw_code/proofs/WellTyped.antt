@@ -1,23 +1,20 @@
 -- The code of what is well typed is short.
-use Rattle.std.proofs.Common.{◌≡◌, ℕ, zero, suc, ◌+◌, ◌*◌, ◌^◌, ◌<◌, ◌≤◌, Bool, true, false, cond, List, [], ◌∷◌, length, Option, Some, None, refl, sym, ◌∙◌, ap, subst, arith}
+use Rattle.std.proofs.Common.{◌≡◌, ℕ, zero, suc, ◌+◌, ◌*◌, ◌^◌, ◌<◌, ◌≤◌, Bool, true, false, List, [], ◌∷◌, length, Option, Some, None, refl, sym, ◌∙◌, ap, subst, arith}
 use Rattle.std.specs.Prelude.{⊤, slice_get, if◌then◌else◌}
 use Rattle.std.specs.List.{AllByRecursion}
 use Rattle.pw_base.specs.Limits.{parameters, array_elements}
 use Rattle.pw_tree.specs.declared.ty.Ty.{Ty}
 use Rattle.pw_tree.specs.declared.ty.Ty.TheVariants.{Void, Long, Ulong, Fn}
-use Rattle.pw_tree.specs.declared.ty.Sig.{Sig}
 use Rattle.pw_tree.specs.declared.ty.Ref.{Ref}
-use Rattle.pw_tree.specs.Types.{IsResultType, IsValueType, IsArraySize, pointer_to}
+use Rattle.pw_tree.specs.Types.{IsResultType, IsValueType}
 use Rattle.pw_tree.specs.TypedExpressions.{Mark, TypedExpression, TypedExpressions, constant, local, variable, designator, element, unary, binary, conditional, call, call_pointer, input, output, nil, cons}
 use Rattle.pw_tree.specs.TypedStatements as statements
 use Rattle.pw_tree.specs.TypedStatements.{TypedStatement, TypedStatements, OptionalTypedStatement}
 use Rattle.pw_tree.specs.Held.{count}
 use Rattle.pw_tree.specs.Units.{Function, TypedUnit}
 use Rattle.pw_tree.specs.WellTypedExpressions.{Class, nothing, number, pointer, class_of, class, IsValueClass, HasClass, Calls, CallsPointer, Points, ArgumentsFit, HasFittingParts, HasSmallNumbers, Throughout, ThroughoutAll, IsWellTypedExpression}
-use Rattle.pw_tree.specs.WellTypedStatements.{IfPresent, OfExpressions, Everywhere, EverywhereIn, EverywhereIf, StatementFits, StatementHasSmallNumbers, phrases_in_all}
+use Rattle.pw_tree.specs.WellTypedStatements.{IfPresent, Everywhere, EverywhereIn, EverywhereIf, StatementFits, StatementHasSmallNumbers}
 use Rattle.pw_tree.specs.WellTypedUnits.{IsWellTypedFunction}
-use Rattle.pw_code.specs.Pieces.{fault_words}
-use Rattle.pw_code.specs.StatementCode.{statements_words}
 use Rattle.pw_code.specs.FunctionCode.{function_words}
 use Rattle.pw_code.specs.Bounds.{HasSmallOperands, HasShortCode, StatementHasSmallOperands}
 use Rattle.pw_code.proofs.Lengths.{fault_words_at_most, statements_are_short}

@@ -1,5 +1,5 @@
 -- The code of statements.
-use Rattle.std.specs.Prelude.{ℕ, suc, ◌+◌, ℤ, pos, List, [], ◌∷◌, ◌++◌, Option, Some, None}
+use Rattle.std.specs.Prelude.{ℕ, ◌+◌, pos, List, [], ◌∷◌, ◌++◌, Option, Some, None}
 use Rattle.pw_isa.specs.declared.instruction.Inst.TheVariants.{Beq, Ld, Sd, Slli, Add}
 use Rattle.pw_isa.specs.Registers.{x0, sp, t0, t1, a0}
 use Rattle.pw_tree.specs.TypedExpressions.{TypedExpression}
@@ -7,7 +7,7 @@ use Rattle.pw_tree.specs.TypedStatements.{TypedStatement, TypedStatements, Optio
 use Rattle.pw_code.specs.declared.frame.Frame.{Frame}
 use Rattle.pw_code.specs.Items.{Part, instruction, address}
 use Rattle.pw_code.specs.Frames.{local_slot, held_slot}
-use Rattle.pw_code.specs.Pieces.{bytes_of_words, skip, back, jump, unless_zero, unless_nonzero, check_index, check_index_words, hold}
+use Rattle.pw_code.specs.Pieces.{bytes_of_words, skip, jump, unless_zero, check_index, check_index_words, hold}
 use Rattle.pw_code.specs.ExpressionCode.{expression_words, expression_code}
 
 -- ---- sizes

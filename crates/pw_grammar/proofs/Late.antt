@@ -9,7 +9,7 @@ use Rattle.pw_grammar.proofs.Lawful.{near_or_far}
 use Rattle.pw_grammar.specs.declared.sort.Sort.{Sort}
 use Rattle.pw_grammar.specs.declared.sort.Sort.TheVariants as s
 use Rattle.pw_grammar.specs.Terminals.{sort, is_same}
-use Rattle.pw_grammar.specs.Faults.{opens_bracket, closes_bracket, opens_by, closes_by, bracket}
+use Rattle.pw_grammar.specs.Faults.{closes_bracket, opens_by, closes_by, bracket}
 use Rattle.pw_grammar.specs.Reading.Limits.{Walk, is_inside, is_late, anew, step, first_late}
 use Rattle.pw_lex.specs.declared.token.Token.{Token}
 

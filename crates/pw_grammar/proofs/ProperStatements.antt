@@ -6,8 +6,8 @@ use Rattle.std.specs.Option.{option_map}
 use Rattle.pw_grammar.specs.declared.sort.Sort.{Sort}
 use Rattle.pw_grammar.specs.declared.sort.Sort.TheVariants as s
 use Rattle.pw_grammar.specs.Terminals.{sort}
-use Rattle.pw_grammar.specs.Expressions.{ExpressionDerivation, spelled, expression_tree}
-use Rattle.pw_grammar.specs.Statements.{spelled_type, type_in, LocalDerivation, plain, IsLocal, spelled_local, kind_of_local, SimpleDerivation, assign, assign_element, IsSimple, spelled_simple, kind_of_simple, ForStartDerivation, no_start, local_start, simple_start, IsStart, spelled_start, tree_of_start, spelled_maybe, tree_of_maybe, spelled_step, IsStep, tree_of_step, StatementDerivation, block, declare, simple, if_only, while_do, do_while, for_do, leave, jump, StatementDerivations, spelled_statement, spelled_statements, IsStatement, AreStatements, statement_node, jump_of, after_test, after_head, after_part, kind_of, trees_of_statements}
+use Rattle.pw_grammar.specs.Expressions.{spelled}
+use Rattle.pw_grammar.specs.Statements.{spelled_type, LocalDerivation, plain, IsLocal, spelled_local, kind_of_local, SimpleDerivation, assign, assign_element, spelled_simple, kind_of_simple, ForStartDerivation, no_start, local_start, simple_start, IsStart, spelled_start, tree_of_start, spelled_maybe, spelled_step, tree_of_step, StatementDerivation, block, declare, simple, if_only, while_do, do_while, for_do, leave, jump, StatementDerivations, spelled_statement, spelled_statements, IsStatement, AreStatements, statement_node, jump_of, after_test, after_head, after_part, kind_of, trees_of_statements}
 use Rattle.pw_grammar.specs.Statements as phrase
 use Rattle.pw_grammar.proofs.PlainNodes.{statement-Empty, statement-Block, statement-Local, statement-Set, statement-Eval, statement-If, statement-While, statement-Do, statement-For, statement-Return, statement-Break, statement-Continue}
 use Rattle.pw_grammar.proofs.SmallTokens.{AreSmall, small_left, small_right, numbers, maybe_numbers}

@@ -1,5 +1,5 @@
 -- Laws of the grammar: each list of tokens has one tree or one first fault, and what holds of each tree.
-use Rattle.std.specs.Prelude.{◌≡◌, ℕ, ◌^◌, ◌<◌, ◌≤◌, ◌⊎◌, List, length, take, sum_by}
+use Rattle.std.specs.Prelude.{◌≡◌, ◌^◌, ◌<◌, ◌≤◌, ◌⊎◌, List, length, take, sum_by}
 use Rattle.std.specs.List.{AllByRecursion}
 use Rattle.pw_grammar.specs.declared.error.SyntaxError.{SyntaxError}
 use Rattle.pw_grammar.specs.Declarations.{Derives}

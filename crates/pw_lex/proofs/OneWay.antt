@@ -18,7 +18,7 @@ use Rattle.pw_lex.specs.Spellings.{keywords, punctuators}
 use Rattle.pw_lex.specs.Number.{IsConstant, value, limit}
 use Rattle.pw_lex.specs.Token.{IsToken}
 use Rattle.pw_lex.specs.Fault as piece
-use Rattle.pw_lex.specs.Fault.{Piece, bytes_of, not_newline, EndsLine, closes, OpensComment, IsOpenComment, IsBadNumber, IsTooWide, IsLongName, BeginsToken, StandsBefore, IsBadByte}
+use Rattle.pw_lex.specs.Fault.{Piece, bytes_of, not_newline, EndsLine, closes, BeginsToken, StandsBefore, IsBadByte}
 use Rattle.pw_lex.specs.Text.{spelled, Stand, tokens_of_piece, tokens_after, line_after, HasTokens, FaultStands, HasFault}
 use Rattle.pw_lex.specs.Laws.{HasReading, NotBoth, OneList, OneFault}
 use Rattle.pw_lex.specs.Reading as reading

@@ -13,12 +13,12 @@ use Rattle.pw_lex.specs.declared.token.TokenKind.{TokenKind}
 use Rattle.pw_lex.specs.declared.token.TokenKind.TheVariants.{Word, Number, Char, Keyword, Punct}
 use Rattle.pw_lex.specs.Bytes.{Text, class_of, BeginsWith, runs_on, is_run_byte, run}
 use Rattle.pw_base.specs.Limits.{name_bytes}
-use Rattle.pw_lex.specs.Spellings.{keywords, punctuators}
+use Rattle.pw_lex.specs.Spellings.{keywords}
 use Rattle.pw_lex.specs.Number.{IsConstant, value, limit}
 use Rattle.pw_lex.specs.Character.{IsCharacter}
 use Rattle.pw_lex.specs.Token.{IsToken}
 use Rattle.pw_lex.specs.Fault as piece
-use Rattle.pw_lex.specs.Fault.{Piece, bytes_of, not_newline, closes, OpensComment, IsOpenComment, IsBadNumber, IsTooWide, IsLongName, BeginsToken, StandsBefore, IsBadByte}
+use Rattle.pw_lex.specs.Fault.{Piece, bytes_of, not_newline, OpensComment, IsOpenComment, BeginsToken, StandsBefore, IsBadByte}
 use Rattle.pw_lex.specs.Text.{tokens_of_piece, line_after, FaultStands, place_of}
 use Rattle.pw_lex.specs.Reading as reading
 use Rattle.pw_lex.specs.Reading.{number_from, longest_punctuator, close_from, character_of, constant_of, word_in, run_token, prefix_in, prefix, other, len_of, tokens_of_prefix}

@@ -12,7 +12,7 @@ use Rattle.pw_types.specs.Steps.UnitFaults.{faults_in_order}
 use Rattle.pw_types.specs.Steps.UnitFaults.{faults_of_declarations}
 use Rattle.pw_types.specs.Nests.{Nested, walk, unit, faults_of}
 use Rattle.pw_types.specs.Laws.{Precedes, FaultsAscend, FirstEndsFirst, FaultsAreWithin}
-use Rattle.pw_types.proofs.Standing.{Each, nil, cons, Sorted, sorted_pairs, Among, Orderly, walk_orderly, each_also}
+use Rattle.pw_types.proofs.Standing.{Each, nil, cons, Sorted, sorted_pairs, Orderly, walk_orderly, each_also}
 use Rattle.pw_types.proofs.Standing as standing
 use Rattle.pw_types.proofs.Gathering.{walk_is_flat}
 use Rattle.pw_types.proofs.StandingUnits.{unit_faults, unit_stands}

@@ -7,7 +7,6 @@ use Rattle.pw_tree.specs.WellTypedUnits.{IsWellTyped}
 use Rattle.pw_types.specs.declared.fault.Fault.{Fault}
 use Rattle.pw_types.specs.Faults.{first_of}
 use Rattle.pw_types.specs.Nests.{faults_of}
-use Rattle.pw_types.specs.Units.{typed_unit}
 use Rattle.pw_types.specs.Checks.{IsTyped}
 use Rattle.pw_types.specs.Steps.UnitFaults.{faults_in_order}
 use Rattle.pw_types.specs.Steps.CheckingUnits.{unit_by_number}

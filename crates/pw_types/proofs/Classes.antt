@@ -1,5 +1,5 @@
 -- What the rules of types say of classes.
-use Rattle.std.proofs.Common.{◌≡◌, ℕ, Bool, true, false, ◌&&◌, if◌then◌else◌, List, [], ◌∷◌, length, Option, Some, None, refl, sym, ap, subst, ◌∙◌}
+use Rattle.std.proofs.Common.{◌≡◌, ℕ, Bool, true, false, ◌&&◌, if◌then◌else◌, [], ◌∷◌, Some, None, refl, sym, ap, subst, ◌∙◌}
 use Rattle.std.specs.Prelude.{nat_eq, ⊤}
 use Rattle.std.proofs.lemmas.Bool.{eqb-true}
 use Rattle.pw_tree.specs.declared.ty.Ty.{Ty}
@@ -8,7 +8,7 @@ use Rattle.pw_tree.specs.declared.operator.Un.{Un}
 use Rattle.pw_tree.specs.declared.operator.Un.TheVariants.{Neg, Plus, Not, Bang}
 use Rattle.pw_tree.specs.declared.operator.Bin.{Bin}
 use Rattle.pw_tree.specs.declared.operator.Bin.TheVariants.{Mul, Div, Rem, Add, Sub, Shl, Shr, Lt, Gt, Le, Ge, Eq, Ne, And, Xor, Or, AndAnd, OrOr}
-use Rattle.pw_tree.specs.Types.{is_number, is_void, is_pointer, is_unsigned, same_pointers, converts, common, Operation, on_numbers, arithmetic, shift, comparison, truth_operation, equality, unary_type, binary_type, choice_type}
+use Rattle.pw_tree.specs.Types.{is_number, is_void, same_pointers, converts, common, Operation, on_numbers, arithmetic, shift, comparison, truth_operation, equality, unary_type, binary_type, choice_type}
 use Rattle.pw_tree.specs.WellTypedExpressions.{Class, nothing, number, pointer, class_of, IsValue, OperandFits, OperandsFit}
 
 pub number_class : (ty : Ty) → is_number ty ≡ true → class_of ty ≡ number

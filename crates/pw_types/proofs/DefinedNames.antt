@@ -1,6 +1,6 @@
 -- The functions and variables that a unit without faults defines: each stands among the names at file scope with its kind and
 -- linkage, and each name that is defined there is one of them.
-use Rattle.std.proofs.Common.{◌≡◌, ℕ, suc, ◌+◌, Bool, true, false, ◌||◌, ◌&&◌, not, cond, if◌then◌else◌, List, [], ◌∷◌, ◌++◌, map, Option, Some, None, refl, sym, ap, subst, ◌∙◌, arith, inl, inr, ◌⊎◌, bytes_eq, append_assoc}
+use Rattle.std.proofs.Common.{◌≡◌, ℕ, ◌+◌, Bool, true, false, ◌||◌, ◌&&◌, not, cond, if◌then◌else◌, List, [], ◌∷◌, ◌++◌, Option, Some, None, refl, sym, ap, subst, ◌∙◌, inl, inr, ◌⊎◌, bytes_eq, append_assoc}
 use Rattle.std.specs.Prelude.{⊤}
 use Rattle.std.specs.List.{AllByRecursion, IsDistinct, flat_map}
 use Rattle.std.proofs.lemmas.List.{append-nil}
@@ -9,19 +9,17 @@ use Rattle.pw_tree.specs.declared.decl.Linkage.{Linkage}
 use Rattle.pw_tree.specs.declared.decl.Linkage.TheVariants.{Plain, Extern, Static}
 use Rattle.pw_tree.specs.Declarations.{Declaration, DeclarationForm, prototype, definition, variable}
 use Rattle.pw_types.specs.declared.rule.Rule.TheVariants as rules
-use Rattle.pw_types.specs.declared.names.Kind.{Kind}
 use Rattle.pw_types.specs.declared.names.File.{File}
 use Rattle.pw_types.specs.Faults.{broken, broken_by}
 use Rattle.pw_types.specs.Reserved.{is_reserved}
-use Rattle.pw_types.specs.Scopes.{file_named, with_file}
+use Rattle.pw_types.specs.Scopes.{file_named}
 use Rattle.pw_types.specs.Declarations.{is_external, is_extern, defines, kind_of, conflicts, first_of, declared_by, is_redefined, Whole, elements_of, parameters_in, is_definition_of_function, is_too_large, file_scope}
 use Rattle.pw_types.specs.Steps.UnitFaults.{faults_of_declaration, faults_of_parameters, faults_of_form, faults_of_declarations}
 use Rattle.pw_types.specs.Units.{is_function, files_after}
 use Rattle.pw_types.proofs.Empty.{left_empty, right_empty}
 use Rattle.pw_types.proofs.NoFaults.{not_broken, not_broken_by}
-use Rattle.pw_types.proofs.KeyedFiles.{named}
 use Rattle.pw_types.proofs.SameKinds.{no_conflict_linkage, no_conflict_kind}
-use Rattle.pw_types.proofs.JoinedFiles.{bytes_same, bytes_itself, bytes_turned, also, joined_file, stays, named_now, named_other, names_of, lacking_by, all_lack, apart_last, names_append, find_before, find_last}
+use Rattle.pw_types.proofs.JoinedFiles.{bytes_same, bytes_itself, bytes_turned, joined_file, stays, named_now, named_other, names_of, all_lack, apart_last, names_append, find_before, find_last}
 
 -- ---- what a declaration without faults does
 

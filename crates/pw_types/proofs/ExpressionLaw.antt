@@ -12,7 +12,7 @@ use Rattle.pw_types.specs.declared.fault.Fault.{Fault}
 use Rattle.pw_tree.specs.Types.{is_pointer}
 use Rattle.pw_types.specs.Scopes.{Scope, meaning}
 use Rattle.pw_types.specs.Typed as called
-use Rattle.pw_types.specs.Typed.{pointer_of_type, pointer_callee, callee_of, parameters_of, with_both, both_trees, mark, Array, array_of, Designated, function_of, constant_type, typed, typed_all, typed_unary, typed_binary, typed_choice, typed_element}
+use Rattle.pw_types.specs.Typed.{pointer_of_type, pointer_callee, callee_of, parameters_of, with_both, both_trees, mark, Array, array_of, Designated, function_of, constant_type, typed, typed_all}
 use Rattle.pw_tree.specs.TypedExpressions.{type_of}
 use Rattle.pw_tree.specs.Held.{held}
 use Rattle.pw_types.specs.Steps.Uses.{uses, uses_of_all}

@@ -3,21 +3,21 @@ use Rattle.std.proofs.Common.{◌≡◌, ℕ, zero, suc, ◌+◌, ◌≤◌, ◌
 use Rattle.std.specs.Prelude.{nat_eq, slice_get, ⊤}
 use Rattle.std.specs.List.{list_any, AllByRecursion}
 use Rattle.pw_tree.specs.declared.ty.Ty.{Ty}
-use Rattle.pw_tree.specs.declared.ty.Ty.TheVariants.{Void, Long, Ulong, Fn}
+use Rattle.pw_tree.specs.declared.ty.Ty.TheVariants.{Long}
 use Rattle.pw_tree.specs.declared.ty.Sig.{Sig}
-use Rattle.pw_tree.specs.Expressions.{Span, Expression, Expressions, constant, word, unary, binary, conditional, call, index, input, output, nil, cons}
+use Rattle.pw_tree.specs.Expressions.{Span, Expression, Expressions, word}
 use Rattle.pw_tree.specs.TypedExpressions.{TypedExpression, TypedExpressions, type_of}
 use Rattle.pw_tree.specs.TypedExpressions as tree
 use Rattle.pw_tree.specs.Units.{TypedUnit}
 use Rattle.pw_tree.specs.Held.{count}
 use Rattle.pw_tree.specs.Placed.{span_of, token_after, IsPlaced, ArePlaced}
 use Rattle.pw_tree.specs.Proper.{HasNumbers, HaveNumbers}
-use Rattle.pw_tree.specs.WellTypedExpressions.{Class, number, pointer, class_of, IsFunction, IsVariable, HasClass, Calls, CallsPointer, Points, ArgumentsFit, AreNumbers, HasFittingParts, IsKnown, ReadsKnown, HasSmallNumbers, Throughout, ThroughoutAll, expressions_in, expressions_in_all}
+use Rattle.pw_tree.specs.WellTypedExpressions.{Class, number, pointer, class_of, IsFunction, IsVariable, ArgumentsFit, AreNumbers, HasFittingParts, IsKnown, ReadsKnown, HasSmallNumbers, Throughout, ThroughoutAll, expressions_in, expressions_in_all}
 use Rattle.pw_types.specs.declared.names.Kind.TheVariants.{Function, Variable}
 use Rattle.pw_types.specs.declared.names.File.{File}
 use Rattle.pw_types.specs.declared.names.Local.{Local}
-use Rattle.pw_types.specs.Scopes.{Scope, Meaning, missing, a_local, declared, meaning, local_or, local_named, file_named, declared_or_missing, function_reference, variable_reference}
-use Rattle.pw_types.specs.Typed.{mark, constant_type}
+use Rattle.pw_types.specs.Scopes.{Scope, a_local, declared, meaning, local_or, local_named, file_named, declared_or_missing, function_reference, variable_reference}
+use Rattle.pw_types.specs.Typed.{constant_type}
 use Rattle.pw_types.specs.Steps.Uses.{file_number, uses_of_meaning, uses, uses_of_all}
 use Rattle.pw_types.proofs.KeyedFiles.{named}
 use Rattle.pw_types.proofs.StandingExpressions.{placed_within}

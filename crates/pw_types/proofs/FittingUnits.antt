@@ -1,37 +1,31 @@
 -- What names at file scope mean in the typed unit of a unit without faults: its functions and variables by number, and the
 -- external names by their texts.
-use Rattle.std.proofs.Common.{◌≡◌, ℕ, zero, suc, ◌+◌, ◌-◌, ◌≤◌, Bool, true, false, ◌||◌, ◌&&◌, not, cond, if◌then◌else◌, List, [], ◌∷◌, ◌++◌, length, map, find, Option, Some, None, is_some, refl, sym, ap, subst, ◌∙◌, arith, inl, inr, ◌⊎◌, bytes_eq}
+use Rattle.std.proofs.Common.{◌≡◌, ℕ, suc, ◌+◌, ◌-◌, ◌≤◌, Bool, true, false, ◌||◌, ◌&&◌, not, cond, if◌then◌else◌, List, [], ◌∷◌, ◌++◌, map, find, Option, Some, None, refl, sym, ap, subst, ◌∙◌, arith, inl, inr, ◌⊎◌, bytes_eq}
 use Rattle.std.specs.Prelude.{⊤, option_and_then, slice_get, nat_eq}
-use Rattle.std.specs.List.{list_any, AllByRecursion, IsDistinct, flat_map, prefix_len}
-use Rattle.std.proofs.lemmas.Bool.{cases_Bool}
+use Rattle.std.specs.List.{list_any, AllByRecursion, IsDistinct, flat_map}
 use Rattle.std.proofs.lemmas.List.{map-append}
 use Rattle.pw_tree.specs.declared.ty.Ty.{Ty}
 use Rattle.pw_tree.specs.declared.ty.Sig.{Sig}
-use Rattle.pw_tree.specs.declared.ty.Ref.{Ref}
 use Rattle.pw_tree.specs.declared.ty.Ref.TheVariants.{Global, LocalFun, LocalVar}
 use Rattle.pw_tree.specs.declared.tunit.TVar.{TVar}
 use Rattle.pw_tree.specs.declared.decl.InitItem.{InitItem}
 use Rattle.pw_tree.specs.Declarations.{Declaration, DeclarationForm, prototype, definition, variable, UntypedUnit}
 use Rattle.pw_tree.specs.Units.{Function as TypedFunction, TypedUnit}
-use Rattle.pw_tree.specs.TypeTexts.{text_of_function, text_of_variable}
-use Rattle.pw_tree.specs.WellTypedExpressions.{text_named, IsSignature, static_sig, NamesFunction, IsFunction, Shape, static_shape, NamesVariable, IsVariable}
+use Rattle.pw_tree.specs.WellTypedExpressions.{text_named, static_sig, NamesFunction, IsFunction, static_shape, NamesVariable, IsVariable}
 use Rattle.pw_tree.specs.WellTypedUnits.{FunctionIsNamed, VariableIsNamed}
 use Rattle.pw_types.specs.declared.rule.Rule.TheVariants as rules
-use Rattle.pw_types.specs.declared.names.Kind.{Kind}
 use Rattle.pw_types.specs.declared.names.Kind.TheVariants.{Function, Variable}
 use Rattle.pw_types.specs.declared.names.File.{File}
-use Rattle.pw_types.specs.Faults.{broken_by}
-use Rattle.pw_types.specs.Scopes.{Scope, file_named, number_of, function_reference, variable_reference}
-use Rattle.pw_types.specs.Steps.Uses.{file_number, is_kept_by_number, names_by_number, uses_of_declarations}
+use Rattle.pw_types.specs.Scopes.{file_named, number_of, function_reference, variable_reference}
+use Rattle.pw_types.specs.Steps.Uses.{file_number, names_by_number, uses_of_declarations}
 use Rattle.pw_types.specs.Declarations.{Whole, file_scope, is_external, is_extern, defines, kind_of, first_of, declared_by}
-use Rattle.pw_types.specs.Units.{function_in, variable_in, without, each_once, functions_of, variables_of, whole_of, files_after, is_function, lacks_definition, faults_of_lacking, typed_functions_of, typed_variable, typed_variables_of, typed_functions, typed_variables, text_of_kind}
+use Rattle.pw_types.specs.Units.{function_in, variable_in, without, each_once, whole_of, files_after, is_function, lacks_definition, faults_of_lacking, typed_functions_of, typed_variable, typed_variables_of, typed_functions, typed_variables, text_of_kind}
 use Rattle.pw_types.specs.Steps.CheckingUnits.{unit_by_number}
-use Rattle.pw_types.specs.Steps.UnitFaults.{faults_of_declarations}
 use Rattle.pw_types.specs.Steps.Texts.{HasText, HaveTexts}
 use Rattle.pw_types.proofs.Fitting.{IsAmong, FilesFit}
-use Rattle.pw_types.proofs.JoinedFiles.{bytes_same, names_of, Stays, stays}
+use Rattle.pw_types.proofs.JoinedFiles.{names_of, Stays, stays}
 use Rattle.pw_types.proofs.NamedTexts.{text_of_name, text_of_file}
-use Rattle.pw_types.proofs.DefinedNames.{function_entry, variable_entry, function_entries, variable_entries, StandsIn, FoundIn, AreDefined}
+use Rattle.pw_types.proofs.DefinedNames.{function_entry, variable_entry, function_entries, variable_entries, StandsIn, AreDefined}
 
 -- ---- what stands at one moment stands at the end
 

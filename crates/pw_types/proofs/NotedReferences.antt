@@ -1,6 +1,6 @@
 -- The numbers that judging notes are those of the references in the typed tree: a name at file scope has its number noted where
 -- a reference to it stands.
-use Rattle.std.proofs.Common.{◌≡◌, ℕ, Bool, true, false, ◌||◌, ◌&&◌, if◌then◌else◌, List, [], ◌∷◌, ◌++◌, Option, Some, None, refl, sym, ap, subst, ◌∙◌, append_assoc, bytes_eq}
+use Rattle.std.proofs.Common.{◌≡◌, ℕ, Bool, true, false, ◌||◌, ◌&&◌, if◌then◌else◌, List, [], ◌∷◌, ◌++◌, Option, Some, None, refl, sym, ap, ◌∙◌, append_assoc, bytes_eq}
 use Rattle.std.specs.Prelude.{nat_eq, option_map}
 use Rattle.std.specs.List.{list_any}
 use Rattle.std.proofs.lemmas.List.Folds.{list_any-append}
@@ -21,7 +21,7 @@ use Rattle.pw_types.specs.Units.{refers_to}
 use Rattle.pw_types.specs.Steps.Uses.{file_number, uses_of_meaning, uses_of_name, uses, uses_of_all, uses_of_option, uses_by, uses_by_all, uses_by_maybe}
 use Rattle.pw_types.proofs.Fitting.{own_file}
 use Rattle.pw_types.proofs.Sound.{Sound, sound_constant, sound_local, sound_variable, sound_function, sound_element, sound_unary, sound_binary, sound_conditional, sound_call, sound_pointer, sound_input, sound_output, AllSound, sound_nil, sound_cons}
-use Rattle.pw_types.proofs.SoundStatements.{IsTypedAs, IsWhole, IsOptionWhole, SoundSet, set_to_local, set_to_variable, set_to_element, Returns, IsSound, AreSound, IsMaybeSound}
+use Rattle.pw_types.proofs.SoundStatements.{IsTypedAs, IsOptionWhole, SoundSet, set_to_local, set_to_variable, set_to_element, Returns, IsSound, AreSound, IsMaybeSound}
 
 pub or_false : (b : Bool) → (b || false) ≡ b
 or_false true = refl

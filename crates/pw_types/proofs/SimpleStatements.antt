@@ -5,7 +5,7 @@ use Rattle.std.proofs.lemmas.List.{append-nil}
 use Rattle.pw_tree.specs.Expressions.{Span, Expression}
 use Rattle.pw_tree.specs.TypedExpressions.{TypedExpression, typed_expression_of}
 use Rattle.pw_tree.specs.Statements.{empty, evaluate, returns, breaks, continues}
-use Rattle.pw_tree.specs.TypedStatements.{TypedStatement, TypedStatements}
+use Rattle.pw_tree.specs.TypedStatements.{TypedStatement}
 use Rattle.pw_tree.specs.TypedStatements as tree
 use Rattle.pw_tree.specs.declared.ty.Ty.{Ty}
 use Rattle.pw_tree.specs.declared.texpr.TExpr.{TExpr, out-TExpr}

@@ -19,7 +19,7 @@ use Rattle.pw_types.specs.declared.names.Kind.TheVariants.{Function, Variable}
 use Rattle.pw_types.specs.declared.names.File.{File}
 use Rattle.pw_types.specs.Scopes.{Scope, Meaning, missing, a_local, declared, meaning, function_reference, variable_reference}
 use Rattle.pw_types.specs.Typed.{mark, constant_type, typed_file, typed_name, Array, array_of, array_of_meaning, array_of_kind, Designated, function_of, function_of_meaning, function_of_kind, Callee as Called, direct, through, pointer_of_type, pointer_callee, callee_of, parameters_of, called, typed_unary, typed_binary, typed_choice, typed_element, with_both, with_three, both_trees, typed, typed_all}
-use Rattle.pw_types.specs.Expressions.{is_base, is_missing, is_judged, is_word, has_type, how_many, callee_in, first_parameter, other_parameters}
+use Rattle.pw_types.specs.Expressions.{is_base, is_missing, is_word, has_type, how_many, callee_in, first_parameter, other_parameters}
 use Rattle.pw_types.specs.Steps.ExpressionFaults.{unless_direct, faults, faults_of_arguments}
 use Rattle.pw_types.proofs.Empty.{left_empty, right_empty}
 use Rattle.pw_types.proofs.NoFaults.{or_left, or_right, NoOwn, breaks_none}

@@ -2,32 +2,29 @@
 -- statements fit.
 use Rattle.std.proofs.Common.{◌≡◌, ℕ, zero, suc, ◌+◌, ◌≤◌, ◌<◌, Bool, true, false, ◌||◌, if◌then◌else◌, List, [], ◌∷◌, ◌++◌, length, map, Option, Some, None, is_some, refl, sym, ap, subst, ◌∙◌, arith, append_assoc, length-append, eq-eqb, ◌⊎◌}
 use Rattle.std.specs.Prelude.{⊤, nat_eq, slice_get, option_map, bytes_eq}
-use Rattle.std.specs.List.{list_any, AllByRecursion}
+use Rattle.std.specs.List.{list_any}
 use Rattle.std.proofs.lemmas.Bool.{cases_Bool}
 use Rattle.std.proofs.Common.{inl, inr}
 use Rattle.pw_tree.specs.declared.ty.Ty.{Ty}
-use Rattle.pw_tree.specs.declared.ty.Ty.TheVariants.{Void, Long, Ulong, Fn}
 use Rattle.pw_tree.specs.Expressions.{Span, Expression}
 use Rattle.pw_tree.specs.Statements.{Statement, Statements, OptionalStatement, empty, block, local, set, evaluate, if_else, while_loop, do_loop, for_loop, returns, breaks, continues, nil, cons, absent, present}
-use Rattle.pw_tree.specs.TypedExpressions.{TypedExpression, type_of}
 use Rattle.pw_tree.specs.TypedStatements.{TypedStatement}
 use Rattle.pw_tree.specs.TypedStatements as tree
-use Rattle.pw_tree.specs.Types.{IsValueType}
 use Rattle.pw_tree.specs.Units.{TypedUnit}
-use Rattle.pw_tree.specs.Proper.{IsNoDeclaration, IsNoElseDeclaration, IsSimpleStatement, IsLastPart, IsProper, AreProper, IsMaybeProper}
-use Rattle.pw_tree.specs.WellTypedExpressions.{Class, number, class_of, class, IsValue, IsValueClass, HasFittingParts, IsKnown, Throughout}
-use Rattle.pw_tree.specs.WellTypedStatements.{IfPresent, Everywhere, EverywhereIn, EverywhereIf, LocalFits, ReturnFits, IsCondition, StatementFits, known_after, known_after_maybe, ExpressionReads, StatementReads, StatementsRead, MaybeReads}
+use Rattle.pw_tree.specs.Proper.{IsNoDeclaration, IsSimpleStatement, IsLastPart, IsProper, AreProper, IsMaybeProper}
+use Rattle.pw_tree.specs.WellTypedExpressions.{Class, number, class_of, HasFittingParts, IsKnown, Throughout}
+use Rattle.pw_tree.specs.WellTypedStatements.{IfPresent, Everywhere, EverywhereIn, EverywhereIf, IsCondition, StatementFits, known_after, known_after_maybe, ExpressionReads, StatementReads, StatementsRead, MaybeReads}
 use Rattle.pw_types.specs.declared.role.Role.{Role}
 use Rattle.pw_types.specs.declared.role.Role.TheVariants.{Statement as AsStatement, Value, Assigned}
 use Rattle.pw_types.specs.declared.names.Local.{Local}
 use Rattle.pw_types.specs.declared.names.File.{File}
 use Rattle.pw_types.specs.Scopes.{Scope, meaning, declared, local_named}
 use Rattle.pw_types.specs.Steps.Uses.{uses_of_meaning, uses_of_name, uses, file_number, uses_of_option, uses_by, uses_by_all, uses_by_maybe}
-use Rattle.pw_types.specs.Blocks.{Setting, part, body, head, Block, inner, after, after_maybe, with_local, past, locals_in, locals_in_all, locals_in_maybe}
+use Rattle.pw_types.specs.Blocks.{Setting, part, body, head, Block, inner, after, after_maybe, with_local, locals_in, locals_in_all, locals_in_maybe}
 use Rattle.pw_types.specs.TypedStatements.{typed_expression, typed_set, typed_statement, typed_statements, optional_typed_statement}
-use Rattle.pw_types.proofs.Classes.{number_class, value_class, void_class, converted_class, converted_value}
+use Rattle.pw_types.proofs.Classes.{number_class, value_class, void_class, converted_class}
 use Rattle.pw_types.proofs.Fitting.{IsAmong, AreAmong, among_left, among_right, local_meant, own_file, LocalsFit, FilesFit, parts_fit, reads_known}
-use Rattle.pw_types.proofs.SoundStatements.{IsTypedAs, IsWhole, IsOptionWhole, SoundSet, set_to_local, set_to_variable, set_to_element, ReturnsWell, Returns, DeclaresWell, IsSound, AreSound, IsMaybeSound}
+use Rattle.pw_types.proofs.SoundStatements.{IsTypedAs, IsOptionWhole, SoundSet, set_to_local, set_to_variable, set_to_element, Returns, IsSound, AreSound, IsMaybeSound}
 
 -- ---- the types of a body's locals, in order of their numbers
 

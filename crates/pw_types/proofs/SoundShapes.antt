@@ -1,6 +1,6 @@
 -- The typed statements of a body without faults: loops are left from within, the parts of a `for` are simple, numbers are small,
 -- few values are held, and there are no more phrases than tokens.
-use Rattle.std.proofs.Common.{◌≡◌, ℕ, zero, suc, ◌+◌, ◌-◌, ◌^◌, ◌≤◌, ◌<◌, Bool, true, false, List, [], ◌∷◌, Option, Some, None, refl, sym, ap, subst, arith}
+use Rattle.std.proofs.Common.{◌≡◌, ℕ, zero, suc, ◌+◌, ◌-◌, ◌^◌, ◌≤◌, ◌<◌, Bool, true, false, List, [], ◌∷◌, Option, Some, None, refl, sym, subst, arith}
 use Rattle.std.specs.Prelude.{⊤, slice_index_or, option_map}
 use Rattle.std.specs.List.{AllByRecursion}
 use Rattle.pw_tree.specs.declared.ty.Ty.{Ty}
@@ -8,21 +8,21 @@ use Rattle.pw_tree.specs.Expressions.{Span, Expression}
 use Rattle.pw_tree.specs.Statements.{Statement, Statements, OptionalStatement, empty, block, local, set, evaluate, if_else, while_loop, do_loop, for_loop, returns, breaks, continues, nil, cons, absent, present}
 use Rattle.pw_tree.specs.TypedStatements.{TypedStatement}
 use Rattle.pw_tree.specs.TypedStatements as tree
-use Rattle.pw_tree.specs.Held.{held, held_option, held_by, held_by_all, held_by_maybe}
-use Rattle.pw_tree.specs.Placed.{span_of, token_after, token_after_option, local_name_at, index_end, statement_span, token_after_statement, token_after_maybe, set_end, IsPlaced, IsOptionPlaced, IsSetPlaced, IsStatementPlaced, AreStatementsPlaced, IsMaybePlaced}
+use Rattle.pw_tree.specs.Held.{held_option, held_by, held_by_all, held_by_maybe}
+use Rattle.pw_tree.specs.Placed.{token_after_option, statement_span, token_after_statement, token_after_maybe, set_end, IsOptionPlaced, IsSetPlaced, IsStatementPlaced, AreStatementsPlaced, IsMaybePlaced}
 use Rattle.pw_tree.specs.Proper.{IsSimpleStatement, IsSimpleOrDeclaration, IsFirstPart, IsLastPart, IsProper, AreProper, IsMaybeProper, HasNumbers, HasOptionNumbers, HasStatementNumbers, HaveStatementNumbers, HasMaybeNumbers}
-use Rattle.pw_tree.specs.WellTypedExpressions.{HasSmallNumbers, Throughout, expressions_in}
+use Rattle.pw_tree.specs.WellTypedExpressions.{HasSmallNumbers, Throughout}
 use Rattle.pw_tree.specs.WellTypedStatements.{IfPresent, Everywhere, EverywhereIn, EverywhereIf, LeavesLoops, AllLeaveLoops, MaybeLeavesLoops, HasSimpleParts, StatementHasSmallNumbers, expressions_in_option, phrases_in, phrases_in_all, phrases_in_maybe}
 use Rattle.pw_tree.specs.WellTypedStatements as typed
 use Rattle.pw_types.specs.declared.role.Role.{Role}
 use Rattle.pw_types.specs.declared.role.Role.TheVariants.{Value, Assigned}
 use Rattle.pw_types.specs.Scopes.{Scope}
 use Rattle.pw_types.specs.Blocks.{Setting, part, body, head, Block, inner, after, after_maybe}
-use Rattle.pw_types.specs.TypedStatements.{typed_expression, bracket_line, typed_set, typed_statement, typed_statements, optional_typed_statement}
+use Rattle.pw_types.specs.TypedStatements.{typed_expression, typed_statement, typed_statements, optional_typed_statement}
 use Rattle.pw_types.proofs.StandingExpressions.{placed_within}
 use Rattle.pw_types.proofs.StandingStatements.{name_after, statement_within}
 use Rattle.pw_types.proofs.Fitting.{numbers_small, expression_counted}
-use Rattle.pw_types.proofs.SoundStatements.{IsTypedAs, IsWhole, IsOptionWhole, SoundSet, set_to_local, set_to_variable, set_to_element, ReturnsWell, Returns, DeclaresWell, IsSound, AreSound, IsMaybeSound}
+use Rattle.pw_types.proofs.SoundStatements.{IsOptionWhole, SoundSet, set_to_local, set_to_variable, set_to_element, Returns, IsSound, AreSound, IsMaybeSound}
 
 -- ---- loops
 

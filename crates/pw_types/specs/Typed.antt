@@ -7,7 +7,7 @@ use Rattle.pw_tree.specs.declared.ty.Sig.{Sig}
 use Rattle.pw_tree.specs.declared.operator.Un.{Un}
 use Rattle.pw_tree.specs.declared.operator.Bin.{Bin}
 use Rattle.pw_tree.specs.Expressions.{Span, Expression, Expressions, constant, word, unary, binary, conditional, call, index, input, output, nil, cons}
-use Rattle.pw_tree.specs.TypedExpressions.{Mark, TypedExpression, TypedExpressions, mark_of, type_of}
+use Rattle.pw_tree.specs.TypedExpressions.{Mark, TypedExpression, TypedExpressions, type_of}
 use Rattle.pw_tree.specs.TypedExpressions as tree
 use Rattle.pw_tree.specs.Types.{is_number, unary_type, binary_type, choice_type, pointer_to}
 use Rattle.pw_types.specs.declared.names.Kind.{Kind}

@@ -1,4 +1,4 @@
-use Rattle.std.proofs.Common.{◌≡◌, ◌∙◌, ap, arith}
+use Rattle.std.proofs.Common.{◌≡◌, ◌∙◌, arith}
 use Rattle.pw_elf.proofs.SmallFields.{byte_is_field, no_byte}
 use Rattle.pw_elf.proofs.bytes.u8_at.Goals as goal
 

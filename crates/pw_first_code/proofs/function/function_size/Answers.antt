@@ -1,4 +1,4 @@
-use Rattle.std.proofs.Common.{arith, sym, ◌∙◌, ap, ◌+◌, ◌*◌, length}
+use Rattle.std.proofs.Common.{sym, ◌∙◌, ap, ◌+◌, ◌*◌}
 use Rattle.pw_first_code.proofs.CodeWords.{size-function}
 use Rattle.pw_first_code.proofs.function.function_size.Goals as goal
 
