@@ -1,3 +1,4 @@
+-- The answers to the goals of `u8_at` in `src/bytes.rt`.
 use Rattle.std.proofs.Common.{◌≡◌, ◌∙◌, arith}
 use Rattle.pw_elf.proofs.SmallFields.{byte_is_field, no_byte}
 use Rattle.pw_elf.proofs.bytes.u8_at.Goals as goal

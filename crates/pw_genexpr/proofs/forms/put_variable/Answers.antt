@@ -1,3 +1,4 @@
+-- The answers to the goals of `put_variable` in `src/forms.rt`.
 use Rattle.std.proofs.Common.{◌≡◌, ◌+◌, ◌*◌, ◌++◌, [], ◌∷◌, pos, ◌∙◌}
 use Rattle.pw_isa.specs.declared.instruction.Inst.TheVariants.{Ld}
 use Rattle.pw_isa.specs.Registers.{t0, a0}

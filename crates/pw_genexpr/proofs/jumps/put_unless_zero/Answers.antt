@@ -1,3 +1,4 @@
+-- The answers to the goals of `put_unless_zero` in `src/jumps.rt`.
 use Rattle.std.proofs.Common.{◌≡◌, ◌+◌, ◌*◌, ◌++◌, [], ◌∷◌, pos, ◌∙◌}
 use Rattle.pw_isa.specs.declared.instruction.Inst.TheVariants.{Bne}
 use Rattle.pw_isa.specs.Registers.{x0, a0}

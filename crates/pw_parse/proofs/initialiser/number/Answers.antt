@@ -1,3 +1,4 @@
+-- The answers to the goals of `number` in `src/initialiser.rt`.
 use Rattle.std.proofs.Common.{◌≡◌, ◌≢◌, ℕ, Bool, Ok, Err, rules, arith}
 use Rattle.std.proofs.lemmas.Grind.{common_steps}
 use Rattle.pw_lex.specs.declared.token.Token.{Token}

@@ -1,3 +1,4 @@
+-- The answers to the goals of `named_value` in `src/expression_name.rt`.
 use Rattle.std.proofs.Common.{◌≡◌, ap, sym, ◌∙◌}
 use Rattle.pw_types.specs.Scopes.{Meaning, missing, meaning}
 use Rattle.pw_types.specs.Steps.Judging.{Judge}

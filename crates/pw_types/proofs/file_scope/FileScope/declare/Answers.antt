@@ -1,3 +1,4 @@
+-- The answers to the goals of `FileScope::declare` in `src/file_scope.rt`.
 use Rattle.std.proofs.Common.{◌∙◌, sym, ap, subst, None, ◌≡◌}
 use Rattle.std.specs.Map.{lookup}
 use Rattle.pw_types.specs.Scopes.{with_file}

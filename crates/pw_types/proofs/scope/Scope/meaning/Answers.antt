@@ -1,3 +1,4 @@
+-- The answers to the goals of `Scope::meaning` in `src/scope.rt`.
 use Rattle.std.proofs.Common.{◌≡◌, ◌∙◌, ap, subst}
 use Rattle.pw_types.specs.Scopes.{local_named, meaning, a_local, missing}
 use Rattle.pw_types.specs.Steps.Lookups.{IsDeclared}

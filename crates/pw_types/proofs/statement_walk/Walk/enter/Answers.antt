@@ -1,3 +1,4 @@
+-- The answers to the goals of `Walk::enter` in `src/statement_walk.rt`.
 use Rattle.std.proofs.Common.{Ok, lit<, sym, ◌∙◌, subst, ◌<◌}
 use Rattle.pw_tree.specs.Statements.{Statement}
 use Rattle.pw_types.specs.Steps.StatementWeights.{weight, weight_of_step}

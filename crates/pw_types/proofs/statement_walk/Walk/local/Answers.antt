@@ -1,3 +1,4 @@
+-- The answers to the goals of `Walk::local` in `src/statement_walk.rt`.
 use Rattle.std.proofs.Common.{◌≡◌, [], ap, sym, ◌∙◌}
 use Rattle.pw_types.specs.Steps.CheckingStatements.{block_of, span_of_statement}
 use Rattle.pw_tree.specs.Placed.{local_name_at}
