@@ -30,7 +30,8 @@ size-append [] b = omega arith
 size-append (part ∷ a) b = omega (arith, size-append a b)
 
 -- Either code by a test has the size by that test.
-size-either : (t : Bool) (a b : List Part) (m n : ℕ) → size a ≡ m → size b ≡ n → size (if t then a else b) ≡ (if t then m else n)
+size-either : (t : Bool) (a b : List Part) (m n : ℕ) → size a ≡ m → size b ≡ n →
+    size (if t then a else b) ≡ (if t then m else n)
 size-either true a b m n ea eb = ea
 size-either false a b m n ea eb = eb
 
@@ -177,7 +178,8 @@ unfolding size
 size-value frame None = refl
 size-value frame (Some e) = size-expression frame 0 e
 
-size-condition : (frame : Frame) (c : Option TypedExpression) (words : ℕ) → size (condition_code frame c words) ≡ condition_words c
+size-condition : (frame : Frame) (c : Option TypedExpression) (words : ℕ) →
+    size (condition_code frame c words) ≡ condition_words c
 unfolding size
 size-condition frame None words = refl
 size-condition frame (Some c) words = simp size-append (omega (arith, size-expression frame 0 c))

@@ -44,7 +44,8 @@ keeps c n L p q l = record {
 long_enough : (a k n : ℕ) → k < a + n → a ≤ k → 0 < n
 long_enough a k n far near = omega arith
 
-pub keeps_within : {A : Type 0} (c : Sort → Type 0) (n : ℕ) (L M : Language A) (p q : Parser A) → Within L M → Keeps c n L p q → Keeps c n M p q
+pub keeps_within : {A : Type 0} (c : Sort → Type 0) (n : ℕ) (L M : Language A) (p q : Parser A) → Within L M → Keeps c n L p q →
+    Keeps c n M p q
 keeps_within c n L M p q w l = record {
   settled = l.settled;
   says = λ i h. says_within w i (p i) (l.says i h);
@@ -104,7 +105,8 @@ lawful_test {A} t n L p p' q q' yes_ no_ can = record {
   can = can;
 }
   where
-    settles : (i : Position) (b : Bool) → t (next_sort i) ≡ b → length i.rest < n → (if b then p i else q i) ≡ (if b then p' i else q' i)
+    settles : (i : Position) (b : Bool) → t (next_sort i) ≡ b → length i.rest < n →
+        (if b then p i else q i) ≡ (if b then p' i else q' i)
     settles i true e short = yes_.settled i e short
     settles i false e short = no_.settled i e short
 
@@ -112,7 +114,8 @@ lawful_test {A} t n L p p' q q' yes_ no_ can = record {
     tells i true e = yes_.says i e
     tells i false e = no_.says i e
 
-    keeps_on : (k : ℕ) (i j : Position) (b : Bool) → t (next_sort i) ≡ b → Agree k i j → Same k (if b then p i else q i) (if b then p j else q j)
+    keeps_on : (k : ℕ) (i j : Position) (b : Bool) → t (next_sort i) ≡ b → Agree k i j →
+        Same k (if b then p i else q i) (if b then p j else q j)
     keeps_on k i j true e same = yes_.steady k i j e same
     keeps_on k i j false e same = no_.steady k i j e same
 
@@ -145,7 +148,8 @@ lawful_option {A} {B} h n L F G none_ some_ can = record {
     keeps_on k i j None e same = none_.steady k i j e same
     keeps_on k i j (Some b) e same = (some_ b).steady k i j e same
 
-    stays : (k : ℕ) (i j : Position) → Agree k i j → (i.at ≤ k) ⊎ (k < i.at) → Same k (F (h (next_sort i)) i) (F (h (next_sort j)) j)
+    stays : (k : ℕ) (i j : Position) → Agree k i j → (i.at ≤ k) ⊎ (k < i.at) →
+        Same k (F (h (next_sort i)) i) (F (h (next_sort j)) j)
     stays k i j same (inl near) =
         subst (λ x. Same k (F (h (next_sort i)) i) (F (h x) j)) (sym (next_agrees k i j same near))
         (keeps_on k i j (h (next_sort i)) refl same)

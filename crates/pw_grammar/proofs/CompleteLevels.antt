@@ -54,7 +54,8 @@ wrapped_is (prefixed t a) at last h =
     (ap (λ m. read.under_operators (suc at) last (operators_of a) (expression_tree m (operand_of a))) (omega arith) ∙ wrapped_is a (suc at) last (h ∙ omega arith))
 wrapped_is c at last h = ap (λ m. expression_tree m c) (omega arith)
 
-no_operators : (turns : ℕ) (found : List (Un × ℕ)) (i : Position) → prefix_of (next_sort i) ≡ None → read.operators turns found i ≡ Ok (found, i)
+no_operators : (turns : ℕ) (found : List (Un × ℕ)) (i : Position) → prefix_of (next_sort i) ≡ None →
+    read.operators turns found i ≡ Ok (found, i)
 unfolding read.operators read.prefix_operator
 no_operators zero found i h = refl
 no_operators (suc turns) found i h = ap (λ o. read_then (read.prefix_by o i) (λ x. on_option x (pure found) (λ op. read.operators turns (found ++ op ∷ [])))) h
@@ -68,7 +69,8 @@ unfolding read.prefix_operator
 prefix_operator_reads t at ts o =
     ap (λ x. read.prefix_by x (record { at = at; rest = t ∷ ts })) (prefix_is t o) ∙ then_ _ (step_skip at t ts) refl
 
-operators_read : (c : ExpressionDerivation) (turns : ℕ) (found : List (Un × ℕ)) (at : ℕ) (r : List Token) → IsAt 2 c → length (operators_of c) ≤ turns
+operators_read : (c : ExpressionDerivation) (turns : ℕ) (found : List (Un × ℕ)) (at : ℕ) (r : List Token) → IsAt 2 c →
+    length (operators_of c) ≤ turns
     → read.operators turns found (record { at = at; rest = spelled c ++ r })
     ≡ Ok (found ++ operators_of c, record { at = at + length (operators_of c); rest = spelled (operand_of c) ++ r })
 unfolding read.operators IsAt spelled
@@ -88,7 +90,8 @@ suffixes_end p n zero first left i stops = refl
 suffixes_end p n (suc turns) first left i stops =
     rw (sees_other s.LeftParen i stops.paren) (rw (sees_other s.LeftBracket i stops.bracket) refl)
 
-pub prefix_reads : (p : Parser Expr) (n : ℕ) → Knows p n → (c : ExpressionDerivation) (at : ℕ) (r : List Token) → IsAt 2 c → Stops 1 (first_sort r)
+pub prefix_reads : (p : Parser Expr) (n : ℕ) → Knows p n → (c : ExpressionDerivation) (at : ℕ) (r : List Token) → IsAt 2 c →
+    Stops 1 (first_sort r)
     → length (spelled c) + length r < suc n → IsRead (read.prefix p (suc n)) c at r
 unfolding read.prefix read.wrap
 prefix_reads p n knows c at r is stops short =
@@ -131,13 +134,15 @@ pub record Chained (p : Parser Expr) (n k : ℕ) (c : ExpressionDerivation) (at 
   pub comes : read.level p n (suc k) (record { at = at; rest = spelled c ++ r })
       ≡ read.chain (suc k + 2) (read.level p n k) turns at (expression_tree at c) (record { at = at + length (spelled c); rest = r })
 
-pub chained_reads : (p : Parser Expr) (n k : ℕ) (c : ExpressionDerivation) (at : ℕ) (r : List Token) → Chained p n k c at r → Stops (suc k + 2) (first_sort r)
+pub chained_reads : (p : Parser Expr) (n k : ℕ) (c : ExpressionDerivation) (at : ℕ) (r : List Token) → Chained p n k c at r →
+    Stops (suc k + 2) (first_sort r)
     → IsRead (read.level p n (suc k)) c at r
 chained_reads p n k c at r h stops =
     h.comes ∙ chain_ends (suc k + 2) (read.level p n k) h.turns at (expression_tree at c) (record { at = at + length (spelled c); rest = r }) stops
 
 -- a phrase of a level is one operand of the next
-pub lifted : (p : Parser Expr) (n k : ℕ) (c : ExpressionDerivation) (at : ℕ) (r : List Token) → IsRead (read.level p n k) c at r → length r < n
+pub lifted : (p : Parser Expr) (n k : ℕ) (c : ExpressionDerivation) (at : ℕ) (r : List Token) →
+    IsRead (read.level p n k) c at r → length r < n
     → Chained p n k c at r
 unfolding read.level
 lifted p n k c at r h short = record {
@@ -147,21 +152,25 @@ lifted p n k c at r h short = record {
 }
 
 -- a phrase of a level is read at each looser one
-pub reads_up : (p : Parser Expr) (n : ℕ) (d k m : ℕ) (c : ExpressionDerivation) (at : ℕ) (r : List Token) → m ≡ d + k → IsRead (read.level p n k) c at r
+pub reads_up : (p : Parser Expr) (n : ℕ) (d k m : ℕ) (c : ExpressionDerivation) (at : ℕ) (r : List Token) → m ≡ d + k →
+    IsRead (read.level p n k) c at r
     → Stops (m + 2) (first_sort r) → length r < n → IsRead (read.level p n m) c at r
 reads_up p n zero k m c at r same h stops short = subst (λ j. IsRead (read.level p n j) c at r) (let f : k ≡ m = omega (arith, same) in f) h
 reads_up p n (suc d) k m c at r same h stops short =
     reads_up p n d (suc k) m c at r (omega (arith, same))
     (chained_reads p n k c at r (lifted p n k c at r h short) (stops_less (suc k + 2) (m + 2) (first_sort r) (omega (arith, same)) stops)) stops short
 
-pub low_reads : (p : Parser Expr) (n : ℕ) → Knows p n → (k : ℕ) (c : ExpressionDerivation) (at : ℕ) (r : List Token) → IsAt 2 c → Stops (k + 2) (first_sort r)
+pub low_reads : (p : Parser Expr) (n : ℕ) → Knows p n → (k : ℕ) (c : ExpressionDerivation) (at : ℕ) (r : List Token) →
+    IsAt 2 c → Stops (k + 2) (first_sort r)
     → length (spelled c) + length r < suc n → IsRead (read.level p (suc n) k) c at r
 unfolding read.level
 low_reads p n knows k c at r is stops short =
     reads_up p (suc n) k 0 k c at r (omega arith)
     (prefix_reads p n knows c at r is (stops_less 1 (k + 2) (first_sort r) (omega arith) stops) short) stops (omega arith)
 
-pub binary_chained : (p : Parser Expr) (n k : ℕ) (a : ExpressionDerivation) (t : Token) (b : ExpressionDerivation) (at : ℕ) (r : List Token) → IsOperator (suc k + 2) (sort t)
+pub binary_chained :
+    (p : Parser Expr) (n k : ℕ) (a : ExpressionDerivation) (t : Token) (b : ExpressionDerivation) (at : ℕ) (r : List Token) →
+    IsOperator (suc k + 2) (sort t)
     → IsRead (read.level p n k) b (suc (at + length (spelled a))) r
     → (turns : ℕ) → length (t ∷ (spelled b ++ r)) < turns
     → read.level p n (suc k) (record { at = at; rest = spelled a ++ t ∷ (spelled b ++ r) })

@@ -259,7 +259,8 @@ forward_ok L i a j r = subst (λ n. i.at ≤ n) (sym r.leads.at) (omega arith)
 forward_err : {A : Type 0} (L : Language A) (i : Position) (e : SyntaxError) (m : ℕ) → HasStopped L i e → e ≡ At m → i.at ≤ m
 forward_err L i e m r is = let same : m ≡ r.place.at = ap token_of (sym is ∙ r.is) in omega (arith, same, r.leads.at)
 
-pub same_passed : {A : Type 0} (L : Language A) (i : Position) (k : ℕ) (o other : ReadResult A) → Says L i o → k < i.at → Same k o other
+pub same_passed : {A : Type 0} (L : Language A) (i : Position) (k : ℕ) (o other : ReadResult A) → Says L i o → k < i.at →
+    Same k o other
 same_passed L i k (Ok p) other r far = λ near. absurd (let on : i.at ≤ p.1.at = forward_ok L i p.0 p.1 r in omega arith)
 same_passed L i k (Err e) other r far = λ m is near. absurd (let on : i.at ≤ m = forward_err L i e m r is in omega arith)
 
@@ -315,7 +316,8 @@ bind_from m n L M p q f g lax first second shrinks = record {
 shorter : (n a b m : ℕ) → n ≡ a + b → n < m → b < m
 shorter n a b m e short = omega arith
 
-pub leaves_fewer : {A : Type 0} (L : Language A) (i : Position) (m : ℕ) (o : ReadResult A) → Says L i o → length i.rest < m → Leaves m o
+pub leaves_fewer : {A : Type 0} (L : Language A) (i : Position) (m : ℕ) (o : ReadResult A) → Says L i o → length i.rest < m →
+    Leaves m o
 leaves_fewer L i m (Ok p) r short = shorter (length i.rest) (length r.tokens) (length p.1.rest) m (ap length r.leads.rest ∙ length-append r.tokens p.1.rest) short
 leaves_fewer L i m (Err e) r short = tt
 

@@ -57,7 +57,8 @@ of_level : (level : ℕ) (b : Option Bin) (op : Bin) → r.at_level level b ≡ 
 of_level level None op h = absurd (none_some op h)
 of_level level (Some other) op h = of_test level other op (level_of other == level) refl h
 
-count_binary : (first at : ℕ) (u v : List Token) (t : Token) → at ≡ first + length u → suc at + length v ≡ first + length (u ++ t ∷ v)
+count_binary : (first at : ℕ) (u v : List Token) (t : Token) → at ≡ first + length u →
+    suc at + length v ≡ first + length (u ++ t ∷ v)
 count_binary first at u v t e = omega (arith, e, length-append u (t ∷ v))
 
 -- an operator and its right operand behind a phrase, and what stands behind those

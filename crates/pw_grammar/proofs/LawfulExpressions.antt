@@ -32,7 +32,8 @@ count_output : (at n m : ℕ) → m ≡ n + 1 → suc (suc (suc at) + n) ≡ at 
 count_output at n m e = omega arith
 
 -- `( e )`, once the bracket was seen
-bracketed_is : (n : ℕ) → Within (Then (λ x. is_same x s.LeftParen ≡ true) (λ o. WithExpression 13 (λ a. Then (λ x. x ≡ s.RightParen) (λ c. Pure a)))) (AnExpression n)
+bracketed_is : (n : ℕ) →
+    Within (Then (λ x. is_same x s.LeftParen ≡ true) (λ o. WithExpression 13 (λ a. Then (λ x. x ≡ s.RightParen) (λ c. Pure a)))) (AnExpression n)
 unfolding spelled IsAt expression_tree
 bracketed_is n at a u x o =
     let b = o.second in
@@ -52,7 +53,8 @@ lawful_bracketed n m p q l = keeps_within (λ x. is_same x s.LeftParen ≡ true)
     (λ a. lawful_then n s.RightParen _ _ _ paren (λ c. lawful_pure n a))))
 
 -- `__out ( e )`
-output_is : (n : ℕ) → Within (Here (λ first. Then (λ x. is_same x s.Output ≡ true) (λ line. Then (λ x. x ≡ s.LeftParen) (λ o. WithExpression 13 (λ a.
+output_is : (n : ℕ) →
+    Within (Here (λ first. Then (λ x. is_same x s.Output ≡ true) (λ line. Then (λ x. x ≡ s.LeftParen) (λ o. WithExpression 13 (λ a.
     Then (λ x. x ≡ s.RightParen) (λ c. ANode first line (e.Output a))))))) (AnExpression n)
 unfolding spelled IsAt expression_tree
 output_is n at a u x k =
@@ -151,7 +153,8 @@ primary_is_tests p s.Output = refl
 primary_is_tests p _ = refl
 
 -- the laws of readers that give the same outcomes
-pub lawful_equal : {A : Type 0} (n : ℕ) (L : Language A) (p q p' q' : Parser A) → ((i : Position) → p i ≡ p' i) → ((i : Position) → q i ≡ q' i)
+pub lawful_equal : {A : Type 0} (n : ℕ) (L : Language A) (p q p' q' : Parser A) → ((i : Position) → p i ≡ p' i) →
+    ((i : Position) → q i ≡ q' i)
     → Lawful n L p' q' → Lawful n L p q
 lawful_equal n L p q p' q' left right l = record {
   settled = λ i short. left i ∙ (l.settled i short ∙ sym (right i));
@@ -160,7 +163,8 @@ lawful_equal n L p q p' q' left right l = record {
   can = l.can;
 }
 
-pub lawful_primary : (n m : ℕ) (p q : Parser Expr) → Lawful n (AnExpression 13) p q → Lawful (suc n) (AnExpression m) (r.primary p) (r.primary q)
+pub lawful_primary : (n m : ℕ) (p q : Parser Expr) → Lawful n (AnExpression 13) p q →
+    Lawful (suc n) (AnExpression m) (r.primary p) (r.primary q)
 unfolding r.primary primary_tests
 lawful_primary n m p q l = lawful_equal (suc n) (AnExpression m) _ _ (λ i. primary_tests p (next_sort i) i) (λ i. primary_tests q (next_sort i) i)
     (λ i. ap (λ f. f i) (primary_is_tests p (next_sort i))) (λ i. ap (λ f. f i) (primary_is_tests q (next_sort i)))

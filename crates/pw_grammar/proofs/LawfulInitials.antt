@@ -89,7 +89,8 @@ kind_goes_on at = record {
   starts = λ e x o. number_starts x;
 }
 
-lawful_signed : (n : ℕ) → Lawful n AKind (either s.Minus r.element_negative r.element_positive) (either s.Minus r.element_negative r.element_positive)
+lawful_signed : (n : ℕ) →
+    Lawful n AKind (either s.Minus r.element_negative r.element_positive) (either s.Minus r.element_negative r.element_positive)
 unfolding r.element_negative r.element_positive sees
 lawful_signed n = lawful_test (λ x. is_same x s.Minus) n AKind _ _ _ _
     (keeps_within (Is s.Minus) n _ AKind _ _ negative_is (keeps_then_fewer (Is s.Minus) n _ _ _ (no_end s.Minus (λ z. cc))
@@ -112,7 +113,8 @@ record IsItem (first line : ℕ) (kind : InitKind) (at : ℕ) (a : InitItem) (u 
 abbrev AnItem : ℕ → ℕ → InitKind → Language InitItem
 AnItem first line kind = λ at a u x. IsItem first line kind at a u
 
-lawful_finish_element : (n first line : ℕ) (kind : InitKind) → Lawful n (AnItem first line kind) (r.finish_element first line kind) (r.finish_element first line kind)
+lawful_finish_element : (n first line : ℕ) (kind : InitKind) →
+    Lawful n (AnItem first line kind) (r.finish_element first line kind) (r.finish_element first line kind)
 lawful_finish_element n first line kind = record {
   settled = λ i short. refl;
   says = λ i. record { tokens = []; leads = leads_nowhere i; reads = record { is = refl; empty = refl } };
@@ -186,7 +188,8 @@ items_of_next found at (Some p) = found ++ g.element_of at p.0 ∷ g.more_elemen
 abbrev ANext : List InitItem → Language (List InitItem)
 ANext found = APhrase IsNext spelled_next (items_of_next found)
 
-some_next_is : (found : List InitItem) → Within (WithPhrase g.IsElement g.spelled_element g.element_of (λ x. MoreItems (found ++ x ∷ []))) (ANext found)
+some_next_is : (found : List InitItem) →
+    Within (WithPhrase g.IsElement g.spelled_element g.element_of (λ x. MoreItems (found ++ x ∷ []))) (ANext found)
 some_next_is found at a u x y = record {
   phrase = Some (y.phrase, y.second.phrase);
   is = (y.is, y.second.is);
@@ -198,7 +201,8 @@ next_goes_on : (found : List InitItem) (at : ℕ) → GoesOn (ANext found) at []
 next_goes_on found at = record
     { rest = []; value = found; reads = λ x o. record { phrase = None; is = tt; spells = refl; value_is = refl }; starts = λ e x o. o }
 
-comma_by : (found : List InitItem) (at : ℕ) (a : List InitItem) (u : List Token) (o : Token) (next : Next) → sort o ≡ s.Comma → IsNext next
+comma_by : (found : List InitItem) (at : ℕ) (a : List InitItem) (u : List Token) (o : Token) (next : Next) → sort o ≡ s.Comma →
+    IsNext next
     → u ≡ o ∷ spelled_next next → a ≡ items_of_next found (suc at) next
     → Phrased g.AreMoreElements g.spelled_more_elements (λ at xs. found ++ g.more_elements_of at xs) at a u
 unfolding g.spelled_more_elements g.AreMoreElements g.more_elements_of
@@ -214,7 +218,8 @@ more_go_on : (found : List InitItem) (at : ℕ) → GoesOn (MoreItems found) at 
 more_go_on found at = record
     { rest = []; value = found; reads = λ x o. no_more found at found [] x (record { is = refl; empty = refl }); starts = λ e x o. o }
 
-pub lawful_items : (m n : ℕ) → n ≤ m → (found : List InitItem) → Lawful n (MoreItems found) (r.more_initials m found) (r.more_initials (suc m) found)
+pub lawful_items : (m n : ℕ) → n ≤ m → (found : List InitItem) →
+    Lawful n (MoreItems found) (r.more_initials m found) (r.more_initials (suc m) found)
 unfolding r.more_initials sees
 lawful_items zero n small found =
     let none = within (no_more found) (lawful_pure n found) in

@@ -74,7 +74,8 @@ expression_looser m n less at a u x y = record { phrase = y.phrase; is = looser 
 
 -- behind any phrase of level m that begins at `first` and has the tree `left`, they make a phrase of level n
 pub record Onward (m n first : ℕ) (left : Expr) (at : ℕ) (a : Expr) (u : List Token) : Type 0 where
-  pub onward : (c : ExpressionDerivation) → IsAt m c → left ≡ expression_tree first c → at ≡ first + length (spelled c) → IsExpression n first a (spelled c ++ u)
+  pub onward : (c : ExpressionDerivation) → IsAt m c → left ≡ expression_tree first c → at ≡ first + length (spelled c) →
+      IsExpression n first a (spelled c ++ u)
 
 abbrev pub AnOnward : ℕ → ℕ → ℕ → Expr → Language Expr
 AnOnward m n first left = λ at a u x. Onward m n first left at a u
@@ -99,7 +100,8 @@ lawful_stays k m n first left less = within inside (lawful_pure k left)
         (subst (λ b. Onward m n first left at b []) (sym y.is) (onward_stays m n first left at less))
 
 -- once more
-pub onward_again : (k m n first : ℕ) (left : Expr) → Within (Seq (AnOnward k m first left) (λ a. AnOnward m n first a)) (AnOnward k n first left)
+pub onward_again : (k m n first : ℕ) (left : Expr) →
+    Within (Seq (AnOnward k m first left) (λ a. AnOnward m n first a)) (AnOnward k n first left)
 onward_again k m n first left at a u x y = record {
   onward = λ c is tree at_is.
       let d = y.first.onward c is tree at_is in
@@ -155,7 +157,8 @@ no_more found at = record { list = g.end; are = tt; spells = refl; trees = sym (
 more_goes_on : (found : List Expr) (at : ℕ) → GoesOn (SomeMore found) at []
 more_goes_on found at = record { rest = []; value = found; reads = λ x o. no_more found at; starts = λ e x o. o }
 
-one_more : (found : List Expr) → Within (Then (λ x. is_same x s.Comma ≡ true) (λ o. WithExpression 13 (λ a. SomeMore (found ++ a ∷ [])))) (SomeMore found)
+one_more : (found : List Expr) →
+    Within (Then (λ x. is_same x s.Comma ≡ true) (λ o. WithExpression 13 (λ a. SomeMore (found ++ a ∷ [])))) (SomeMore found)
 unfolding spelled_more AreMore more_argument_trees
 one_more found at a u x y =
     let b = y.second in

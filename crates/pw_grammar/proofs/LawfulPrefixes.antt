@@ -74,11 +74,13 @@ unfolding operators_at
 operators_by m found None i = refl
 operators_by m found (Some op) i = then_option (skip i) op (pure found) (λ op. r.operators m (found ++ op ∷ []))
 
-operators_are : (m : ℕ) (found : List (Un × ℕ)) (i : Position) → r.operators (suc m) found i ≡ operators_at m found (prefix_of (next_sort i)) i
+operators_are : (m : ℕ) (found : List (Un × ℕ)) (i : Position) →
+    r.operators (suc m) found i ≡ operators_at m found (prefix_of (next_sort i)) i
 unfolding r.operators r.prefix_operator
 operators_are m found i = operators_by m found (prefix_of (next_sort i)) i
 
-lawful_operators : (m : ℕ) (found : List (Un × ℕ)) → Lawful m (SomeOperators found) (r.operators m found) (r.operators (suc m) found)
+lawful_operators : (m : ℕ) (found : List (Un × ℕ)) →
+    Lawful m (SomeOperators found) (r.operators m found) (r.operators (suc m) found)
 unfolding operators_at r.operators
 lawful_operators zero found = lawful_none 0 (SomeOperators found) _ (pure found) _ none_read
   where
@@ -128,7 +130,8 @@ unfolding prefixes spelled
 prefixes_spell [] c = refl
 prefixes_spell (t ∷ ts) c = ap (λ v. t ∷ v) (prefixes_spell ts c)
 
-count_prefixes : (at last : ℕ) (t : Token) (ts u v : List Token) → v ≡ ts ++ u → last ≡ at + length ((t ∷ ts) ++ u) - 1 → last ≡ at + length (t ∷ v) - 1
+count_prefixes : (at last : ℕ) (t : Token) (ts u v : List Token) → v ≡ ts ++ u → last ≡ at + length ((t ∷ ts) ++ u) - 1 →
+    last ≡ at + length (t ∷ v) - 1
 count_prefixes at last t ts u v e f = omega (arith, ap length e, f)
 
 prefixes_tree : (ts : List Token) (c : ExpressionDerivation) (at last : ℕ) → last ≡ at + length (ts ++ spelled c) - 1

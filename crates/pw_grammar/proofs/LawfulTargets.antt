@@ -80,7 +80,8 @@ other_word first at _ o = refl
 no_word : (first : ℕ) (a : Expr) (k : ExprKind-F ExprKind Expr) → form a ≡ k → IsOther k → word_of first a ≡ None
 no_word first a k e o = ap (λ k. unbracketed_word first (first_of a) k) e ∙ other_word first (first_of a) k o
 
-other_target : (first : ℕ) (a : Expr) (k : ExprKind-F ExprKind Expr) → IsOther k → target_of first a k ≡ with_index None (word_of first a)
+other_target : (first : ℕ) (a : Expr) (k : ExprKind-F ExprKind Expr) → IsOther k →
+    target_of first a k ≡ with_index None (word_of first a)
 other_target first a (ExprKind-F.Word x) o = absurd o
 other_target first a (ExprKind-F.Index b i) o = absurd o
 other_target first a _ o = refl
@@ -90,7 +91,8 @@ unfolding target
 no_target first a k e o = ap (λ k. target_of first a k) e ∙ (other_target first a k o ∙ ap (with_index None) (no_word first a k e o))
 
 -- a tree that begins behind the token
-later_target_of : (first : ℕ) (a : Expr) (k : ExprKind-F ExprKind Expr) → first < first_of a → word_of first a ≡ None → target_of first a k ≡ None
+later_target_of : (first : ℕ) (a : Expr) (k : ExprKind-F ExprKind Expr) → first < first_of a → word_of first a ≡ None →
+    target_of first a k ≡ None
 later_target_of first a (ExprKind-F.Index b i) later w =
     ap (λ t. if t then with_index (Some i) (word_of first b) else None) (ne_eqb (first_of a) first (λ e. omega arith))
 later_target_of first a _ later w = ap (with_index None) w
@@ -158,7 +160,8 @@ element_number : (at : ℕ) (t : Token) → suc (at + length (spelled (identifie
 unfolding spelled
 element_number at t = omega arith
 
-element_phrase : (at : ℕ) (a i : ExpressionDerivation) (o c : Token) (to : List ℕ × Option Expr) (w : Option (List ℕ)) → word_of at (expression_tree at a) ≡ w
+element_phrase : (at : ℕ) (a i : ExpressionDerivation) (o c : Token) (to : List ℕ × Option Expr) (w : Option (List ℕ)) →
+    word_of at (expression_tree at a) ≡ w
     → with_index (Some (expression_tree (suc (at + length (spelled a))) i)) w ≡ Some to → IsTarget at (index a o i c) to
 element_phrase at a i o c to None w e = absurd cc
 element_phrase at a i o c to (Some x) w e =
@@ -177,7 +180,8 @@ element_phrase at a i o c to (Some x) w e =
     some_is : {A : Type 0} (a b : A) → Some a ≡ Some b → a ≡ b
     some_is a b e = cc
 
-pub target_phrase : (at : ℕ) (c : ExpressionDerivation) (to : List ℕ × Option Expr) → target at (expression_tree at c) ≡ Some to → IsTarget at c to
+pub target_phrase : (at : ℕ) (c : ExpressionDerivation) (to : List ℕ × Option Expr) →
+    target at (expression_tree at c) ≡ Some to → IsTarget at c to
 unfolding expression_tree
 target_phrase at (identifier t) to e = inl (record { token = t; is = refl; to_is = let w = word_target at t in cc })
 target_phrase at (constant t) to e = absurd (no_some _ to (no_target at (expression_tree at (constant t)) _ (form_of_num _ _) tt) e)

@@ -32,12 +32,14 @@ nested_on at n t x ts f = (
   record { short = (let e : f.0 < length ts = f.2.short in omega (arith, e)); opening = f.2.opening; deep = f.2.deep },
 )
 
-nested_here : (at n t : ℕ) (x : Token) (ts : List Token) → opens_bracket x ≡ true → nat_le 200 n ≡ true → t ≡ at → IsNestedAt at n (x ∷ ts) t
+nested_here : (at n t : ℕ) (x : Token) (ts : List Token) → opens_bracket x ≡ true → nat_le 200 n ≡ true → t ≡ at →
+    IsNestedAt at n (x ∷ ts) t
 unfolding open_after
 nested_here at n t x ts o far e =
     (0, (omega arith), record { short = omega arith; opening = o; deep = leb-true 200 n far })
 
-nested_with : (at n t : ℕ) (x : Token) (ts : List Token) → (first_nested (suc at) (bracket n x) ts ≡ Some t → IsNestedAt (suc at) (bracket n x) ts t)
+nested_with : (at n t : ℕ) (x : Token) (ts : List Token) →
+    (first_nested (suc at) (bracket n x) ts ≡ Some t → IsNestedAt (suc at) (bracket n x) ts t)
     → (b : Bool) → (opens_bracket x && nat_le 200 n) ≡ b → (if b then Some at else first_nested (suc at) (bracket n x) ts) ≡ Some t → IsNestedAt at n (x ∷ ts) t
 nested_with at n t x ts others true test e =
     let both = and_parts (opens_bracket x) (nat_le 200 n) test in nested_here at n t x ts both.0 both.1 (same_number at t e)
@@ -86,7 +88,8 @@ nested_found ts t e =
     from_zero : (d : ℕ) → t ≡ 0 + d → d ≡ t
     from_zero d e = omega arith
 
-pub nested_first : (ts : List Token) (t : ℕ) → IsFault ts (TooNested t) → (found : ℕ) × (first_nested 0 0 ts ≡ Some found) × (found ≤ t)
+pub nested_first : (ts : List Token) (t : ℕ) → IsFault ts (TooNested t) →
+    (found : ℕ) × (first_nested 0 0 ts ≡ Some found) × (found ≤ t)
 nested_first ts t fault =
     let f = nested_by ts 0 0 t (record { short = fault.0; opening = fault.1; deep = fault.2 }) in
     (f.0, f.1, from_zero f.0 f.2)

@@ -56,7 +56,8 @@ elements_small at (array_set o n c q b x xs e) h =
       more_elements_small (at + 5 + length (spelled_element x)) xs (small_left (spelled_more_elements xs) (e ∷ []) later),
     )
 
-no_elements : (at : ℕ) (ty : Ty) (size : Option ℕ) (v : VariableDerivation) → HasNoValue v → HasNoInitialiser (tree.variable ty size (elements_of at v))
+no_elements : (at : ℕ) (ty : Ty) (size : Option ℕ) (v : VariableDerivation) → HasNoValue v →
+    HasNoInitialiser (tree.variable ty size (elements_of at v))
 no_elements at ty size scalar h = tt
 no_elements at ty size (scalar_set q x) h = absurd h
 no_elements at ty size (array o n c) h = tt
@@ -94,7 +95,8 @@ module _ (g : Option Token) (r : ResultDerivation) (x o : Token) (ps : Parameter
     | inr few ↦ few
   ]
 
-  body_short : (at : ℕ) → IsTimely definition → (tree_of_declaration at definition).last - (tree_of_declaration at definition).declarator ≤ function_tokens
+  body_short : (at : ℕ) → IsTimely definition →
+      (tree_of_declaration at definition).last - (tree_of_declaration at definition).declarator ≤ function_tokens
   body_short at timely =
       let few : length (spelled_declaration definition) ≤ function_tokens = function_short timely in
       let n = function_length g r x o ps c b body e in

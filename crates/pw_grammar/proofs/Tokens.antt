@@ -25,7 +25,8 @@ AToken c = λ at a u x. Given c a u
 take_settled : (at : ℕ) (ts : List Token) → take_from at ts ≡ take_from at ts
 take_settled at ts = refl
 
-leads_past : (at : ℕ) (t : Token) (ts : List Token) → Leads (record { at = at; rest = t ∷ ts }) (t ∷ []) (record { at = suc at; rest = ts })
+leads_past : (at : ℕ) (t : Token) (ts : List Token) →
+    Leads (record { at = at; rest = t ∷ ts }) (t ∷ []) (record { at = suc at; rest = ts })
 leads_past at t ts = record { rest = refl; at = omega arith }
 
 take_says : (c : Sort → Type 0) → (c s.End → ⊥) → (at : ℕ) (ts : List Token) → c (first_sort ts)
@@ -53,7 +54,8 @@ keeps_take c ends n = record {
   steady = λ k i j h same. stays k i j h same (near_or_far i.at k);
 }
   where
-    stays : (k : ℕ) (i j : Position) → c (next_sort i) → Agree k i j → (i.at ≤ k) ⊎ (k < i.at) → Same k (take_from i.at i.rest) (take_from j.at j.rest)
+    stays : (k : ℕ) (i j : Position) → c (next_sort i) → Agree k i j → (i.at ≤ k) ⊎ (k < i.at) →
+        Same k (take_from i.at i.rest) (take_from j.at j.rest)
     stays k i j h same (inl near) =
         subst (λ n. Same k (take_from i.at i.rest) (take_from n j.rest)) same.at
         (subst (λ ts. Same k (take_from i.at ts) (take_from i.at j.rest)) (sym same.left)

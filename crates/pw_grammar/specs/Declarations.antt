@@ -283,7 +283,8 @@ pub data DeclarationDerivation : Type 0 where
   -- result name ( parameters ) ;
   prototype : Option Token → ResultDerivation → Token → Token → ParametersDerivation → Token → Token → DeclarationDerivation
   -- result name ( parameters ) { statements }
-  function : Option Token → ResultDerivation → Token → Token → ParametersDerivation → Token → Token → StatementDerivations → Token → DeclarationDerivation
+  function : Option Token → ResultDerivation → Token → Token → ParametersDerivation → Token → Token → StatementDerivations →
+      Token → DeclarationDerivation
   -- type name variable ;
   variable : Option Token → TypeDerivation → Token → VariableDerivation → Token → DeclarationDerivation
 

@@ -24,7 +24,8 @@ pub then_then : {A B C : Type 0} (o : ReadResult A) (g : A → Parser B) (e : B 
 then_then (Ok q) g e = refl
 then_then (Err x) g e = refl
 
-pub same_then : {A B : Type 0} (o : ReadResult A) (g e : A → Parser B) → ((a : A) (i : Position) → g a i ≡ e a i) → read_then o g ≡ read_then o e
+pub same_then : {A B : Type 0} (o : ReadResult A) (g e : A → Parser B) → ((a : A) (i : Position) → g a i ≡ e a i) →
+    read_then o g ≡ read_then o e
 same_then (Ok q) g e same = same q.0 q.1
 same_then (Err x) g e same = refl
 

@@ -41,7 +41,8 @@ unfolding statement
 too_deep n hs i none = ap (λ m. resume n hs (statement m i)) none ∙ fault_outward n hs (At i.at)
 
 -- the statement at a depth is its front and what follows
-pub front_at : (d : ℕ) (i : Position) → 0 < d → statement d i ≡ read_then (front (expression d) (statement (d - 1)) d i) (follow (expression d) (statement (d - 1)))
+pub front_at : (d : ℕ) (i : Position) → 0 < d →
+    statement d i ≡ read_then (front (expression d) (statement (d - 1)) d i) (follow (expression d) (statement (d - 1)))
 front_at d i some =
     let e : d ≡ suc (d - 1) = omega (arith, some) in
     ap (λ m. statement m i) e ∙ (statement_front (d - 1) i

@@ -61,7 +61,8 @@ no_faults : (u : UntypedUnit) → u.declarations ≡ [] → faults_in_order u �
 unfolding faults_of_declarations files_after
 no_faults u e = ap (λ ds. faults_in_order (record u { declarations = ds })) e
 
-within_or_none : (u : UntypedUnit) → IsParsed u → (length u.lines ≡ 0) ⊎ (0 < length u.lines) → All (λ f. f.at < length u.lines) (faults_of u)
+within_or_none : (u : UntypedUnit) → IsParsed u → (length u.lines ≡ 0) ⊎ (0 < length u.lines) →
+    All (λ f. f.at < length u.lines) (faults_of u)
 within_or_none u w (inl e) =
     subst (All (λ f. f.at < length u.lines)) (sym (faults_are u ∙ no_faults u (no_declarations u.declarations (length u.lines) e w.placed))) (All-nil _)
 within_or_none u w (inr some) =

@@ -41,7 +41,8 @@ unary_judged role at op t v is =
     (option_and_then (typed_unary at op) o) [] (unary_operation_value (head role at) op (full v)) in
     subst P (sym is) (of_type_judged role at (unary_type op (type_of v)) (λ ty. tree.unary (mark ty at) op v) _ (λ ty. refl))
 
-pub binary_judged : (role : Role) (at : Span) (op : Bin) (t u : Option TypedExpression) (l r : TypedExpression) → t ≡ Some l → u ≡ Some r
+pub binary_judged : (role : Role) (at : Span) (op : Bin) (t u : Option TypedExpression) (l r : TypedExpression) → t ≡ Some l →
+    u ≡ Some r
     → Judged role (rules_of role at.last (with_both (typed_binary at op) t u) (no_binary (binary_type op) t u) false)
     (with_both (typed_binary at op) t u) [] (binary_operation_value (head role at) op (full l) (full r))
 unfolding held
@@ -54,7 +55,8 @@ binary_judged role at op t u l r left right =
     _ (λ o. ap (λ n. record { tree = tree.binary (mark o.ty at) op o.unsigned l r; held = n }) holds) in
     subst (λ o. P o u) (sym left) (subst (λ p. P (Some l) p) (sym right) both)
 
-pub choice_judged : (role : Role) (at : Span) (s t u : Option TypedExpression) (c a b : TypedExpression) → s ≡ Some c → t ≡ Some a → u ≡ Some b
+pub choice_judged : (role : Role) (at : Span) (s t u : Option TypedExpression) (c a b : TypedExpression) → s ≡ Some c →
+    t ≡ Some a → u ≡ Some b
     → Judged role (rules_of role at.last (with_three (typed_choice at) s t u) (is_some s && no_binary choice_type t u) false)
     (with_three (typed_choice at) s t u) [] (choice_value (head role at) (full c) (full a) (full b))
 unfolding held
@@ -75,7 +77,9 @@ unfolding held
 by_number role at a i true = of_type_judged role at (Some a.ty) (λ ty. tree.element (mark ty at) a.reference a.size i) _ (λ ty. refl)
 by_number role at a i false = of_type_judged role at None (λ ty. tree.element (mark ty at) a.reference a.size i) _ (λ ty. refl)
 
-pub element_judged : (role : Role) (at : Span) (o : Option Array) (t : Option TypedExpression) (a : Array) (i : TypedExpression) → o ≡ Some a → t ≡ Some i
+pub element_judged :
+    (role : Role) (at : Span) (o : Option Array) (t : Option TypedExpression) (a : Array) (i : TypedExpression) → o ≡ Some a →
+    t ≡ Some i
     → Judged role (rules_of role at.last (with_both (typed_element at) o t) (is_some o && has_type (λ u. not (is_number u)) t) false)
     (with_both (typed_element at) o t) [] (element_value (head role at) a (full i))
 unfolding held

@@ -85,7 +85,8 @@ pub fits : (role : Role) (v : TypedExpression) → IsFit role v
     → Judged role [] (Some v) [] (pure (full v))
 fits role v fit = sound v refl refl fit (λ used. ap (λ l. Ok (full v, l)) (sym (append-nil used)))
 
-pub refused : (role : Role) (f : Fault) (fs : List Fault) (t : Option TypedExpression) (us : List ℕ) → Judged role (f ∷ fs) t us (refuse f)
+pub refused : (role : Role) (f : Fault) (fs : List Fault) (t : Option TypedExpression) (us : List ℕ) →
+    Judged role (f ∷ fs) t us (refuse f)
 refused role f fs t us = faulty f refl (λ used. refl)
 
 -- a rule, and those after it

@@ -57,7 +57,8 @@ module _ (used : List ℕ) (name : List ℕ) where
       ∙ others h (subst (λ m. is_kept_by_number used m f ≡ true) (let z : n + (1 + file_number name gs) ≡ suc n + file_number name gs = omega arith in z) k)
 
   -- a name that is kept has its kind's text
-  pub text_of_name : (n : ℕ) (f : File) (fs : List File) → file_named name fs ≡ Some f → is_kept_by_number used (n + file_number name fs) f ≡ true →
+  pub text_of_name : (n : ℕ) (f : File) (fs : List File) → file_named name fs ≡ Some f →
+      is_kept_by_number used (n + file_number name fs) f ≡ true →
       text_named name (names_by_number used n fs) ≡ Some (text_of_kind f.kind)
   text_of_name n f [] h k = cc
   text_of_name n f (g ∷ gs) h k = elim (cases_Bool (bytes_eq g.name name)) [
@@ -70,7 +71,8 @@ module _ (used : List ℕ) (name : List ℕ) where
 abbrev pub names_in : List Ext → List (List ℕ)
 names_in names = map (λ n. n.name) names
 
-all_apart : (used : List ℕ) (n : ℕ) (P : List ℕ → Type 0) (fs : List File) → AllByRecursion P (names_of fs) → AllByRecursion P (names_in (names_by_number used n fs))
+all_apart : (used : List ℕ) (n : ℕ) (P : List ℕ → Type 0) (fs : List File) → AllByRecursion P (names_of fs) →
+    AllByRecursion P (names_in (names_by_number used n fs))
 unfolding names_by_number
 all_apart used n P [] h = tt
 all_apart used n P (f ∷ fs) h = elim (cases_Bool (is_kept_by_number used n f)) [
@@ -80,7 +82,8 @@ all_apart used n P (f ∷ fs) h = elim (cases_Bool (is_kept_by_number used n f))
       (all_apart used (suc n) P fs h.1)
 ]
 
-pub names_apart : (used : List ℕ) (n : ℕ) (fs : List File) → IsDistinct bytes_eq (names_of fs) → IsDistinct bytes_eq (names_in (names_by_number used n fs))
+pub names_apart : (used : List ℕ) (n : ℕ) (fs : List File) → IsDistinct bytes_eq (names_of fs) →
+    IsDistinct bytes_eq (names_in (names_by_number used n fs))
 unfolding names_by_number IsDistinct
 names_apart used n [] h = tt
 names_apart used n (f ∷ fs) h = elim (cases_Bool (is_kept_by_number used n f)) [
@@ -92,7 +95,8 @@ names_apart used n (f ∷ fs) h = elim (cases_Bool (is_kept_by_number used n f))
 
 -- ---- the texts
 
-pub texts_are : (used : List ℕ) (n : ℕ) (fs : List File) → HaveTexts fs → AllByRecursion (λ n. IsTypeText n.text) (names_by_number used n fs)
+pub texts_are : (used : List ℕ) (n : ℕ) (fs : List File) → HaveTexts fs →
+    AllByRecursion (λ n. IsTypeText n.text) (names_by_number used n fs)
 unfolding names_by_number HaveTexts
 texts_are used n [] h = tt
 texts_are used n (f ∷ fs) h = elim (cases_Bool (is_kept_by_number used n f)) [
@@ -102,7 +106,8 @@ texts_are used n (f ∷ fs) h = elim (cases_Bool (is_kept_by_number used n f)) [
       (texts_are used (suc n) fs h.1)
 ]
 
-found_text : (b : Bool) (f g : File) (o : Option File) → HasText f.kind → (o ≡ Some g → HasText g.kind) → cond b (Some f) o ≡ Some g → HasText g.kind
+found_text : (b : Bool) (f g : File) (o : Option File) → HasText f.kind → (o ≡ Some g → HasText g.kind) →
+    cond b (Some f) o ≡ Some g → HasText g.kind
 found_text true f g o t h e = let is : f ≡ g = cc in subst (λ (x : File). HasText x.kind) is t
 found_text false f g o t h e = h e
 

@@ -90,19 +90,23 @@ refusals scope fs q p start end old new stop.NoMemory result is h on =
     let P : Result Typed Refusal → Type 0 = λ r. GivesWith q start end r in subst P (sym is) tt
 
 -- a step that uses no names
-pub as_used : (scope : Scope) (p : Judge Valued) (used : List ℕ) (result : Result ExpressionStep Refusal) → Continues scope p result → ContinuesWith scope p used used result
+pub as_used : (scope : Scope) (p : Judge Valued) (used : List ℕ) (result : Result ExpressionStep Refusal) →
+    Continues scope p result → ContinuesWith scope p used used result
 as_used scope p used (Ok step) h = ap (λ r. r used) h
 as_used scope p used (Err (stop.Fault f)) h = ap (λ r. r used) h
 as_used scope p used (Err stop.NoMemory) h = h
 
-pub part_smaller : (fs gs : List ExpressionFrame) (step next : ExpressionStep) (f : ExpressionFrame) (role : Role) (e : Bor Expr) → step ≡ Part f role e → gs ≡ fs ++ f ∷ []
+pub part_smaller :
+    (fs gs : List ExpressionFrame) (step next : ExpressionStep) (f : ExpressionFrame) (role : Role) (e : Bor Expr) →
+    step ≡ Part f role e → gs ≡ fs ++ f ∷ []
     → step_size next < size (expression_of e.now) → frames_size gs + step_size next < frames_size fs + step_size step
 part_smaller fs gs step next f role e is more less =
     let now : step_size step ≡ frame_size f + size (expression_of e.now) = ap step_size is in
     let sum : frames_size gs ≡ frames_size fs + frame_size f = ap frames_size more ∙ size_last fs f in
     omega (arith, now, sum, less)
 
-pub done_smaller : (fs gs : List ExpressionFrame) (step next : ExpressionStep) (f : ExpressionFrame) (t : Typed) → step ≡ Done t → fs ≡ gs ++ f ∷ []
+pub done_smaller : (fs gs : List ExpressionFrame) (step next : ExpressionStep) (f : ExpressionFrame) (t : Typed) →
+    step ≡ Done t → fs ≡ gs ++ f ∷ []
     → step_size next < frame_size f → frames_size gs + step_size next < frames_size fs + step_size step
 done_smaller fs gs step next f t is last less =
     let now : step_size step ≡ 0 = ap step_size is in

@@ -39,7 +39,8 @@ left_as o c d old new is left = same refl is (sym left.used) (sym left.held) (sy
 
 -- ---- blocks
 
-mapped : (done all : List TStmt) (t : TStmt) → all ≡ done ++ t ∷ [] → map tree.typed_statement_of done ++ tree.typed_statement_of t ∷ [] ≡ map tree.typed_statement_of all
+mapped : (done all : List TStmt) (t : TStmt) → all ≡ done ++ t ∷ [] →
+    map tree.typed_statement_of done ++ tree.typed_statement_of t ∷ [] ≡ map tree.typed_statement_of all
 mapped done all t is = sym (map-append tree.typed_statement_of done (t ∷ [])) ∙ ap (map tree.typed_statement_of) (sym is)
 
 pub block_is_done : (o : Outer) (old new : Walk) (done all : List TStmt) (t : TStmt) (rest : List Stmt)
@@ -104,26 +105,31 @@ do_is_done o old mid new c s t left none value =
     of_block : Block → List ℕ → ℕ → WalkResult
     of_block b u h = rest_of_do (λ b'. b') c (judged (tree.typed_statement_of s) b u h)
 
-pub do_fails : (o : Outer) (old mid new : Walk) (c : Expression) (s : TypedStatement) (stop : Refusal) → Leaves o old mid → JudgesValue roles.Value c mid new (Err stop)
+pub do_fails : (o : Outer) (old mid new : Walk) (c : Expression) (s : TypedStatement) (stop : Refusal) → Leaves o old mid →
+    JudgesValue roles.Value c mid new (Err stop)
     → let w : WalkResult = rest_of_do (leave o.start o.visible) c (judged_at s old) in Fails w.faults stop
 do_fails o old mid new c s stop left is =
     fails_as _ _ stop (ap (λ (b : Block). faults_of_whole b.scope roles.Value c) left.block) (value_fails roles.Value c mid new stop is)
 
-pub for_is_done : (o : Outer) (old new : Walk) (first : Option TStmt) (c : Option TExpr) (last : Option TStmt) (s : TStmt) → Leaves o old new
+pub for_is_done : (o : Outer) (old new : Walk) (first : Option TStmt) (c : Option TExpr) (last : Option TStmt) (s : TStmt) →
+    Leaves o old new
     → resumed_at o (forms.For first c last) (judged_at (tree.typed_statement_of s) old) ≡ judged_at (tree.typed_statement_of (kinds.For first c last s)) new
 for_is_done o old new first c last s left = left_as o _ _ old new (sym (command_of-For first c last s)) left
 
 -- ---- what is said of a form is said of the frame
 
 module _ (f : StatementFrame) (form : StatementForm) (is : f.form ≡ form) where
-  pub resumed_as : (w : WalkResult) (new : Walk) (r : Result StatementStep Refusal) → Steps (resumed_at f.outer form w) new r → Steps (resumed f w) new r
+  pub resumed_as : (w : WalkResult) (new : Walk) (r : Result StatementStep Refusal) → Steps (resumed_at f.outer form w) new r →
+      Steps (resumed f w) new r
   resumed_as w new r holds = subst (λ (g : StatementForm). Steps (resumed_at f.outer g w) new r) (sym is) holds
 
-  pub less_resumed : (r : Result StatementStep Refusal) → IfOk r (λ step. weight_of_step step < weight_of_form form) → IfOk r (λ step. weight_of_step step < weight_of_form f.form)
+  pub less_resumed : (r : Result StatementStep Refusal) → IfOk r (λ step. weight_of_step step < weight_of_form form) →
+      IfOk r (λ step. weight_of_step step < weight_of_form f.form)
   less_resumed r holds = subst (λ (g : StatementForm). IfOk r (λ step. weight_of_step step < weight_of_form g)) (sym is) holds
 
   -- a statement that is judged after this part
-  pub resumed_whole : (w : WalkResult) (new : Walk) (r : Result TStmt Refusal) (r' : Result StatementStep Refusal) → IsWhole r r' → Finishes (resumed_at f.outer form w) new r
+  pub resumed_whole : (w : WalkResult) (new : Walk) (r : Result TStmt Refusal) (r' : Result StatementStep Refusal) →
+      IsWhole r r' → Finishes (resumed_at f.outer form w) new r
       → Steps (resumed f w) new r'
   resumed_whole w new r r' whole holds = resumed_as w new r' (finished_steps _ new r r' whole holds)
 

@@ -72,7 +72,8 @@ never : {A : Type 0} (b : Bool) → not (b && false) ≡ false → A
 never true h = cc
 never false h = cc
 
-linkage_is : (d : Declaration) (f : File) (l : Linkage) (x : Bool) → conflicts (record d { linkage = l }) (Some (record f { external = x })) ≡ false →
+linkage_is : (d : Declaration) (f : File) (l : Linkage) (x : Bool) →
+    conflicts (record d { linkage = l }) (Some (record f { external = x })) ≡ false →
     x ≡ is_external l
 linkage_is d f Plain true h = refl
 linkage_is d f Plain false h = never (same_kind f.kind (kind_of d.form)) h

@@ -37,7 +37,8 @@ noted c uses most old new notes =
     (let a = notes.scope in let b = notes.start in let d = notes.count in cc)
 
 -- after no expression
-pub unnoted : (c : TypedStatement) (old : Walk) → judged c (block_of old) (old.used.items ++ []) (max old.held 0) ≡ judged_at c old
+pub unnoted : (c : TypedStatement) (old : Walk) →
+    judged c (block_of old) (old.used.items ++ []) (max old.held 0) ≡ judged_at c old
 unnoted c old = same refl refl (append-nil old.used.items) (max-zero old.held) refl
 
 both_none : {xs ys : List Fault} → xs ≡ [] → ys ≡ [] → xs ++ ys ≡ []
@@ -52,23 +53,27 @@ evaluates x old new at e t none value =
     same none (ap (λ (v : TypedExpression). tree.evaluate v) is) refl (ap (λ (v : TypedExpression). max old.held (held v)) is) refl
     ∙ (noted (tree.evaluate (typed_expression_of t)) _ _ old new value.notes ∙ ap (λ (c : TypedStatement). judged_at c new) (sym (command_of-Eval t)))
 
-pub empty_is : (x : Given) (old : Walk) (at : Span) → outcome_at x old (empty at) ≡ judged_at (tree.typed_statement_of (kinds.Block [])) old
+pub empty_is : (x : Given) (old : Walk) (at : Span) →
+    outcome_at x old (empty at) ≡ judged_at (tree.typed_statement_of (kinds.Block [])) old
 unfolding faults_by typed_statement uses_by held_by held_by_all
 empty_is x old at = unnoted (tree.block tree.nil) old ∙ ap (λ (c : TypedStatement). judged_at c old) (sym (command_of-Block []))
 
-pub breaks_is : (x : Given) (old : Walk) (at : Span) → x.in_loop ≡ true → outcome_at x old (breaks at) ≡ judged_at (tree.typed_statement_of kinds.Break) old
+pub breaks_is : (x : Given) (old : Walk) (at : Span) → x.in_loop ≡ true →
+    outcome_at x old (breaks at) ≡ judged_at (tree.typed_statement_of kinds.Break) old
 unfolding faults_by typed_statement uses_by held_by
 breaks_is x old at inside =
     ap (λ (b : Bool). let w : WalkResult = record (judged tree.breaks (block_of old) (old.used.items ++ []) (max old.held 0)) { faults = broken rules.OutsideLoop at.last (not b) } in w) inside
     ∙ (unnoted tree.breaks old ∙ ap (λ (c : TypedStatement). judged_at c old) (sym command_of-Break))
 
-pub continues_is : (x : Given) (old : Walk) (at : Span) → x.in_loop ≡ true → outcome_at x old (continues at) ≡ judged_at (tree.typed_statement_of kinds.Continue) old
+pub continues_is : (x : Given) (old : Walk) (at : Span) → x.in_loop ≡ true →
+    outcome_at x old (continues at) ≡ judged_at (tree.typed_statement_of kinds.Continue) old
 unfolding faults_by typed_statement uses_by held_by
 continues_is x old at inside =
     ap (λ (b : Bool). let w : WalkResult = record (judged tree.continues (block_of old) (old.used.items ++ []) (max old.held 0)) { faults = broken rules.OutsideLoop at.last (not b) } in w) inside
     ∙ (unnoted tree.continues old ∙ ap (λ (c : TypedStatement). judged_at c old) (sym command_of-Continue))
 
-pub returns_none : (x : Given) (old : Walk) (at : Span) → is_void x.result ≡ true → outcome_at x old (returns at None) ≡ judged_at (tree.typed_statement_of (kinds.Return None)) old
+pub returns_none : (x : Given) (old : Walk) (at : Span) → is_void x.result ≡ true →
+    outcome_at x old (returns at None) ≡ judged_at (tree.typed_statement_of (kinds.Return None)) old
 unfolding faults_by typed_statement uses_by held_by
 returns_none x old at void =
     ap (λ (b : Bool). let w : WalkResult = record (judged (tree.returns None) (block_of old) (old.used.items ++ []) (max old.held 0)) { faults = broken rules.ReturnType at.last (not b) } in w) void

@@ -33,7 +33,8 @@ use Rattle.pw_types.proofs.FittingVariables.{variable_well_typed, few_elements}
 
 -- ---- lists
 
-both_all : {A : Type 0} (P : A → Type 0) (xs ys : List A) → AllByRecursion P xs → AllByRecursion P ys → AllByRecursion P (xs ++ ys)
+both_all : {A : Type 0} (P : A → Type 0) (xs ys : List A) → AllByRecursion P xs → AllByRecursion P ys →
+    AllByRecursion P (xs ++ ys)
 both_all P [] ys h k = k
 both_all P (x ∷ xs) ys h k = (h.0, both_all P xs ys h.1 k)
 
@@ -55,7 +56,8 @@ among_themselves (x ∷ xs) =
 -- ---- each declaration
 
 module _ (unit : TypedUnit) (used : List ℕ) (w : Whole) (lines : AreSmallLines w.lines) where
-  functions_by : (files : List File) (elements : ℕ) (d : Declaration) (f : DeclarationForm) → d.form ≡ f → FilesFit unit used (file_scope w (declared_by d files)) →
+  functions_by : (files : List File) (elements : ℕ) (d : Declaration) (f : DeclarationForm) → d.form ≡ f →
+      FilesFit unit used (file_scope w (declared_by d files)) →
       NoFaultOf w files elements d → HasText (kind_of f) → IsProperDeclaration d → IsFormPlaced d f → d.declarator ≤ d.last →
       AreAmong used (uses_of_form (file_scope w (declared_by d files)) f) →
       AllByRecursion (IsWellTypedFunction unit) (typed_functions_of w (declared_by d files) d f)
@@ -75,7 +77,8 @@ module _ (unit : TypedUnit) (used : List ℕ) (w : Whole) (lines : AreSmallLines
   defined_variable files d ty size items true h = tt
   defined_variable files d ty size items false h = (h, tt)
 
-  variables_by : (files : List File) (elements : ℕ) (d : Declaration) (f : DeclarationForm) → d.form ≡ f → FilesFit unit used (file_scope w (declared_by d files)) →
+  variables_by : (files : List File) (elements : ℕ) (d : Declaration) (f : DeclarationForm) → d.form ≡ f →
+      FilesFit unit used (file_scope w (declared_by d files)) →
       NoFaultOf w files elements d → HasText (kind_of f) → IsProperDeclaration d → AreAmong used (uses_of_form (file_scope w (declared_by d files)) f) →
       AllByRecursion (IsWellTypedVariable unit) (typed_variables_of w (declared_by d files) d f)
   variables_by files elements d (variable ty size items) is fit good text proper u =
@@ -90,7 +93,8 @@ module _ (unit : TypedUnit) (used : List ℕ) (w : Whole) (lines : AreSmallLines
     pub functions : AllByRecursion (IsWellTypedFunction unit) (typed_functions w files ds)
     pub variables : AllByRecursion (IsWellTypedVariable unit) (typed_variables w files ds)
 
-  all_well_typed : (files : List File) (elements : ℕ) (ds : List Declaration) (low high : ℕ) → FilesFit unit used (file_scope w (files_after files ds)) →
+  all_well_typed : (files : List File) (elements : ℕ) (ds : List Declaration) (low high : ℕ) →
+      FilesFit unit used (file_scope w (files_after files ds)) →
       faults_of_declarations w files elements ds ≡ [] → HaveTypes ds → AreDeclarationsPlaced low high ds → AllByRecursion IsProperDeclaration ds →
       AreAmong used (uses_of_declarations w files ds) → AreWellTyped files ds
   unfolding files_after faults_of_declarations HaveTypes AreDeclarationsPlaced uses_of_declarations typed_functions typed_variables

@@ -8,7 +8,8 @@ use Rattle.pw_types.specs.Typed.{array_named, array_of, function_named, function
 use Rattle.pw_types.specs.Steps.Uses.{uses, uses_of_name}
 use Rattle.pw_types.specs.Steps.Words.{word_in, IsNamedFunction, IsNamedArray}
 
-of_word : (P : Expression → Type 0) (p : Expression) (name : List ℕ) → word_in p ≡ Some name → ((at : Span) → P (word at name)) → P p
+of_word : (P : Expression → Type 0) (p : Expression) (name : List ℕ) → word_in p ≡ Some name →
+    ((at : Span) → P (word at name)) → P p
 of_word P (word at n) name h found = let e : name ≡ n = cc in subst (λ m. P (word at m)) e (found at)
 of_word P (constant at value unsigned) name h found = cc
 of_word P (unary at op e) name h found = cc

@@ -19,7 +19,7 @@ use Rattle.pw_types.specs.declared.names.Kind.TheVariants.{Function, Variable}
 use Rattle.pw_types.specs.declared.names.File.{File}
 use Rattle.pw_types.specs.declared.expression_step.Head.{Head}
 use Rattle.pw_tree.specs.Types.{is_number, is_void, is_pointer, converts, unary_type, binary_type, choice_type, pointer_to}
-use Rattle.pw_types.specs.Scopes.{Scope, Meaning, missing, a_local, declared, meaning, function_reference, variable_reference}
+use Rattle.pw_types.specs.Scopes.{Scope, Meaning, missing, a_local, declared, name_meaning, function_reference, variable_reference}
 use Rattle.pw_tree.specs.Held.{holds_left, held_both}
 use Rattle.pw_types.specs.Typed.{Array, array_of, Designated, function_of, constant_type}
 use Rattle.pw_tree.specs.TypedExpressions.{type_of}
@@ -251,7 +251,7 @@ unfoldable mutual
   -- an expression in its role
   pub checked : Scope → Role → Expression → Judge Valued
   checked scope role (constant at value unsigned) = constant_value (head role at) value unsigned
-  checked scope role (word at name) = named_value scope (head role at) name (meaning scope name)
+  checked scope role (word at name) = named_value scope (head role at) name (name_meaning scope name)
   checked scope role (unary at op e) = checked scope Value e >>= unary_operation_value (head role at) op
   checked scope role (binary at op l r) =
       checked scope Value l >>= (λ a. checked scope Value r >>= binary_operation_value (head role at) op a)
