@@ -44,5 +44,5 @@ abbrev pub load_order : List ProjectModule → List ℕ
 load_order modules = each_number_once (ends_of_paths modules (length modules))
 
 -- The units of the loaded modules, in load order.
-abbrev pub loaded : List ProjectModule → Project
-loaded modules = flat_map (λ m. option_map_or (λ it. it.units ∷ []) (slice_get modules m) []) (load_order modules)
+abbrev pub loaded_project : List ProjectModule → Project
+loaded_project modules = flat_map (λ m. option_map_or (λ it. it.units ∷ []) (slice_get modules m) []) (load_order modules)

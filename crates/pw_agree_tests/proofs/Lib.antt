@@ -1,3 +1,4 @@
+-- The modules of the proofs of this crate.
 pub mod Interposition
 pub mod PointerInLibrary
 pub mod StaticNames

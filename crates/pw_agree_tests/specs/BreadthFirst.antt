@@ -7,7 +7,7 @@ use Rattle.pw_tree.specs.Units.{TypedUnit}
 use Rattle.pw_tree.specs.Names.{Project, Definition, function, same_definition, resolved}
 use Rattle.pw_tree.specs.Depends.{defined}
 use Rattle.pw_mem.specs.Memory.{zeros}
-use Rattle.pw_agree.specs.LoadOrder.{ProjectModule, load_order, loaded}
+use Rattle.pw_agree.specs.LoadOrder.{ProjectModule, load_order, loaded_project}
 use Rattle.pw_agree.specs.Kept.{Keep, FindsKept, IsLevel, IsParent}
 use Rattle.pw_agree.specs.Placing.{function_address, slots_of}
 use Rattle.pw_agree.specs.Image.{text_image, data_image}
@@ -33,8 +33,8 @@ abbrev pub c_unit : TypedUnit
 c_unit = unit_of_functions (external_function (codes "f") 1 (constant (at 1) 12) ∷ []) (function_named (codes "f") ∷ [])
 
 -- the order in which they stand is not the order in which they are loaded
-abbrev pub modules : List ProjectModule
-modules =
+abbrev pub project_modules : List ProjectModule
+project_modules =
     module_of (codes "app") (codes "a" ∷ codes "b" ∷ []) program_unit ∷ module_of (codes "c") [] c_unit
     ∷ module_of (codes "b") (codes "c" ∷ []) b_unit ∷ module_of (codes "a") (codes "c" ∷ []) a_unit ∷ []
 
@@ -58,8 +58,8 @@ keep d = list_any (same_definition d) (main ∷ b_f ∷ [])
 
 -- Modules, names and places.
 pub record IsPlaced : Type 0 where
-  pub order : load_order modules ≡ 0 ∷ 3 ∷ 2 ∷ 1 ∷ []
-  pub is_loaded : loaded modules ≡ project
+  pub order : load_order project_modules ≡ 0 ∷ 3 ∷ 2 ∷ 1 ∷ []
+  pub is_loaded : loaded_project project_modules ≡ project
   pub meant : resolved project 0 0 (Global (codes "f")) ≡ Some (function b_f)
   pub main_at : function_address project main ≡ 0x5000018
   pub a_g_at : function_address project a_g ≡ 0x9000000

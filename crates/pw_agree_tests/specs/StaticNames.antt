@@ -7,7 +7,7 @@ use Rattle.pw_tree.specs.Units.{TypedUnit}
 use Rattle.pw_tree.specs.Names.{Project, Definition, function, same_definition, definition_of, resolved, text_at}
 use Rattle.pw_tree.specs.Depends.{defined, Depends}
 use Rattle.pw_mem.specs.Memory.{zeros}
-use Rattle.pw_agree.specs.LoadOrder.{ProjectModule, load_order, loaded}
+use Rattle.pw_agree.specs.LoadOrder.{ProjectModule, load_order, loaded_project}
 use Rattle.pw_agree.specs.Kept.{Keep, FindsKept, IsLevel, IsParent}
 use Rattle.pw_agree.specs.Placing.{function_address, slots_of}
 use Rattle.pw_agree.specs.Image.{text_image, data_image}
@@ -27,8 +27,8 @@ second_unit = unit_of_functions
     (static_function (codes "h") 1 (constant (at 1) 4) ∷ external_function (codes "other") 2 (call (at 2) (LocalFun 0) nil) ∷ [])
     (function_named (codes "other") ∷ [])
 
-abbrev pub modules : List ProjectModule
-modules = record { name = codes "app"; needs = []; units = first_unit ∷ second_unit ∷ [] } ∷ []
+abbrev pub project_modules : List ProjectModule
+project_modules = record { name = codes "app"; needs = []; units = first_unit ∷ second_unit ∷ [] } ∷ []
 
 abbrev pub project : Project
 project = (first_unit ∷ second_unit ∷ []) ∷ []
@@ -50,8 +50,8 @@ keep d = list_any (same_definition d) (first_h ∷ main ∷ [])
 
 -- Names and places.
 pub record IsPlaced : Type 0 where
-  pub order : load_order modules ≡ 0 ∷ []
-  pub is_loaded : loaded modules ≡ project
+  pub order : load_order project_modules ≡ 0 ∷ []
+  pub is_loaded : loaded_project project_modules ≡ project
   pub meant_in_first : resolved project 0 0 (LocalFun 0) ≡ Some (function first_h)
   pub meant_in_second : resolved project 0 1 (LocalFun 0) ≡ Some (function second_h)
   pub static_is_no_external : definition_of project (codes "h") ≡ None

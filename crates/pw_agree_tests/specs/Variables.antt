@@ -10,7 +10,7 @@ use Rattle.pw_tree.specs.TypedStatements.{set_variable, returns, nil, cons}
 use Rattle.pw_tree.specs.Units.{TypedUnit}
 use Rattle.pw_tree.specs.Names.{Project, Definition, object, same_definition, resolved}
 use Rattle.pw_mem.specs.Memory.{zeros}
-use Rattle.pw_agree.specs.LoadOrder.{ProjectModule, loaded}
+use Rattle.pw_agree.specs.LoadOrder.{ProjectModule, loaded_project}
 use Rattle.pw_agree.specs.Kept.{Keep, FindsKept}
 use Rattle.pw_agree.specs.Placing.{variable_address, slots_of}
 use Rattle.pw_agree.specs.Image.{text_image, data_image}
@@ -62,8 +62,8 @@ library_unit = record {
       ∷ record { name = codes "table"; text = codes "l[2]" } ∷ function_named (codes "f") ∷ [];
 }
 
-abbrev pub modules : List ProjectModule
-modules = module_of (codes "app") (codes "liba" ∷ []) program_unit ∷ module_of (codes "liba") [] library_unit ∷ []
+abbrev pub project_modules : List ProjectModule
+project_modules = module_of (codes "app") (codes "liba" ∷ []) program_unit ∷ module_of (codes "liba") [] library_unit ∷ []
 
 abbrev pub project : Project
 project = (program_unit ∷ []) ∷ (library_unit ∷ []) ∷ []
@@ -77,7 +77,7 @@ keep d = list_any (same_definition d) (main ∷ [])
 
 -- Names and places: the initialised variables stand before the others.
 pub record IsPlaced : Type 0 where
-  pub is_loaded : loaded modules ≡ project
+  pub is_loaded : loaded_project project_modules ≡ project
   pub one_means : resolved project 1 0 (Global (codes "one")) ≡ Some (object (definition 0 0 1))
   pub both_means : resolved project 0 0 (Global (codes "both")) ≡ Some (object (definition 1 0 1))
   pub zero_at : variable_address project (definition 0 0 0) ≡ 0x6000040

@@ -1,3 +1,4 @@
+-- The modules of the proofs of this crate.
 pub mod Marks
 pub mod Rounds
 pub mod Closing

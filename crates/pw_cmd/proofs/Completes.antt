@@ -26,11 +26,11 @@ use Rattle.pw_build.specs.Meant.{IsMeant}
 use Rattle.pw_cmd.specs.declared.answer.Outcome.TheVariants as outcomes
 use Rattle.pw_cmd.specs.declared.answer.Stop.TheVariants.{ReadFailed, WriteFailed, NoMemory}
 use Rattle.pw_cmd.specs.declared.words.CommandError.TheVariants as errors
-use Rattle.pw_cmd.specs.Answer.{Answer, status_of_value, line_of, status_of}
+use Rattle.pw_cmd.specs.Answer.{Answer, status_of_value, message_line, status_of}
 use Rattle.pw_cmd.specs.Answers.{Answers}
 use Rattle.pw_cmd.specs.Message.{Reports}
 use Rattle.pw_cmd.specs.Stages.{Then, stopped, went_on}
-use Rattle.pw_cmd.specs.Primitives.{JudgesWords, stop_of_words, ReadsFile, stop_of_read, Compiles, stop_of_front, compiles, NoForm, OtherForm, OutOfMemory, HasForm, stop_of_form, forms, Fills, stop_of_image, fills, outcome_of, runs}
+use Rattle.pw_cmd.specs.Primitives.{JudgesWords, stop_of_words, ReadsFile, stop_of_read, Compiles, stop_of_front, compiles, NoForm, OtherForm, OutOfMemory, HasForm, stop_of_form, forms, Fills, stop_of_image, fills, outcome_of, runs_image}
 use Rattle.pw_cmd.specs.Commands.{one, performs}
 use Rattle.pw_cmd.specs.Laws.{stop_in, NoneFailed, FailuresStop}
 use Rattle.pw_cmd.specs.Shows.{AsksForProgram, CountsCanRise, Completes}
@@ -88,7 +88,7 @@ module _ (words : List (List ℕ)) (files : Option Files) (funs : List Writer) (
 
 module _ (main : Writer) (answer : Answer) where
   -- the run
-  done_run : (funs : List Writer) (old new : Outside) → main_writer funs ≡ Some main → runs funs old new answer → Done main answer
+  done_run : (funs : List Writer) (old new : Outside) → main_writer funs ≡ Some main → runs_image funs old new answer → Done main answer
   done_run funs old new has r = by_end r.ended r.meant r.result_is where
     by_end : (ended : Ended) → IsMeant funs (given old) (given new) ended → answer ≡ outcome_of ended → Done main answer
     by_end (Exit value) m is =
@@ -97,7 +97,7 @@ module _ (main : Writer) (answer : Answer) where
     by_end ReadFault m is = read_failed is
     by_end WriteFault m is = write_failed is
 
-  done_fill : (funs : List Writer) (old new : Outside) → main_writer funs ≡ Some main → Then (fills funs) (λ _. runs funs) old new answer → Done main answer
+  done_fill : (funs : List Writer) (old new : Outside) → main_writer funs ≡ Some main → Then (fills funs) (λ _. runs_image funs) old new answer → Done main answer
   done_fill funs old new has (went_on value mid s t) = done_run funs mid new has t
   done_fill funs old new has (stopped why s is) = let f = call_failed s in by_error f.0 f.1 (is ∙ ap Err f.2) where
     by_error : (error : _) → Fills funs old new (Err error) → answer ≡ Err (stop_of_image error) → Done main answer
@@ -106,7 +106,7 @@ module _ (main : Writer) (answer : Answer) where
 
 module _ (words : List (List ℕ)) (files : Option Files) (funs : List Writer) (p : AsksForProgram words files funs) (main : Writer) (has : main_writer funs ≡ Some main) (answer : Answer) where
   done_form : (unit : TUnit) (old new : Outside) → unit_of unit ≡ unit_of p.form.unit
-      → Then (forms 1 unit) (λ found. Then (fills found) (λ _. runs found)) old new answer → Done main answer
+      → Then (forms 1 unit) (λ found. Then (fills found) (λ _. runs_image found)) old new answer → Done main answer
   done_form unit old new same (went_on found mid s t) =
       let funs_are : found ≡ funs = same_functions words files funs p unit found same (call_gave s).0 in
       done_fill main answer found mid new (ap main_writer funs_are ∙ has) t
@@ -116,7 +116,7 @@ module _ (words : List (List ℕ)) (files : Option Files) (funs : List Writer) (
     by_error OutOfMemory s is = no_memory is
 
   done_compile : (text : List ℕ) (old new : Outside) → text ≡ p.text
-      → Then (compiles 1 text) (λ unit. Then (forms 1 unit) (λ found. Then (fills found) (λ _. runs found))) old new answer → Done main answer
+      → Then (compiles 1 text) (λ unit. Then (forms 1 unit) (λ found. Then (fills found) (λ _. runs_image found))) old new answer → Done main answer
   done_compile text old new same (went_on unit mid s t) =
       done_form unit mid new (same_unit words files funs p text unit same (call_gave s).0) t
   done_compile text old new same (stopped why s is) = let f = call_failed s in by_error f.0 f.1 (is ∙ ap Err f.2) where
@@ -171,6 +171,6 @@ completes words old new msg msg' status a funs main p has low none messages = by
   by_done status_is (write_failed is) =
       absurd (rises_not_same old.out.faults new.out.faults (subst (λ answer. FailuresStop old new (stop_in answer)) is law) none.out low.out)
 
-  by_report : Reports (line_of words a.answer) (status_of a.answer) msg msg' status → (status ≡ status_of_value (value_of main)) ⊎ (status ≡ 8)
+  by_report : Reports (message_line words a.answer) (status_of a.answer) msg msg' status → (status ≡ status_of_value (value_of main)) ⊎ (status ≡ 8)
   by_report (inr broke) = absurd (rises_not_same msg.faults msg'.faults broke.1.fails.faults messages low.messages)
   by_report (inl said) = by_done said.0 (done_words words funs main a.answer old new p has a.performed)

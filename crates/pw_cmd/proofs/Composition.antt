@@ -8,7 +8,7 @@ use Rattle.pw_io.proofs.Stores.{called_all_none, called_all-called_all}
 use Rattle.pw_cmd.specs.Outside.{Outside}
 use Rattle.pw_cmd.specs.declared.answer.Stop.{Stop}
 use Rattle.pw_cmd.specs.declared.answer.Stop.TheVariants.{Usage, Refused, ReadFailed, WriteFailed, NoMemory}
-use Rattle.pw_cmd.specs.Stages.{Stage, Then, stopped, went_on, Calls, gave, failed}
+use Rattle.pw_cmd.specs.Stages.{Stage, Then, stopped, went_on, CallsBelow, gave, failed}
 use Rattle.pw_cmd.specs.Laws.{Law, stop_in, Obeys, NoneFailed, FailuresStop, LeavesAll, OnlyLooks, NeverRefuses, IsRefusal, RefusesCleanly, MakesFirst, MakesCalls}
 
 -- ---- one stage after another
@@ -33,7 +33,7 @@ obeys_then law first next goes_on f n = obeys_both law law law first next (λ ol
 pub obeys_calls : {A E : Type 0} (law : Law) (says : Outside → Outside → Result A E → Type 0) (reason : E → Stop)
     → ((old new : Outside) (value : A) → says old new (Ok value) → law old new None)
     → ((old new : Outside) (error : E) → says old new (Err error) → law old new (Some (reason error)))
-    → Obeys law (Calls says reason)
+    → Obeys law (CallsBelow says reason)
 obeys_calls law says reason given fails old new result (gave value s is) =
     subst (λ r. law old new (stop_in r)) (sym is) (given old new value s)
 obeys_calls law says reason given fails old new result (failed error s is) =
@@ -176,17 +176,17 @@ refusal_counts old new ReadFailed is none = absurd is
 refusal_counts old new WriteFailed is none = absurd is
 
 module _ {A E : Type 0} (says : Outside → Outside → Result A E → Type 0) (reason : E → Stop) (stays : Stays says reason) where
-  pub stays_failures : Obeys FailuresStop (Calls says reason)
+  pub stays_failures : Obeys FailuresStop (CallsBelow says reason)
   stays_failures =
       obeys_calls FailuresStop says reason (λ old new value s. none_failed old new (stays.given old new value s))
       (λ old new error s. refusal_counts old new (reason error) (stays.refuses error) (none_failed old new (stays.fails old new error s)))
 
-  pub stays_looks : Obeys OnlyLooks (Calls says reason)
+  pub stays_looks : Obeys OnlyLooks (CallsBelow says reason)
   stays_looks =
       obeys_calls OnlyLooks says reason (λ old new value s. leaves_all old new (stays.given old new value s))
       (λ old new error s. leaves_all old new (stays.fails old new error s))
 
-  pub stays_calls : Obeys (MakesCalls []) (Calls says reason)
+  pub stays_calls : Obeys (MakesCalls []) (CallsBelow says reason)
   stays_calls =
       obeys_calls (MakesCalls []) says reason
       (λ old new value s. no_calls old.store new.store (ap (λ o. o.store.calls) (stays.given old new value s)))

@@ -2,7 +2,7 @@
 use Rattle.std.proofs.Common.{◌≡◌, Result, Ok, Err, ap, sym, subst, ◌∙◌}
 use Rattle.pw_cmd.specs.Outside.{Outside}
 use Rattle.pw_cmd.specs.declared.answer.Stop.{Stop}
-use Rattle.pw_cmd.specs.Stages.{Stage, Then, stopped, went_on, Calls, gave, failed}
+use Rattle.pw_cmd.specs.Stages.{Stage, Then, stopped, went_on, CallsBelow, gave, failed}
 
 ok_same : {T : Type 0} {x y : T} → ◌≡◌ {A = Result T Stop} (Ok x) (Ok y) → x ≡ y
 ok_same e = cc
@@ -22,13 +22,13 @@ then_gave (went_on value mid s t) = (value, mid, s, t)
 
 -- a call gave a value, so the layer did
 pub call_gave : {A E : Type 0} {says : Outside → Outside → Result A E → Type 0} {reason : E → Stop} {old new : Outside} {value : A}
-    → Calls says reason old new (Ok value) → says old new (Ok value)
+    → CallsBelow says reason old new (Ok value) → says old new (Ok value)
 call_gave {says = says} {old = old} {new = new} (gave value s is) = subst (λ v. says old new (Ok v)) (sym (ok_same is)) s
 call_gave (failed error s is) = absurd (ok_is_not_err is)
 
 -- a call stopped, so the layer answered an error, and this is the reason
 pub call_failed : {A E : Type 0} {says : Outside → Outside → Result A E → Type 0} {reason : E → Stop} {old new : Outside} {why : Stop}
-    → Calls says reason old new (Err why) → (error : E) × says old new (Err error) × (why ≡ reason error)
+    → CallsBelow says reason old new (Err why) → (error : E) × says old new (Err error) × (why ≡ reason error)
 call_failed (gave value s is) = absurd (ok_is_not_err (sym is))
 call_failed (failed error s is) = (error, s, err_same is)
 

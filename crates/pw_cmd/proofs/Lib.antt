@@ -1,3 +1,4 @@
+-- The modules of the proofs of this crate.
 pub mod Composition
 pub mod Lists
 pub mod StageLaws

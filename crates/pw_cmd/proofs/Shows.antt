@@ -19,7 +19,7 @@ use Rattle.pw_cmd.specs.declared.answer.Stop.{Stop}
 use Rattle.pw_cmd.specs.declared.answer.Stop.TheVariants.{Usage, Refused, ReadFailed, WriteFailed, NoMemory}
 use Rattle.pw_cmd.specs.declared.words.CommandError.{CommandError}
 use Rattle.pw_cmd.specs.declared.words.CommandError.TheVariants as errors
-use Rattle.pw_cmd.specs.Answer.{Answer, status_of_value, line_of, status_of}
+use Rattle.pw_cmd.specs.Answer.{Answer, status_of_value, message_line, status_of}
 use Rattle.pw_cmd.specs.Answers.{Answers}
 use Rattle.pw_cmd.specs.Message.{Reports}
 use Rattle.pw_cmd.specs.Words.{AsksForOne}
@@ -75,7 +75,7 @@ shown words old new msg msg' status value done status_is line =
 -- a status 0 or 1 is that of an answer with a value
 pub means : (words : List (List ℕ)) (old new : Outside) (msg msg' : SinkState) (status : ℕ) → Answers words old new msg msg' status → Means words old new msg msg' status
 means words old new msg msg' status a = by_answer a.answer a.performed a.reported where
-  by_answer : (answer : Answer) → performs words old new answer → Reports (line_of words answer) (status_of answer) msg msg' status → (status ≡ 0) ⊎ (status ≡ 1) → ShowsMeaning words old new msg msg' status
+  by_answer : (answer : Answer) → performs words old new answer → Reports (message_line words answer) (status_of answer) msg msg' status → (status ≡ 0) ⊎ (status ≡ 1) → ShowsMeaning words old new msg msg' status
   by_answer answer done (inr broke) which = absurd (not_small status 7 broke.0 (lit≤ tt) which)
   by_answer (Ok (outcomes.Ended value)) done (inl said) which = shown words old new msg msg' status value done said.0 said.1
   by_answer (Err Usage) done (inl said) which = absurd (not_small status 2 said.0 (lit≤ tt) which)
@@ -96,7 +96,7 @@ reads_a_file words old new (stopped why s is) = let f = call_failed s in absurd 
 reads_a_file words old new (went_on file mid s t) = (file, (call_gave s).0)
 
 -- a status 6 is that of a failed read
-read_only : (words : List (List ℕ)) (old new : Outside) (msg msg' : SinkState) (status : ℕ) (answer : Answer) → performs words old new answer → FailuresStop old new (stop_in answer) → Reports (line_of words answer) (status_of answer) msg msg' status
+read_only : (words : List (List ℕ)) (old new : Outside) (msg msg' : SinkState) (status : ℕ) (answer : Answer) → performs words old new answer → FailuresStop old new (stop_in answer) → Reports (message_line words answer) (status_of answer) msg msg' status
     → status ≡ 6 → (file : List ℕ) × AsksForOne words file × (Rises old.store.faults new.store.faults ⊎ Rises old.input.faults new.input.faults)
 read_only words old new msg msg' status answer done law (inr broke) six = absurd (omega (arith, broke.0, six))
 read_only words old new msg msg' status (Ok (outcomes.Ended value)) done law (inl said) six = absurd (not_a_value status value 6 said.0 six (lit≤ tt))
@@ -107,7 +107,7 @@ read_only words old new msg msg' status (Err WriteFailed) done law (inl said) si
 read_only words old new msg msg' status (Err NoMemory) done law (inl said) six = absurd (omega (arith, said.0, six))
 
 -- a status 7 is that of a failed write
-write_only : (words : List (List ℕ)) (old new : Outside) (msg msg' : SinkState) (status : ℕ) (answer : Answer) → FailuresStop old new (stop_in answer) → Reports (line_of words answer) (status_of answer) msg msg' status
+write_only : (words : List (List ℕ)) (old new : Outside) (msg msg' : SinkState) (status : ℕ) (answer : Answer) → FailuresStop old new (stop_in answer) → Reports (message_line words answer) (status_of answer) msg msg' status
     → status ≡ 7 → Rises old.out.faults new.out.faults ⊎ Rises msg.faults msg'.faults
 write_only words old new msg msg' status answer law (inr broke) seven = inr broke.1.fails.faults
 write_only words old new msg msg' status (Ok (outcomes.Ended value)) law (inl said) seven = absurd (not_a_value status value 7 said.0 seven (lit≤ tt))
@@ -118,7 +118,7 @@ write_only words old new msg msg' status (Err WriteFailed) law (inl said) seven 
 write_only words old new msg msg' status (Err NoMemory) law (inl said) seven = absurd (omega (arith, said.0, seven))
 
 -- with another status no call failed
-none_else : (words : List (List ℕ)) (old new : Outside) (msg msg' : SinkState) (status : ℕ) (answer : Answer) → FailuresStop old new (stop_in answer) → Reports (line_of words answer) (status_of answer) msg msg' status
+none_else : (words : List (List ℕ)) (old new : Outside) (msg msg' : SinkState) (status : ℕ) (answer : Answer) → FailuresStop old new (stop_in answer) → Reports (message_line words answer) (status_of answer) msg msg' status
     → status ≢ 6 → status ≢ 7 → NoneFailed old new × (msg'.faults ≡ msg.faults)
 none_else words old new msg msg' status answer law (inr broke) six seven = absurd (seven broke.0)
 none_else words old new msg msg' status (Ok (outcomes.Ended value)) law (inl said) six seven = (law, ap (λ m. m.faults) said.1)
@@ -150,7 +150,7 @@ not_refused status k is (inr fails) (inr (inr eight)) = omega (arith, is, fails.
 
 pub refused : (words : List (List ℕ)) (old new : Outside) (msg msg' : SinkState) (status : ℕ) → Answers words old new msg msg' status → LeavesRefused old new status
 refused words old new msg msg' status a = by_answer a.answer (words_cleanly words old new a.answer a.performed) a.reported where
-  by_answer : (answer : Answer) → RefusesCleanly old new (stop_in answer) → Reports (line_of words answer) (status_of answer) msg msg' status → (status ≡ 2) ⊎ ((status ≡ 3) ⊎ (status ≡ 8)) → LeavesAll old new
+  by_answer : (answer : Answer) → RefusesCleanly old new (stop_in answer) → Reports (message_line words answer) (status_of answer) msg msg' status → (status ≡ 2) ⊎ ((status ≡ 3) ⊎ (status ≡ 8)) → LeavesAll old new
   by_answer answer law (inr broke) which = absurd (not_refused status 7 broke.0 (inr (lit≤ tt, lit≤ tt)) which)
   by_answer (Ok (outcomes.Ended value)) law (inl said) which = absurd (not_refused status _ said.0 (inl (value_status_small value)) which)
   by_answer (Err Usage) law (inl said) which = law

@@ -13,7 +13,7 @@ use Rattle.pw_build.specs.declared.run.Ended.TheVariants.{Exit, ReadFault, Write
 use Rattle.pw_build.specs.Meant.{IsMeant}
 use Rattle.pw_cmd.specs.declared.answer.Stop.{Stop}
 use Rattle.pw_cmd.specs.declared.words.CommandError.TheVariants as words
-use Rattle.pw_cmd.specs.Primitives.{JudgesWords, stop_of_words, judges, ReadsFile, stop_of_read, reads, Compiles, stop_of_fault, stop_of_front, compiles, NoForm, OtherForm, OutOfMemory, HasForm, stop_of_form, forms, Fills, stop_of_image, fills, outcome_of, runs}
+use Rattle.pw_cmd.specs.Primitives.{JudgesWords, stop_of_words, judges, ReadsFile, stop_of_read, reads, Compiles, stop_of_fault, stop_of_front, compiles, NoForm, OtherForm, OutOfMemory, HasForm, stop_of_form, forms, Fills, stop_of_image, fills, outcome_of, runs_image}
 use Rattle.pw_cmd.specs.Laws.{stop_in, Obeys, NoneFailed, FailuresStop, LeavesAll, OnlyLooks, NeverRefuses, RefusesCleanly, IsRefusal, MakesFirst, MakesCalls}
 use Rattle.pw_cmd.proofs.Composition.{Stays, obeys_calls, stays_failures, stays_looks, stays_calls, no_calls, makes_none}
 
@@ -143,7 +143,7 @@ fills_calls funs =
 
 -- ---- the run
 
-pub runs_failures : (funs : List Writer) → Obeys FailuresStop (runs funs)
+pub runs_failures : (funs : List Writer) → Obeys FailuresStop (runs_image funs)
 runs_failures funs old new result r =
     subst (λ answer. FailuresStop old new (stop_in answer)) (sym r.result_is) (by_end r.ended r.files r.meant)
   where
@@ -152,7 +152,7 @@ runs_failures funs old new result r =
     by_end ReadFault store m = inr m.input.faults
     by_end WriteFault store m = m.out.faults
 
-pub runs_never_refuse : (funs : List Writer) → Obeys NeverRefuses (runs funs)
+pub runs_never_refuse : (funs : List Writer) → Obeys NeverRefuses (runs_image funs)
 runs_never_refuse funs old new result r = subst (λ answer. NeverRefuses old new (stop_in answer)) (sym r.result_is) (by_end r.ended)
   where
     by_end : (ended : Ended) → NeverRefuses old new (stop_in (outcome_of ended))
@@ -160,7 +160,7 @@ runs_never_refuse funs old new result r = subst (λ answer. NeverRefuses old new
     by_end ReadFault = tt
     by_end WriteFault = tt
 
-pub runs_calls : (funs : List Writer) → Obeys (MakesCalls []) (runs funs)
+pub runs_calls : (funs : List Writer) → Obeys (MakesCalls []) (runs_image funs)
 runs_calls funs old new result r = by_stop (stop_in result)
   where
     same : new.store.calls ≡ old.store.calls

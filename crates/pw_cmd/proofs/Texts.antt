@@ -2,7 +2,7 @@
 use Rattle.std.proofs.Common.{◌≡◌, ℕ, List, [], ◌++◌, Result, Ok, Err, ap, sym, subst, ◌∙◌, append_assoc, append-nil}
 use Rattle.pw_io.specs.declared.ports.Failed.{Failed}
 use Rattle.pw_io.specs.Sink.{SinkState, SinkFails, wrote}
-use Rattle.pw_cmd.specs.Says.{BreaksOff, Puts}
+use Rattle.pw_cmd.specs.Says.{BreaksOff, PutsAll}
 use Rattle.pw_io.proofs.Sinks.{wrote_wrote}
 
 -- a call that fails once a prefix was put
@@ -34,6 +34,6 @@ pub put_more : (first part : List ℕ) (old mid new : SinkState) → mid ≡ wro
 put_more first part old mid new before after = after ∙ ap (wrote part) before ∙ wrote_wrote first part old
 
 -- the rest after a prefix
-pub puts_rest : (bytes first rest : List ℕ) (old mid new : SinkState) (result : Result (Unit {0}) Failed) → bytes ≡ first ++ rest → mid ≡ wrote first old → Puts rest mid new result → Puts bytes old new result
+pub puts_rest : (bytes first rest : List ℕ) (old mid new : SinkState) (result : Result (Unit {0}) Failed) → bytes ≡ first ++ rest → mid ≡ wrote first old → PutsAll rest mid new result → PutsAll bytes old new result
 puts_rest bytes first rest old mid new (Ok _) whole put puts = put_more first rest old mid new put puts ∙ ap (λ b. wrote b old) (sym whole)
 puts_rest bytes first rest old mid new (Err _) whole put puts = broken_in bytes first rest [] old mid new (whole ∙ ap (λ p. first ++ p) (sym (append-nil rest))) put puts

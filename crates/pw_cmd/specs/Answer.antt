@@ -56,5 +56,5 @@ sentence_of words (Ok (Ended value)) = codes "ended " ++ decimal value
 sentence_of words (Err stop) = reason_of words stop
 
 -- the line that says it
-abbrev pub line_of : List (List ℕ) → Answer → List ℕ
-line_of words answer = sentence_of words answer ++ 10 ∷ []
+abbrev pub message_line : List (List ℕ) → Answer → List ℕ
+message_line words answer = sentence_of words answer ++ 10 ∷ []

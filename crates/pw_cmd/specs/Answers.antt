@@ -2,7 +2,7 @@
 use Rattle.std.specs.Prelude.{ℕ, List}
 use Rattle.pw_io.specs.Sink.{SinkState}
 use Rattle.pw_cmd.specs.Outside.{Outside}
-use Rattle.pw_cmd.specs.Answer.{Answer, line_of, status_of}
+use Rattle.pw_cmd.specs.Answer.{Answer, message_line, status_of}
 use Rattle.pw_cmd.specs.Message.{Reports}
 use Rattle.pw_cmd.specs.Commands.{performs}
 
@@ -11,4 +11,4 @@ use Rattle.pw_cmd.specs.Commands.{performs}
 pub record Answers (words : List (List ℕ)) (old new : Outside) (msg msg' : SinkState) (status : ℕ) : Type 0 where
   pub answer : Answer
   pub performed : performs words old new answer
-  pub reported : Reports (line_of words answer) (status_of answer) msg msg' status
+  pub reported : Reports (message_line words answer) (status_of answer) msg msg' status

@@ -19,8 +19,8 @@ abbrev pub outside : StoreState → SourceState → SinkState → Held → Outsi
 outside store input out memory = record { store = store; input = input; out = out; memory = memory }
 
 -- a memory with its fetches, and their addresses where it reports them
-abbrev pub memory_of : Mem → ℕ → Option (List ℕ) → Held
-memory_of mem fetches fetched = record { mem = mem; fetches = fetches; told = fetched }
+abbrev pub held_memory : Mem → ℕ → Option (List ℕ) → Held
+held_memory mem fetches fetched = record { mem = mem; fetches = fetches; told = fetched }
 
 -- what a run is given of the outside
 abbrev pub given : Outside → Given

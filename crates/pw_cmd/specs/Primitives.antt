@@ -30,14 +30,14 @@ use Rattle.pw_cmd.specs.declared.refusal.FileFault.TheVariants.{TooLong, Source,
 use Rattle.pw_cmd.specs.declared.refusal.Refusal.TheVariants.{File, NoMain}
 use Rattle.pw_cmd.specs.declared.words.CommandError.{CommandError}
 use Rattle.pw_cmd.specs.declared.words.CommandError.TheVariants as words
-use Rattle.pw_cmd.specs.Words.{Judges}
-use Rattle.pw_cmd.specs.Stages.{Stage, Calls}
+use Rattle.pw_cmd.specs.Words.{ReadsCommand}
+use Rattle.pw_cmd.specs.Stages.{Stage, CallsBelow}
 
 -- ---- the words
 
 -- nothing changes while the words are judged
 abbrev pub JudgesWords : List (List ℕ) → Outside → Outside → Result (List ℕ) CommandError → Type 0
-JudgesWords asked old new answer = Judges asked answer × (new ≡ old)
+JudgesWords asked old new answer = ReadsCommand asked answer × (new ≡ old)
 
 -- why words that are of no command stop it
 abbrev pub stop_of_words : CommandError → Stop
@@ -46,7 +46,7 @@ stop_of_words words.NoMemory = NoMemory
 
 -- the file that the words ask for
 abbrev pub judges : List (List ℕ) → Stage (List ℕ)
-judges asked = Calls (JudgesWords asked) stop_of_words
+judges asked = CallsBelow (JudgesWords asked) stop_of_words
 
 -- ---- a file
 
@@ -62,7 +62,7 @@ stop_of_read number stores.NoMemory = NoMemory
 
 -- the bytes of a source file, which the word of this number names
 abbrev pub reads : ℕ → List ℕ → Stage (Vec ℕ Global)
-reads number file = Calls (ReadsFile file) (stop_of_read number)
+reads number file = CallsBelow (ReadsFile file) (stop_of_read number)
 
 -- ---- a source
 
@@ -82,7 +82,7 @@ stop_of_front number error = stop_of_fault number (fault_of error)
 
 -- the typed unit of the text in the file of this word
 abbrev pub compiles : ℕ → List ℕ → Stage TUnit
-compiles number text = Calls (Compiles text) (stop_of_front number)
+compiles number text = CallsBelow (Compiles text) (stop_of_front number)
 
 -- why a unit gives no functions of the first form
 pub data NoForm : Type 0 where
@@ -102,7 +102,7 @@ stop_of_form number OutOfMemory = NoMemory
 
 -- the functions of the unit in the file of this word
 abbrev pub forms : ℕ → TUnit → Stage (List Writer)
-forms number unit = Calls (HasForm unit) (stop_of_form number)
+forms number unit = CallsBelow (HasForm unit) (stop_of_form number)
 
 -- ---- the run
 
@@ -117,7 +117,7 @@ stop_of_image images.NoMemory = NoMemory
 
 -- the memory gets the image of the functions
 abbrev pub fills : List Writer → Stage (Unit {0})
-fills funs = Calls (Fills funs) stop_of_image
+fills funs = CallsBelow (Fills funs) stop_of_image
 
 -- the answer of a run that ended so
 abbrev pub outcome_of : Ended → Result Outcome Stop
@@ -126,7 +126,7 @@ outcome_of ReadFault = Err ReadFailed
 outcome_of WriteFault = Err WriteFailed
 
 -- The image ran with the counted steps of a run that gives none, and ended so, as the source means; every file is as it was.
-pub record runs (funs : List Writer) (old new : Outside) (result : Result Outcome Stop) : Type 0 where
+pub record runs_image (funs : List Writer) (old new : Outside) (result : Result Outcome Stop) : Type 0 where
   pub ended : Ended
   pub executes : Executes funs default_steps (given old) (given new) ended
   pub meant : IsMeant funs (given old) (given new) ended

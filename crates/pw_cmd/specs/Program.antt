@@ -5,7 +5,7 @@ use Rattle.pw_arguments.specs.Arguments.{AreAfterName}
 use Rattle.pw_arguments.specs.Words.{AreWords}
 use Rattle.pw_cmd.specs.declared.answer.Stop.{Stop}
 use Rattle.pw_cmd.specs.declared.answer.Stop.TheVariants.{Usage, NoMemory}
-use Rattle.pw_cmd.specs.Answer.{line_of, status_of}
+use Rattle.pw_cmd.specs.Answer.{message_line, status_of}
 use Rattle.pw_cmd.specs.Message.{Reports}
 use Rattle.pw_cmd.specs.Outside.{Outside}
 use Rattle.pw_cmd.specs.Answers.{Answers}
@@ -25,7 +25,7 @@ pub record HasAnswered (arguments : List (List ℕ)) (old new : Outside) (msg ms
 -- as before.
 pub record HasNotBegun (why : Stop) (old new : Outside) (msg msg' : SinkState) (status : ℕ) : Type 0 where
   pub stays : new ≡ old
-  pub reported : Reports (line_of [] (Err why)) (status_of (Err why)) msg msg' status
+  pub reported : Reports (message_line [] (Err why)) (status_of (Err why)) msg msg' status
 
 -- how the program ends for the arguments after its name: as the command does; with the line of usage where they are no words;
 -- or out of memory, which is asked for only where they are words

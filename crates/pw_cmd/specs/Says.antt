@@ -11,6 +11,6 @@ pub record BreaksOff (bytes : List ℕ) (old new : SinkState) : Type 0 where
   pub fails : SinkFails (wrote put old) new
 
 -- all of the bytes were put, or the putting broke off
-abbrev pub Puts : List ℕ → SinkState → SinkState → Result (Unit {0}) Failed → Type 0
-Puts bytes old new (Ok _) = new ≡ wrote bytes old
-Puts bytes old new (Err _) = BreaksOff bytes old new
+abbrev pub PutsAll : List ℕ → SinkState → SinkState → Result (Unit {0}) Failed → Type 0
+PutsAll bytes old new (Ok _) = new ≡ wrote bytes old
+PutsAll bytes old new (Err _) = BreaksOff bytes old new

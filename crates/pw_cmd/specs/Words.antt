@@ -16,7 +16,7 @@ pub record AsksForOne (words : List (List ℕ)) (file : List ℕ) : Type 0 where
   pub name : IsName file
 
 -- the file that the words ask for, or that they are of no command; memory is asked for only where they are of one
-abbrev pub Judges : List (List ℕ) → Result (List ℕ) CommandError → Type 0
-Judges words (Ok file) = AsksForOne words file
-Judges words (Err NoCommand) = (file : List ℕ) → ¬ AsksForOne words file
-Judges words (Err NoMemory) = (file : List ℕ) × AsksForOne words file
+abbrev pub ReadsCommand : List (List ℕ) → Result (List ℕ) CommandError → Type 0
+ReadsCommand words (Ok file) = AsksForOne words file
+ReadsCommand words (Err NoCommand) = (file : List ℕ) → ¬ AsksForOne words file
+ReadsCommand words (Err NoMemory) = (file : List ℕ) × AsksForOne words file

@@ -1,6 +1,6 @@
 //! What is wrong with a text that has no typed unit, as it is said into a sink.
 ghost use Rattle.std.specs.Prelude.{◌≡◌};
-ghost use Rattle.pw_cmd.specs.Says.{Puts};
+ghost use Rattle.pw_cmd.specs.Says.{PutsAll};
 ghost use Rattle.pw_cmd.specs.Faults.{fault_of, fault_text};
 ghost use Rattle.pw_front.specs.Messages.{lex_message};
 
@@ -59,7 +59,7 @@ impl Says for FrontFault {
 
 /// Says the fault of a text as a list of tokens.
 fn say_lexical<E: Sink>(sink: &mut E, fault: LexError, line: u32) -> Result<(), Failed>
-    ensures { Puts (lex_message fault line) (E.state sink.old) (E.state sink.new) result }
+    ensures { PutsAll (lex_message fault line) (E.state sink.old) (E.state sink.new) result }
 {
     let what = lex_phrase(fault);
     match fault.place() {

@@ -1,7 +1,7 @@
 //! The line that says on a sink what a command answered.
 ghost use Rattle.std.specs.Prelude.{◌≡◌};
-ghost use Rattle.pw_cmd.specs.Says.{Puts};
-ghost use Rattle.pw_cmd.specs.Answer.{line_of, reason_of, sentence_of, status_of, word_at};
+ghost use Rattle.pw_cmd.specs.Says.{PutsAll};
+ghost use Rattle.pw_cmd.specs.Answer.{message_line, reason_of, sentence_of, status_of, word_at};
 ghost use Rattle.pw_cmd.specs.Message.{PutsLine, Reports};
 ghost use Rattle.pw_cmd.specs.Words.{texts};
 
@@ -16,7 +16,7 @@ fn say_answer<S: Sink>(
     words: &[String],
     answer: &Result<Outcome, Stop>,
 ) -> Result<(), Failed>
-    ensures { Puts (sentence_of (texts words.now) answer.now) (S.state sink.old) (S.state sink.new) result }
+    ensures { PutsAll (sentence_of (texts words.now) answer.now) (S.state sink.old) (S.state sink.new) result }
 {
     match answer {
         Ok(Outcome::Ended(value)) => ("ended ", *value).say(sink),
@@ -26,7 +26,7 @@ fn say_answer<S: Sink>(
 
 /// Says why there is no outcome.
 fn say_stop<S: Sink>(sink: &mut S, words: &[String], stop: Stop) -> Result<(), Failed>
-    ensures { Puts (reason_of (texts words.now) stop) (S.state sink.old) (S.state sink.new) result }
+    ensures { PutsAll (reason_of (texts words.now) stop) (S.state sink.old) (S.state sink.new) result }
 {
     match stop {
         Stop::Usage => "usage: pw COMMAND ARGUMENTS".say(sink),
@@ -39,7 +39,7 @@ fn say_stop<S: Sink>(sink: &mut S, words: &[String], stop: Stop) -> Result<(), F
 
 /// Says what is refused, and what for. A file is named as its word names it.
 fn say_refusal<S: Sink>(sink: &mut S, words: &[String], refusal: Refusal) -> Result<(), Failed>
-    ensures { Puts (reason_of (texts words.now) (Stop.Refused refusal)) (S.state sink.old) (S.state sink.new) result }
+    ensures { PutsAll (reason_of (texts words.now) (Stop.Refused refusal)) (S.state sink.old) (S.state sink.new) result }
 {
     match refusal {
         Refusal::File(number, fault) => {
@@ -65,7 +65,7 @@ fn say_line<S: Sink>(
     words: &[String],
     answer: &Result<Outcome, Stop>,
 ) -> Result<(), Failed>
-    ensures { PutsLine (line_of (texts words.now) answer.now) (S.state sink.old) (S.state sink.new) result }
+    ensures { PutsLine (message_line (texts words.now) answer.now) (S.state sink.old) (S.state sink.new) result }
 {
     say_answer(sink, words, answer)?;
     sink.put(b'\n')?;
@@ -74,7 +74,7 @@ fn say_line<S: Sink>(
 
 /// Reports the answer, and gives the status that the program ends with: the answer's, or 7 where the reporting failed.
 pub fn report<S: Sink>(sink: &mut S, words: &[String], answer: &Result<Outcome, Stop>) -> u8
-    ensures { Reports (line_of (texts words.now) answer.now) (status_of answer.now) (S.state sink.old) (S.state sink.new) result }
+    ensures { Reports (message_line (texts words.now) answer.now) (status_of answer.now) (S.state sink.old) (S.state sink.new) result }
 {
     match say_line(sink, words, answer) {
         Ok(()) => status(answer),

@@ -7,11 +7,11 @@ ghost use Rattle.pw_front.specs.Weights.{weight};
 ghost use Rattle.pw_io.specs.Source.{SourceState};
 ghost use Rattle.pw_io.specs.Sink.{SinkState};
 ghost use Rattle.pw_io.specs.Store.{StoreState};
-ghost use Rattle.pw_cmd.specs.Outside.{Outside, memory_of, outside};
+ghost use Rattle.pw_cmd.specs.Outside.{Outside, held_memory, outside};
 ghost use Rattle.pw_first_agree.specs.Image.{CanPlace};
 ghost use Rattle.pw_build.specs.Built.{Held, HoldsImage};
 ghost use Rattle.pw_cmd.specs.Words.{texts};
-ghost use Rattle.pw_cmd.specs.Primitives.{judges, stop_of_words, reads, stop_of_read, compiles, stop_of_front, forms, fills, stop_of_image, runs, outcome_of};
+ghost use Rattle.pw_cmd.specs.Primitives.{judges, stop_of_words, reads, stop_of_read, compiles, stop_of_front, forms, fills, stop_of_image, runs_image, outcome_of};
 
 use crate::answer::{Outcome, Stop};
 use crate::fault::fault_of;
@@ -116,8 +116,8 @@ pub fn form(alloc: Global, number: usize, unit: &TUnit) -> Result<Items<Writer>,
 pub fn fill<M: Memory>(alloc: Global, funs: &[Writer], mem: &mut M) -> Result<(), Stop>
     requires { CanPlace funs.now }
     ensures fills { (store : StoreState) (input : SourceState) (out : SinkState) → fills funs.now
-        (outside store input out (memory_of (M.mem mem.old) (M.fetches mem.old) (M.told mem.old))) (outside store input out (memory_of (M.mem mem.new) (M.fetches mem.new) (M.told mem.new))) result }
-    ensures image { IfOk result (λ _. HoldsImage funs.now (memory_of (M.mem mem.new) (M.fetches mem.new) (M.told mem.new))) }
+        (outside store input out (held_memory (M.mem mem.old) (M.fetches mem.old) (M.told mem.old))) (outside store input out (held_memory (M.mem mem.new) (M.fetches mem.new) (M.told mem.new))) result }
+    ensures image { IfOk result (λ _. HoldsImage funs.now (held_memory (M.mem mem.new) (M.fetches mem.new) (M.told mem.new))) }
 {
     match image(alloc, funs, mem) {
         Ok(()) => Ok(()),
@@ -143,10 +143,10 @@ pub fn run_image<M: Memory, I: Source, O: Sink>(
     out: &mut O,
 ) -> Result<Outcome, Stop>
     requires placed { CanPlace funs.now }
-    requires image { HoldsImage funs.now (memory_of (M.mem mem.old) (M.fetches mem.old) (M.told mem.old)) }
-    ensures { (store : StoreState) → runs funs.now
-        (outside store (I.state input.old) (O.state out.old) (memory_of (M.mem mem.old) (M.fetches mem.old) (M.told mem.old)))
-        (outside store (I.state input.new) (O.state out.new) (memory_of (M.mem mem.new) (M.fetches mem.new) (M.told mem.new))) result }
+    requires image { HoldsImage funs.now (held_memory (M.mem mem.old) (M.fetches mem.old) (M.told mem.old)) }
+    ensures { (store : StoreState) → runs_image funs.now
+        (outside store (I.state input.old) (O.state out.old) (held_memory (M.mem mem.old) (M.fetches mem.old) (M.told mem.old)))
+        (outside store (I.state input.new) (O.state out.new) (held_memory (M.mem mem.new) (M.fetches mem.new) (M.told mem.new))) result }
 {
     outcome_of(execute(funs, Limits::STEPS, mem, input, out))
 }

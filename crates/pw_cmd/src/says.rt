@@ -1,6 +1,6 @@
 //! What says itself into a sink: bytes, texts, numbers, and one thing after another.
 ghost use Rattle.std.specs.Prelude.{ℕ, List, ◌++◌};
-ghost use Rattle.pw_cmd.specs.Says.{Puts};
+ghost use Rattle.pw_cmd.specs.Says.{PutsAll};
 
 use itoa::Buffer;
 use pw_io::{Failed, Sink};
@@ -11,12 +11,12 @@ pub trait Says {
 
     /// Puts the text. After a failure a prefix of it was put.
     fn say<E: Sink>(&self, sink: &mut E) -> Result<(), Failed>
-        ensures { Puts (text self.now) (E.state sink.old) (E.state sink.new) result };
+        ensures { PutsAll (text self.now) (E.state sink.old) (E.state sink.new) result };
 }
 
 /// Puts these bytes in order.
 fn put_all<E: Sink>(sink: &mut E, bytes: &[u8]) -> Result<(), Failed>
-    ensures { Puts bytes.now (E.state sink.old) (E.state sink.new) result }
+    ensures { PutsAll bytes.now (E.state sink.old) (E.state sink.new) result }
 {
     for byte in bytes {
         sink.put(*byte)?;
@@ -26,7 +26,7 @@ fn put_all<E: Sink>(sink: &mut E, bytes: &[u8]) -> Result<(), Failed>
 
 /// Puts one text and then another.
 fn put_both<A: Says, B: Says, E: Sink>(sink: &mut E, first: &A, second: &B) -> Result<(), Failed>
-    ensures { Puts (A.text first.now ++ B.text second.now) (E.state sink.old) (E.state sink.new) result }
+    ensures { PutsAll (A.text first.now ++ B.text second.now) (E.state sink.old) (E.state sink.new) result }
 {
     first.say(sink)?;
     second.say(sink)

@@ -1,6 +1,6 @@
 //! Judges the words after the program's name.
 ghost use Rattle.std.specs.Prelude.{◌≡◌, [], ◌∷◌};
-ghost use Rattle.pw_cmd.specs.Words.{Judges, texts};
+ghost use Rattle.pw_cmd.specs.Words.{ReadsCommand, texts};
 
 use pw_base::{Name, NameError};
 use std::alloc::Global;
@@ -17,7 +17,7 @@ pub enum CommandError {
 /// The file that the words ask to build as the one unit of the program `app`, and to run. Refusal: `NoCommand` exactly where
 /// they are not `one FILE` with a name for FILE.
 pub fn asked_file(alloc: Global, words: &[String]) -> Result<Name, CommandError>
-    ensures { Judges (texts words.now) result }
+    ensures { ReadsCommand (texts words.now) result }
 {
     if words.len() != 2 {
         return Err(CommandError::NoCommand);
@@ -27,7 +27,7 @@ pub fn asked_file(alloc: Global, words: &[String]) -> Result<Name, CommandError>
 
 /// The file of two words.
 fn one_of(alloc: Global, command: &[u8], file: &[u8]) -> Result<Name, CommandError>
-    ensures { Judges (command.now ∷ file.now ∷ []) result }
+    ensures { ReadsCommand (command.now ∷ file.now ∷ []) result }
 {
     if command != b"one".as_slice() {
         return Err(CommandError::NoCommand);

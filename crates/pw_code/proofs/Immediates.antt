@@ -173,7 +173,8 @@ has_rest zero v within wide =
     absurd cc
 has_rest (suc times) v within wide = omega arith
 
-words_of_rest : (k times : ℕ) (v : ℤ) → times ≡ suc k → is_within 31 v ≡ false → signed_words times v ≡ signed_words k (rest v) + 2
+words_of_rest : (k times : ℕ) (v : ℤ) → times ≡ suc k → is_within 31 v ≡ false →
+    signed_words times v ≡ signed_words k (rest v) + 2
 unfolding signed_words
 words_of_rest k times v e h = subst (λ n. signed_words n v ≡ signed_words k (rest v) + 2) (sym e) (rw h refl)
 
@@ -184,7 +185,8 @@ words_with_rest times v within wide =
     let some = has_rest times v within wide in
     words_of_rest (times - 1) times v (omega arith) wide
 
-pub shorter_rest : (times : ℕ) (v : ℤ) → times ≤ 3 → FitsSigned w64 v → is_within (30 + 11 * times) v ≡ true → is_within 31 v ≡ false →
+pub shorter_rest : (times : ℕ) (v : ℤ) → times ≤ 3 → FitsSigned w64 v → is_within (30 + 11 * times) v ≡ true →
+    is_within 31 v ≡ false →
     is_within (30 + 11 * (times - 1)) (rest v) ≡ true
 shorter_rest zero v few f within wide = let some = has_rest 0 v within wide in absurd (omega arith)
 shorter_rest (suc zero) v few f within wide = narrower 0 v (omega arith) f within

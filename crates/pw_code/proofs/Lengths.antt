@@ -1,6 +1,6 @@
 -- How many words code has at most.
-use Rattle.std.proofs.Common.{◌≡◌, ℕ, zero, suc, ◌+◌, ◌*◌, ◌^◌, ◌<◌, ◌≤◌, Option, Some, None, refl, arith}
-use Rattle.pw_base.specs.Limits.{parameters, array_elements}
+use Rattle.std.proofs.Common.{◌≡◌, ℕ, ◌+◌, ◌*◌, ◌^◌, ◌<◌, ◌≤◌, Option, Some, None, arith}
+use Rattle.pw_base.specs.Limits.{array_elements}
 use Rattle.pw_tree.specs.declared.operator.Un.{Un}
 use Rattle.pw_tree.specs.declared.operator.Un.TheVariants.{Neg, Plus, Not, Bang}
 use Rattle.pw_tree.specs.declared.operator.Bin.{Bin}
@@ -8,11 +8,9 @@ use Rattle.pw_tree.specs.declared.operator.Bin.TheVariants.{Mul, Div, Rem, Add, 
 use Rattle.pw_tree.specs.TypedExpressions.{TypedExpression, TypedExpressions, constant, local, variable, designator, element, unary, binary, conditional, call, call_pointer, input, output, nil, cons}
 use Rattle.pw_tree.specs.TypedStatements as statements
 use Rattle.pw_tree.specs.TypedStatements.{TypedStatement, TypedStatements, OptionalTypedStatement}
-use Rattle.pw_tree.specs.Held.{count}
 use Rattle.pw_tree.specs.WellTypedExpressions.{Throughout, ThroughoutAll, expressions_in, expressions_in_all}
 use Rattle.pw_tree.specs.WellTypedStatements.{Everywhere, EverywhereIn, EverywhereIf, IfPresent, expressions_in_option, phrases_in, phrases_in_all, phrases_in_maybe}
-use Rattle.pw_code.specs.LoadImmediate.{immediate_words}
-use Rattle.pw_code.specs.Pieces.{fault_words, check_index_words, binary_words, unary_words}
+use Rattle.pw_code.specs.Pieces.{fault_words, check_index_words, unary_words}
 use Rattle.pw_code.specs.ExpressionCode.{operator_words, expression_words, arguments_words}
 use Rattle.pw_code.specs.StatementCode.{statement_words, statements_words, optional_words, else_words, set_local_words, value_words, condition_words}
 use Rattle.pw_code.specs.Bounds.{HasSmallOperands, HasShortCode, StatementHasSmallOperands}
@@ -23,7 +21,8 @@ use Rattle.pw_code.proofs.Immediates.{immediate_words_at_most, size_words_at_mos
 pub fault_words_at_most : (line : ℕ) → line < 2 ^ 32 → fault_words line ≤ 7
 fault_words_at_most line h = omega (arith, line_words_at_most line h)
 
-check_index_at_most : (array_size line : ℕ) → array_size ≤ array_elements → line < 2 ^ 32 → check_index_words array_size line ≤ 10
+check_index_at_most : (array_size line : ℕ) → array_size ≤ array_elements → line < 2 ^ 32 →
+    check_index_words array_size line ≤ 10
 check_index_at_most array_size line hs hl =
     let few : array_size < 2 ^ 31 = omega arith in
     omega (arith, size_words_at_most array_size few, fault_words_at_most line hl)
@@ -35,7 +34,8 @@ unary_at_most Not = omega arith
 unary_at_most Bang = omega arith
 
 -- A binary operator has 11 words at most beside its operands.
-operator_at_most : (line : ℕ) (op : Bin) (left right : ℕ) → line < 2 ^ 32 → operator_words line op left right ≤ left + (right + 11)
+operator_at_most : (line : ℕ) (op : Bin) (left right : ℕ) → line < 2 ^ 32 →
+    operator_words line op left right ≤ left + (right + 11)
 operator_at_most line Mul left right h = omega (arith, fault_words_at_most line h)
 operator_at_most line Div left right h = omega (arith, fault_words_at_most line h)
 operator_at_most line Rem left right h = omega (arith, fault_words_at_most line h)
@@ -77,7 +77,8 @@ mutual
   short (input at) t = omega arith
   short (output at e) t = omega (arith, short e t.1)
 
-  pub arguments_are_short : (es : TypedExpressions) → ThroughoutAll HasSmallOperands es → arguments_words es ≤ 16 * expressions_in_all es
+  pub arguments_are_short : (es : TypedExpressions) → ThroughoutAll HasSmallOperands es →
+      arguments_words es ≤ 16 * expressions_in_all es
   arguments_are_short nil t = omega arith
   arguments_are_short (cons e es) t = omega (arith, short e t.0, arguments_are_short es t.1)
 
@@ -86,15 +87,18 @@ expression_is_short e h = short e h.operands
 
 -- ---- statements
 
-short_set_local : (e : Option TypedExpression) → IfPresent (Throughout HasSmallOperands) e → set_local_words e ≤ 16 + 16 * expressions_in_option e
+short_set_local : (e : Option TypedExpression) → IfPresent (Throughout HasSmallOperands) e →
+    set_local_words e ≤ 16 + 16 * expressions_in_option e
 short_set_local None t = omega arith
 short_set_local (Some e) t = omega (arith, short e t)
 
-short_value : (e : Option TypedExpression) → IfPresent (Throughout HasSmallOperands) e → value_words e ≤ 16 * expressions_in_option e
+short_value : (e : Option TypedExpression) → IfPresent (Throughout HasSmallOperands) e →
+    value_words e ≤ 16 * expressions_in_option e
 short_value None t = omega arith
 short_value (Some e) t = omega (arith, short e t)
 
-short_condition : (c : Option TypedExpression) → IfPresent (Throughout HasSmallOperands) c → condition_words c ≤ 2 + 16 * expressions_in_option c
+short_condition : (c : Option TypedExpression) → IfPresent (Throughout HasSmallOperands) c →
+    condition_words c ≤ 2 + 16 * expressions_in_option c
 short_condition None t = omega arith
 short_condition (Some c) t = omega (arith, short c t)
 
@@ -118,14 +122,17 @@ mutual
   statement_is_short statements.breaks t = omega arith
   statement_is_short statements.continues t = omega arith
 
-  pub statements_are_short : (ss : TypedStatements) → EverywhereIn StatementHasSmallOperands ss → statements_words ss ≤ 16 * phrases_in_all ss
+  pub statements_are_short : (ss : TypedStatements) → EverywhereIn StatementHasSmallOperands ss →
+      statements_words ss ≤ 16 * phrases_in_all ss
   statements_are_short statements.nil t = omega arith
   statements_are_short (statements.cons s ss) t = omega (arith, statement_is_short s t.0, statements_are_short ss t.1)
 
-  pub short_optional : (s : OptionalTypedStatement) → EverywhereIf StatementHasSmallOperands s → optional_words s ≤ 16 * phrases_in_maybe s
+  pub short_optional : (s : OptionalTypedStatement) → EverywhereIf StatementHasSmallOperands s →
+      optional_words s ≤ 16 * phrases_in_maybe s
   short_optional statements.absent t = omega arith
   short_optional (statements.present s) t = statement_is_short s t
 
-  short_else : (s : OptionalTypedStatement) → EverywhereIf StatementHasSmallOperands s → else_words s ≤ 1 + 16 * phrases_in_maybe s
+  short_else : (s : OptionalTypedStatement) → EverywhereIf StatementHasSmallOperands s →
+      else_words s ≤ 1 + 16 * phrases_in_maybe s
   short_else statements.absent t = omega arith
   short_else (statements.present s) t = omega (arith, statement_is_short s t)

@@ -1,3 +1,4 @@
+-- The modules of the proofs of this crate.
 pub mod Sizes
 pub mod Immediates
 pub mod Lengths

@@ -1,5 +1,5 @@
 -- The size of code is the size that is computed before it.
-use Rattle.std.proofs.Common.{◌≡◌, ℕ, zero, suc, ◌+◌, ◌*◌, Bool, true, false, cond, List, [], ◌∷◌, ◌++◌, Option, Some, None, length, refl, sym, ◌∙◌, ap, arith, pos, negsuc, nat_lt}
+use Rattle.std.proofs.Common.{◌≡◌, ℕ, zero, suc, ◌+◌, ◌*◌, Bool, true, false, List, [], ◌∷◌, ◌++◌, Option, Some, None, length, refl, ◌∙◌, ap, arith, nat_lt}
 use Rattle.std.specs.Prelude.{ℤ, if◌then◌else◌}
 use Rattle.std.specs.Int.{cast_signed, w64}
 use Rattle.pw_isa.specs.declared.instruction.Inst.TheVariants.{Jal}
@@ -14,12 +14,12 @@ use Rattle.pw_tree.specs.TypedStatements.{TypedStatement, TypedStatements, Optio
 use Rattle.pw_tree.specs.Held.{count}
 use Rattle.pw_tree.specs.Units.{Function}
 use Rattle.pw_code.specs.declared.frame.Frame.{Frame}
-use Rattle.pw_code.specs.Items.{Part, instruction, address, words_of_part, size}
+use Rattle.pw_code.specs.Items.{Part, instruction, words_of_part, size}
 use Rattle.pw_code.specs.LoadImmediate.{is_within, rest, load_32_bits, load_signed, load_immediate, signed_words, immediate_words}
-use Rattle.pw_code.specs.Pieces.{jump, back, fault, fault_words, check_index, check_index_words, check_divisor, division_fault, null_call_fault, index_fault, depth_fault, binary_code, binary_words, unary_code, unary_words, load_held}
+use Rattle.pw_code.specs.Pieces.{jump, back, fault, fault_words, check_index, check_index_words, binary_code, binary_words, unary_code, unary_words, load_held}
 use Rattle.pw_code.specs.ExpressionCode.{operator_words, operator_code, right_slot, expression_words, expression_code, arguments_words, arguments_code}
-use Rattle.pw_code.specs.StatementCode.{Targets, in_loop, statement_words, statements_words, optional_words, else_words, set_local_words, value_words, condition_words, set_local_code, value_code, condition_code, statement_code, statements_code, optional_code, else_code}
-use Rattle.pw_code.specs.FunctionCode.{store_parameters, opens, opens_words, function_code, function_words, function_targets, frame_of, falls_off, closes}
+use Rattle.pw_code.specs.StatementCode.{Targets, targets_in_loop, statement_words, statements_words, optional_words, else_words, set_local_words, value_words, condition_words, set_local_code, value_code, condition_code, statement_code, statements_code, optional_code, else_code}
+use Rattle.pw_code.specs.FunctionCode.{store_parameters, opens_words, function_code, function_words, function_targets, frame_of}
 
 -- ---- lists of parts
 
@@ -30,7 +30,8 @@ size-append [] b = omega arith
 size-append (part ∷ a) b = omega (arith, size-append a b)
 
 -- Either code by a test has the size by that test.
-size-either : (t : Bool) (a b : List Part) (m n : ℕ) → size a ≡ m → size b ≡ n → size (if t then a else b) ≡ (if t then m else n)
+size-either : (t : Bool) (a b : List Part) (m n : ℕ) → size a ≡ m → size b ≡ n →
+    size (if t then a else b) ≡ (if t then m else n)
 size-either true a b m n ea eb = ea
 size-either false a b m n ea eb = eb
 
@@ -177,7 +178,8 @@ unfolding size
 size-value frame None = refl
 size-value frame (Some e) = size-expression frame 0 e
 
-size-condition : (frame : Frame) (c : Option TypedExpression) (words : ℕ) → size (condition_code frame c words) ≡ condition_words c
+size-condition : (frame : Frame) (c : Option TypedExpression) (words : ℕ) →
+    size (condition_code frame c words) ≡ condition_words c
 unfolding size
 size-condition frame None words = refl
 size-condition frame (Some c) words = simp size-append (omega (arith, size-expression frame 0 c))
@@ -207,12 +209,12 @@ mutual
       let body_at : ℕ = at + (expression_words c + 2) in
       let next : ℕ = body_at + statement_words body in
       simp size-append
-      (omega (arith, word-jump next at, size-expression frame 0 c, size-statement frame (in_loop (next + 1) next targets) body_at body))
+      (omega (arith, word-jump next at, size-expression frame 0 c, size-statement frame (targets_in_loop (next + 1) next targets) body_at body))
   size-statement frame targets at (statements.do_loop body c) =
       let next : ℕ = at + statement_words body in
       let jump_at : ℕ = next + (expression_words c + 1) in
       simp size-append
-      (omega (arith, word-jump jump_at at, size-expression frame 0 c, size-statement frame (in_loop (jump_at + 1) next targets) at body))
+      (omega (arith, word-jump jump_at at, size-expression frame 0 c, size-statement frame (targets_in_loop (jump_at + 1) next targets) at body))
   size-statement frame targets at (statements.for_loop first c last body) =
       let top : ℕ = at + optional_words first in
       let body_at : ℕ = top + condition_words c in
@@ -224,7 +226,7 @@ mutual
         word-jump jump_at top,
         size-optional frame targets at first,
         size-condition frame c (statement_words body + (optional_words last + 1)),
-        size-statement frame (in_loop (jump_at + 1) next targets) body_at body,
+        size-statement frame (targets_in_loop (jump_at + 1) next targets) body_at body,
         size-optional frame targets next last,
       ))
   size-statement frame targets at (statements.returns e) = simp size-append (omega (arith, word-jump (at + value_words e) targets.return_to, size-value frame e))

@@ -1,23 +1,20 @@
 -- The code of what is well typed is short.
-use Rattle.std.proofs.Common.{◌≡◌, ℕ, zero, suc, ◌+◌, ◌*◌, ◌^◌, ◌<◌, ◌≤◌, Bool, true, false, cond, List, [], ◌∷◌, length, Option, Some, None, refl, sym, ◌∙◌, ap, subst, arith}
+use Rattle.std.proofs.Common.{◌≡◌, ℕ, zero, suc, ◌+◌, ◌*◌, ◌^◌, ◌<◌, ◌≤◌, Bool, true, false, List, [], ◌∷◌, length, Option, Some, None, refl, sym, ◌∙◌, ap, subst, arith}
 use Rattle.std.specs.Prelude.{⊤, slice_get, if◌then◌else◌}
 use Rattle.std.specs.List.{AllByRecursion}
 use Rattle.pw_base.specs.Limits.{parameters, array_elements}
 use Rattle.pw_tree.specs.declared.ty.Ty.{Ty}
 use Rattle.pw_tree.specs.declared.ty.Ty.TheVariants.{Void, Long, Ulong, Fn}
-use Rattle.pw_tree.specs.declared.ty.Sig.{Sig}
 use Rattle.pw_tree.specs.declared.ty.Ref.{Ref}
-use Rattle.pw_tree.specs.Types.{IsResultType, IsValueType, IsArraySize, pointer_to}
+use Rattle.pw_tree.specs.Types.{IsResultType, IsValueType}
 use Rattle.pw_tree.specs.TypedExpressions.{Mark, TypedExpression, TypedExpressions, constant, local, variable, designator, element, unary, binary, conditional, call, call_pointer, input, output, nil, cons}
 use Rattle.pw_tree.specs.TypedStatements as statements
 use Rattle.pw_tree.specs.TypedStatements.{TypedStatement, TypedStatements, OptionalTypedStatement}
 use Rattle.pw_tree.specs.Held.{count}
 use Rattle.pw_tree.specs.Units.{Function, TypedUnit}
 use Rattle.pw_tree.specs.WellTypedExpressions.{Class, nothing, number, pointer, class_of, class, IsValueClass, HasClass, Calls, CallsPointer, Points, ArgumentsFit, HasFittingParts, HasSmallNumbers, Throughout, ThroughoutAll, IsWellTypedExpression}
-use Rattle.pw_tree.specs.WellTypedStatements.{IfPresent, OfExpressions, Everywhere, EverywhereIn, EverywhereIf, StatementFits, StatementHasSmallNumbers, phrases_in_all}
+use Rattle.pw_tree.specs.WellTypedStatements.{IfPresent, Everywhere, EverywhereIn, EverywhereIf, StatementFits, StatementHasSmallNumbers}
 use Rattle.pw_tree.specs.WellTypedUnits.{IsWellTypedFunction}
-use Rattle.pw_code.specs.Pieces.{fault_words}
-use Rattle.pw_code.specs.StatementCode.{statements_words}
 use Rattle.pw_code.specs.FunctionCode.{function_words}
 use Rattle.pw_code.specs.Bounds.{HasSmallOperands, HasShortCode, StatementHasSmallOperands}
 use Rattle.pw_code.proofs.Lengths.{fault_words_at_most, statements_are_short}
@@ -54,12 +51,14 @@ few_of_number : (c : Class) → c ≡ number → HasFewParameters c
 unfolding HasFewParameters
 few_of_number c e = subst HasFewParameters (sym e) tt
 
-few_of_class_at : (classes : List Class) (i : ℕ) (c : Class) → AllByRecursion IsValueClass classes → slice_get classes i ≡ Some c → HasFewParameters c
+few_of_class_at : (classes : List Class) (i : ℕ) (c : Class) → AllByRecursion IsValueClass classes →
+    slice_get classes i ≡ Some c → HasFewParameters c
 few_of_class_at [] i c all e = absurd cc
 few_of_class_at (x ∷ classes) zero c all e = let same : x ≡ c = cc in subst HasFewParameters same (few_of_value_class x all.0)
 few_of_class_at (x ∷ classes) (suc i) c all e = few_of_class_at classes i c all.1 e
 
-few_of_some : (t : Bool) (k : ℕ) (ty : Ty) → k ≤ parameters → (if t then Some (Fn k) else None) ≡ Some ty → HasFewParameters (class_of ty)
+few_of_some : (t : Bool) (k : ℕ) (ty : Ty) → k ≤ parameters → (if t then Some (Fn k) else None) ≡ Some ty →
+    HasFewParameters (class_of ty)
 unfolding HasFewParameters
 few_of_some true k ty h e = let same : Fn k ≡ ty = cc in subst (λ t. HasFewParameters (class_of t)) same h
 few_of_some false k ty h e = absurd cc
@@ -105,7 +104,8 @@ module _ (unit : TypedUnit) (classes : List Class) (values : AllByRecursion IsVa
   few_by_name : (at : Mark) (f : Ref) (es : TypedExpressions) → Calls unit at f es → count es ≤ parameters
   few_by_name at f es h = subst (λ n. n ≤ parameters) (sym (few_arguments h.sig.params es h.arguments)) h.function.types.few
 
-  few_by_pointer : (at : Mark) (e : TypedExpression) (es : TypedExpressions) → CallsPointer at e es → HasFewParameters (class e) → count es ≤ parameters
+  few_by_pointer : (at : Mark) (e : TypedExpression) (es : TypedExpressions) → CallsPointer at e es →
+      HasFewParameters (class e) → count es ≤ parameters
   unfolding HasFewParameters
   few_by_pointer at e es h few = subst HasFewParameters h.callee few
 
@@ -133,7 +133,8 @@ module _ (unit : TypedUnit) (classes : List Class) (values : AllByRecursion IsVa
     small_operands (input at) t n = tt
     small_operands (output at e) t n = (tt, small_operands e t.1 n.1)
 
-    small_in_all : (es : TypedExpressions) → ThroughoutAll (HasFittingParts unit classes) es → ThroughoutAll HasSmallNumbers es →
+    small_in_all : (es : TypedExpressions) → ThroughoutAll (HasFittingParts unit classes) es →
+        ThroughoutAll HasSmallNumbers es →
         ThroughoutAll HasSmallOperands es
     small_in_all nil t n = tt
     small_in_all (cons e es) t n = (small_operands e t.0 n.0, small_in_all es t.1 n.1)
@@ -144,7 +145,8 @@ module _ (unit : TypedUnit) (classes : List Class) (values : AllByRecursion IsVa
   small_in_option (Some e) t n = small_operands e t n
 
   module _ (result : Class) where
-    small_statement : (s : TypedStatement) → StatementFits unit result classes s → StatementHasSmallNumbers s → StatementHasSmallOperands s
+    small_statement : (s : TypedStatement) → StatementFits unit result classes s → StatementHasSmallNumbers s →
+        StatementHasSmallOperands s
     small_statement (statements.evaluate e) t n = record { own = tt; expressions = small_operands e t.parts n.expressions }
     small_statement (statements.set_local i e) t n = record { own = tt; expressions = small_in_option e t.parts n.expressions }
     small_statement (statements.set_variable x e) t n = record { own = tt; expressions = small_operands e t.parts n.expressions }
@@ -164,7 +166,8 @@ module _ (unit : TypedUnit) (classes : List Class) (values : AllByRecursion IsVa
     mutual
       unfolding Everywhere EverywhereIn EverywhereIf
 
-      small_everywhere : (s : TypedStatement) → Everywhere (StatementFits unit result classes) s → Everywhere StatementHasSmallNumbers s →
+      small_everywhere : (s : TypedStatement) → Everywhere (StatementFits unit result classes) s →
+          Everywhere StatementHasSmallNumbers s →
           Everywhere StatementHasSmallOperands s
       small_everywhere (statements.evaluate e) t n = small_statement (statements.evaluate e) t n
       small_everywhere (statements.set_local i e) t n = small_statement (statements.set_local i e) t n
@@ -181,19 +184,22 @@ module _ (unit : TypedUnit) (classes : List Class) (values : AllByRecursion IsVa
       small_everywhere statements.breaks t n = small_statement statements.breaks t n
       small_everywhere statements.continues t n = small_statement statements.continues t n
 
-      small_in_statements : (ss : TypedStatements) → EverywhereIn (StatementFits unit result classes) ss → EverywhereIn StatementHasSmallNumbers ss →
+      small_in_statements : (ss : TypedStatements) → EverywhereIn (StatementFits unit result classes) ss →
+          EverywhereIn StatementHasSmallNumbers ss →
           EverywhereIn StatementHasSmallOperands ss
       small_in_statements statements.nil t n = tt
       small_in_statements (statements.cons s ss) t n = (small_everywhere s t.0 n.0, small_in_statements ss t.1 n.1)
 
-      small_if_present : (s : OptionalTypedStatement) → EverywhereIf (StatementFits unit result classes) s → EverywhereIf StatementHasSmallNumbers s →
+      small_if_present : (s : OptionalTypedStatement) → EverywhereIf (StatementFits unit result classes) s →
+          EverywhereIf StatementHasSmallNumbers s →
           EverywhereIf StatementHasSmallOperands s
       small_if_present statements.absent t n = tt
       small_if_present (statements.present s) t n = small_everywhere s t n
 
 -- ---- the laws
 
-pub well_typed_is_short : (unit : TypedUnit) (classes : List Class) (e : TypedExpression) → AllByRecursion IsValueClass classes →
+pub well_typed_is_short : (unit : TypedUnit) (classes : List Class) (e : TypedExpression) →
+    AllByRecursion IsValueClass classes →
     IsWellTypedExpression unit classes e → HasShortCode e
 well_typed_is_short unit classes e values h = record {
   operands = small_operands unit classes values e h.parts h.numbers;

@@ -1,5 +1,5 @@
 -- How long code is at most, so that every jump in it is within reach.
-use Rattle.std.specs.Prelude.{ℕ, ◌^◌, ◌<◌, ◌≤◌, ⊤}
+use Rattle.std.specs.Prelude.{◌^◌, ◌<◌, ◌≤◌, ⊤}
 use Rattle.pw_base.specs.Limits.{function_tokens, parameters, array_elements}
 use Rattle.pw_tree.specs.TypedExpressions.{TypedExpression, constant, local, variable, designator, element, unary, binary, conditional, call, call_pointer, input, output}
 use Rattle.pw_tree.specs.TypedStatements.{TypedStatement, evaluate, set_local, set_variable, set_element, block, if_else, while_loop, do_loop, for_loop, returns, breaks, continues}

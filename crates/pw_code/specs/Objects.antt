@@ -5,7 +5,7 @@ use Rattle.pw_tree.specs.declared.ty.Ref.{Ref}
 use Rattle.pw_tree.specs.declared.ty.Ref.TheVariants.{Global, LocalFun, LocalVar}
 use Rattle.pw_tree.specs.declared.tunit.TVar.{TVar}
 use Rattle.pw_tree.specs.declared.tunit.Init.{Init}
-use Rattle.pw_tree.specs.declared.tunit.Init.TheVariants.{Num, Fun}
+use Rattle.pw_tree.specs.declared.tunit.Init.TheVariants.{Num}
 use Rattle.pw_tree.specs.TypedExpressions.{TypedExpression, TypedExpressions, constant, local, variable, designator, element, unary, binary, conditional, call, call_pointer, input, output, nil, cons}
 use Rattle.pw_tree.specs.TypedStatements.{TypedStatement, TypedStatements, OptionalTypedStatement, evaluate, set_local, set_variable, set_element, block, if_else, while_loop, do_loop, for_loop, returns, breaks, continues, nil, cons, absent, present}
 use Rattle.pw_tree.specs.TypeTexts.{text_of_function}

@@ -1,5 +1,5 @@
 -- When an object is sound: its names, texts and references fit together.
-use Rattle.std.specs.Prelude.{◌≡◌, ℕ, suc, ◌+◌, ◌<◌, ◌≤◌, ◌⊎◌, Bool, true, false, ◌&&◌, if◌then◌else◌, List, [], ◌∷◌, ◌++◌, length, map, filter, Option, Some, None, ⊤, bytes_eq, slice_get, find, option_map}
+use Rattle.std.specs.Prelude.{◌≡◌, ℕ, ◌+◌, ◌<◌, ◌≤◌, ◌⊎◌, Bool, true, false, ◌&&◌, if◌then◌else◌, List, [], ◌∷◌, ◌++◌, length, map, filter, Option, Some, None, ⊤, bytes_eq, slice_get, option_map}
 use Rattle.std.specs.List.{AllByRecursion, IsDistinct}
 use Rattle.pw_base.specs.TypeText.{IsTypeText, IsFunctionText}
 use Rattle.pw_tree.specs.declared.ty.Ref.{Ref}

@@ -1,5 +1,5 @@
 -- The code of statements.
-use Rattle.std.specs.Prelude.{ℕ, suc, ◌+◌, ℤ, pos, List, [], ◌∷◌, ◌++◌, Option, Some, None}
+use Rattle.std.specs.Prelude.{ℕ, ◌+◌, pos, List, [], ◌∷◌, ◌++◌, Option, Some, None}
 use Rattle.pw_isa.specs.declared.instruction.Inst.TheVariants.{Beq, Ld, Sd, Slli, Add}
 use Rattle.pw_isa.specs.Registers.{x0, sp, t0, t1, a0}
 use Rattle.pw_tree.specs.TypedExpressions.{TypedExpression}
@@ -7,7 +7,7 @@ use Rattle.pw_tree.specs.TypedStatements.{TypedStatement, TypedStatements, Optio
 use Rattle.pw_code.specs.declared.frame.Frame.{Frame}
 use Rattle.pw_code.specs.Items.{Part, instruction, address}
 use Rattle.pw_code.specs.Frames.{local_slot, held_slot}
-use Rattle.pw_code.specs.Pieces.{bytes_of_words, skip, back, jump, unless_zero, unless_nonzero, check_index, check_index_words, hold}
+use Rattle.pw_code.specs.Pieces.{bytes_of_words, skip, jump, unless_zero, check_index, check_index_words, hold}
 use Rattle.pw_code.specs.ExpressionCode.{expression_words, expression_code}
 
 -- ---- sizes
@@ -72,8 +72,8 @@ pub record Targets : Type 0 where
   pub return_to : ℕ
 
 -- In the body of a loop, `break` and `continue` are the loop's.
-abbrev pub in_loop : (end next : ℕ) → Targets → Targets
-in_loop end next targets = record targets { break_to = end; continue_to = next }
+abbrev pub targets_in_loop : (end next : ℕ) → Targets → Targets
+targets_in_loop end next targets = record targets { break_to = end; continue_to = next }
 
 -- A local is set to a value, or to zero.
 abbrev pub set_local_code : Frame → (i : ℕ) → Option TypedExpression → List Part
@@ -110,11 +110,11 @@ unfoldable mutual
       let body_at : ℕ = at + (expression_words c + 2) in
       let next : ℕ = body_at + statement_words body in
       expression_code frame 0 c ++ unless_zero (statement_words body + 1)
-      ++ statement_code frame (in_loop (next + 1) next targets) body_at body ++ jump next at ∷ []
+      ++ statement_code frame (targets_in_loop (next + 1) next targets) body_at body ++ jump next at ∷ []
   statement_code frame targets at (do_loop body c) =
       let next : ℕ = at + statement_words body in
       let jump_at : ℕ = next + (expression_words c + 1) in
-      statement_code frame (in_loop (jump_at + 1) next targets) at body ++ expression_code frame 0 c
+      statement_code frame (targets_in_loop (jump_at + 1) next targets) at body ++ expression_code frame 0 c
       ++ instruction (Beq a0 x0 (pos (bytes_of_words 2))) ∷ jump jump_at at ∷ []
   statement_code frame targets at (for_loop first c last body) =
       let top : ℕ = at + optional_words first in
@@ -122,7 +122,7 @@ unfoldable mutual
       let next : ℕ = body_at + statement_words body in
       let jump_at : ℕ = next + optional_words last in
       optional_code frame targets at first ++ condition_code frame c (statement_words body + (optional_words last + 1))
-      ++ statement_code frame (in_loop (jump_at + 1) next targets) body_at body ++ optional_code frame targets next last
+      ++ statement_code frame (targets_in_loop (jump_at + 1) next targets) body_at body ++ optional_code frame targets next last
       ++ jump jump_at top ∷ []
   statement_code frame targets at (returns e) = value_code frame e ++ jump (at + value_words e) targets.return_to ∷ []
   statement_code frame targets at breaks = jump at targets.break_to ∷ []

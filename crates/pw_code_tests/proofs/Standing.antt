@@ -1,5 +1,5 @@
 -- The expression that a well typed unit's first function evaluates first stands in that function's frame.
-use Rattle.std.proofs.Common.{◌≡◌, ℕ, ◌+◌, ◌≤◌, max, List, [], ◌∷◌, Some, map, refl, sym, ap, ◌∙◌, subst, arith}
+use Rattle.std.proofs.Common.{◌≡◌, ◌+◌, ◌≤◌, List, [], ◌∷◌, Some, map, refl, ap, ◌∙◌, subst, arith}
 use Rattle.std.specs.Prelude.{slice_get}
 use Rattle.std.specs.List.{AllByRecursion}
 use Rattle.pw_tree.specs.declared.texpr.TExpr.{TExpr}
@@ -12,12 +12,12 @@ use Rattle.pw_tree.specs.TypedStatements as statements
 use Rattle.pw_tree.specs.TypedStatements.{TypedStatements, typed_statement_of, typed_statements_of}
 use Rattle.pw_tree.specs.Held.{held, held_by, held_by_all}
 use Rattle.pw_tree.specs.Units.{Function, TypedUnit, typed_function_of, unit_of}
-use Rattle.pw_tree.specs.WellTypedExpressions.{class_of, HasSmallNumbers, expressions_in}
+use Rattle.pw_tree.specs.WellTypedExpressions.{class_of}
 use Rattle.pw_tree.specs.WellTypedStatements.{StatementFits, StatementHasSmallNumbers, Everywhere, EverywhereIn, phrases_in, phrases_in_all}
 use Rattle.pw_tree.specs.WellTypedUnits.{IsWellTypedFunction, IsWellTyped}
 use Rattle.pw_tree.proofs.CommandFolds.{command_of-Eval}
 use Rattle.pw_code.specs.declared.frame.Frame.{Frame}
-use Rattle.pw_genexpr.specs.Conditions.{IsWithinLimits, StandsIn}
+use Rattle.pw_genexpr.specs.Conditions.{StandsIn}
 
 -- the frame of a function
 abbrev pub frame : Function → Frame

@@ -1,5 +1,5 @@
 -- What reading a type string says of its test.
-use Rattle.std.proofs.Common.{◌≡◌, ℕ, ◌<◌, ◌^◌, false, List, length, Option, Some, None, Result, Ok, Err, refl, sym, ap, ◌∙◌, arith, inl, inr}
+use Rattle.std.proofs.Common.{◌≡◌, ℕ, ◌<◌, ◌^◌, false, List, length, Option, Some, None, Result, Ok, Err, ap, ◌∙◌, arith, inl, inr}
 use Rattle.std.proofs.lemmas.Bool.{false_from_ne_true}
 use Rattle.pw_base.specs.declared.no_memory.NoMemory.{NoMemory}
 use Rattle.pw_base.specs.TypeText.{ReadsTypeText, IsTypeTextOrEmpty}

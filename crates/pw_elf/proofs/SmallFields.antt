@@ -1,8 +1,8 @@
 -- A field of one byte is that byte, and where bytes at an offset are all there.
-use Rattle.std.proofs.Common.{◌≡◌, ℕ, zero, suc, ◌+◌, ◌-◌, ◌*◌, ◌%◌, ◌^◌, ◌<◌, ◌≤◌, List, [], ◌∷◌, ◌++◌, length, take, drop, get_or, Option, Some, None, refl, sym, ap, ◌∙◌, arith}
+use Rattle.std.proofs.Common.{◌≡◌, ℕ, ◌+◌, ◌-◌, ◌*◌, ◌%◌, ◌^◌, ◌<◌, ◌≤◌, List, [], ◌∷◌, ◌++◌, length, take, drop, get_or, Some, None, refl, ap, ◌∙◌, arith}
 use Rattle.std.proofs.lemmas.Bool.{le-leb, lt-leb}
 use Rattle.std.proofs.lemmas.List.{length-drop, drop_more}
-use Rattle.pw_base.specs.Bytes.{le, le_bytes}
+use Rattle.pw_base.specs.Bytes.{le}
 use Rattle.pw_base.specs.Field.{field, first_field, field_at}
 use Rattle.pw_base.specs.Structs.{slice_at}
 

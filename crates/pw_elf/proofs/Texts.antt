@@ -5,7 +5,6 @@ use Rattle.std.specs.Option.{option_map}
 use Rattle.std.proofs.lemmas.Bool.{eq-eqb, ne_eqb, cases_lt}
 use Rattle.std.proofs.lemmas.List.{drop_more, take_more, append-nil, drop_all, take_all}
 use Rattle.pw_base.specs.Limits.{name_bytes}
-use Rattle.pw_base.specs.Name.{IsName}
 use Rattle.pw_base.specs.Tests.{is_name, ReadsWhere}
 use Rattle.pw_base.specs.declared.no_memory.NoMemory.{NoMemory}
 use Rattle.pw_base.proofs.Names.{no_name}

@@ -1,3 +1,4 @@
+-- The modules of the proofs of this crate.
 pub mod Bodies
 pub mod Functions
 pub mod Finding

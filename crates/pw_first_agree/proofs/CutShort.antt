@@ -1,6 +1,5 @@
 -- A run that stops at its limit is the front of each longer run: what it put and what it fetched come first.
-use Rattle.std.proofs.Common.{◌≡◌, ℕ, zero, suc, ◌+◌, ◌-◌, ◌≤◌, List, [], ◌∷◌, ◌++◌, length, refl, ap, sym, subst, ◌∙◌, arith, append_assoc, append-nil}
-use Rattle.pw_mem.specs.Memory.{Mem, store}
+use Rattle.std.proofs.Common.{◌≡◌, ℕ, zero, suc, ◌+◌, ◌-◌, ◌≤◌, List, [], ◌∷◌, ◌++◌, length, refl, ap, sym, ◌∙◌, arith, append_assoc, append-nil}
 use Rattle.pw_hart.specs.declared.ends.End.{End}
 use Rattle.pw_hart.specs.declared.ends.End.TheVariants.{Limit}
 use Rattle.pw_hart.specs.State.{MachineState, Next, Goes, Ends}

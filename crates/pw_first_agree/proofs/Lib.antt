@@ -1,3 +1,4 @@
+-- The modules of the proofs of this crate.
 pub mod Reach
 pub mod Moment
 pub mod Steps

@@ -1,6 +1,6 @@
 -- Words that are appended in parts.
 use Rattle.std.specs.Result.{is_err}
-use Rattle.std.proofs.Common.{◌≡◌, ℕ, true, cond, is_ok, List, [], ◌∷◌, ◌++◌, refl, sym, ◌∙◌, ap, append_assoc, take, drop, Result, Ok, Err, map, flat_map}
+use Rattle.std.proofs.Common.{◌≡◌, ℕ, true, cond, is_ok, List, [], ◌∷◌, ◌++◌, sym, ◌∙◌, ap, append_assoc, take, drop, Result, Ok, Err, map, flat_map}
 use Rattle.std.proofs.lemmas.List.{take-append-drop, map-append}
 use Rattle.std.proofs.lemmas.Grind.{flat_map-append}
 use Rattle.pw_base.specs.declared.no_memory.NoMemory.{NoMemory}

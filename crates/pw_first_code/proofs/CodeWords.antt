@@ -1,8 +1,7 @@
 -- The words of a function by its parts, and how many they are.
 use Rattle.pw_base.specs.declared.no_memory.NoMemory.{NoMemory}
 use Rattle.pw_first_code.specs.Appends.{Appends}
-use Rattle.std.proofs.Common.{◌≡◌, ℕ, suc, subst, Result, ◌+◌, ◌*◌, List, [], ◌∷◌, ◌++◌, length, flat_map, refl, sym, ◌∙◌, ap, arith, codes, pos, negsuc, length-append}
-use Rattle.pw_isa.specs.declared.instruction.Inst.TheVariants.{Jal, Jalr, Bne, Ld, Sd, Addi, Ecall}
+use Rattle.std.proofs.Common.{◌≡◌, ℕ, subst, Result, ◌+◌, ◌*◌, List, [], ◌∷◌, ◌++◌, length, flat_map, refl, sym, ◌∙◌, ap, arith}
 use Rattle.pw_first.specs.declared.writer.Writer.{Writer}
 use Rattle.pw_first_code.specs.Items.{Item, word, address, size, words_at}
 use Rattle.pw_first_code.specs.Scheme.{function_items, output, returns, falls_off, closes_frame, words, head_words, output_words, tail_words}

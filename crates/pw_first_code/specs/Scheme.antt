@@ -1,6 +1,5 @@
 -- The code scheme: the items of a function and of the entry.
-use Rattle.std.specs.Prelude.{◌≡◌, ℕ, ◌+◌, ◌*◌, ◌≤◌, pos, negsuc, List, [], ◌∷◌, ◌++◌, flat_map, codes, All, length}
-use Rattle.pw_isa.specs.declared.instruction.Inst.{Inst}
+use Rattle.std.specs.Prelude.{◌≡◌, ℕ, ◌+◌, ◌*◌, ◌≤◌, pos, negsuc, List, [], ◌∷◌, ◌++◌, flat_map, codes, All}
 use Rattle.pw_isa.specs.declared.instruction.Inst.TheVariants.{Jal, Jalr, Bne, Ld, Sd, Addi, Ecall}
 use Rattle.pw_isa.specs.Registers.{x0, ra, sp, t0, s1, a0, a1, a7}
 use Rattle.pw_isa.specs.EnvironmentCalls.{exit_call, output_call, fault_call}

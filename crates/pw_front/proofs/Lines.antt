@@ -29,7 +29,8 @@ pieces_end before (piece ∷ pieces) rest stand =
     let ends = sum_by-append (λ b. cond (is_newline b) 1 0) (bytes_of piece) (spelled pieces) in
     omega arith
 
-pub tokens_and_ends : (text : Text) (tokens : List Token) → HasTokens text tokens → length tokens + count_by is_newline text ≤ length text
+pub tokens_and_ends : (text : Text) (tokens : List Token) → HasTokens text tokens →
+    length tokens + count_by is_newline text ≤ length text
 tokens_and_ends text tokens has =
     rw (has.text_is, has.tokens_are) (pieces_end [] has.pieces [] has.stand)
 

@@ -67,7 +67,8 @@ one_first syntax.NoMemory (TooNested u) a b = let e = (each_way 0 u 3 1 a b).1 i
 one_first syntax.NoMemory (TooLong u) a b = let e = (each_way 0 u 3 2 a b).1 in cc
 one_first syntax.NoMemory syntax.NoMemory a b = refl
 
-same_syntax : (text : Text) (f g : SyntaxError) (l m : ℕ) → HasSyntaxFault text f l → HasSyntaxFault text g m → Syntax f l ≡ Syntax g m
+same_syntax : (text : Text) (f g : SyntaxError) (l m : ℕ) → HasSyntaxFault text f l → HasSyntaxFault text g m →
+    Syntax f l ≡ Syntax g m
 same_syntax text f g l m a b =
     let tokens : b.tokens ≡ a.tokens = one_list text b.tokens a.tokens b.has_tokens a.has_tokens in
     let also : IsFirstFault a.tokens g = subst (λ ts. IsFirstFault ts g) tokens b.is in

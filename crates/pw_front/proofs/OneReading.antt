@@ -31,10 +31,12 @@ pub one_typed_unit : OneTypedUnit
 one_typed_unit text a b is also =
     is.is_typed.is ∙ ap (λ u. typed_unit (untyped_unit_of u)) (one_unit text is.unit also.unit is.is_unit also.is_unit) ∙ sym also.is_typed.is
 
-pub no_lex_fault : (text : Text) (unit : Unit) (fault : LexError) (line : ℕ) → IsUnitOf text unit → HasLexFault text fault line → ⊥
+pub no_lex_fault : (text : Text) (unit : Unit) (fault : LexError) (line : ℕ) → IsUnitOf text unit →
+    HasLexFault text fault line → ⊥
 no_lex_fault text unit fault line is h = not_both text is.tokens fault is.has_tokens h.is
 
-pub no_syntax_fault : (text : Text) (unit : Unit) (fault : SyntaxError) (line : ℕ) → IsUnitOf text unit → HasSyntaxFault text fault line → ⊥
+pub no_syntax_fault : (text : Text) (unit : Unit) (fault : SyntaxError) (line : ℕ) → IsUnitOf text unit →
+    HasSyntaxFault text fault line → ⊥
 no_syntax_fault text unit fault line is h =
     let same : is.tokens ≡ h.tokens = one_list text is.tokens h.tokens is.has_tokens h.has_tokens in
     let none : IsFaultless h.tokens = subst (λ ts. IsFaultless ts) same is.no_fault in
@@ -45,7 +47,8 @@ none_first : (faults : List Fault) (fault : Fault) → faults ≡ [] → first_o
 none_first [] fault none first = cc
 none_first (f ∷ fs) fault none first = cc
 
-no_type_fault : (text : Text) (typed : TUnit) (rule : Rule) (at : Pos) (name : Option (List ℕ)) → IsTypedUnitOf text typed → HasTypeFault text rule at name → ⊥
+no_type_fault : (text : Text) (typed : TUnit) (rule : Rule) (at : Pos) (name : Option (List ℕ)) → IsTypedUnitOf text typed →
+    HasTypeFault text rule at name → ⊥
 no_type_fault text typed rule at name is h =
     let same : is.unit ≡ h.unit = one_unit text is.unit h.unit is.is_unit h.is_unit in
     let none : faults_of (untyped_unit_of h.unit) ≡ [] = subst (λ u. faults_of (untyped_unit_of u) ≡ []) same is.is_typed.no_fault in

@@ -18,7 +18,8 @@ use Rattle.pw_front.specs.Units.{IsTypedUnitOf}
 use Rattle.pw_front.proofs.Lines.{tokens_within}
 
 -- a typed body has as many statements as the body
-same_count : (x : Setting) (b : Block) (ss : Statements) → statement_count (typed_statements x b ss) ≡ written.statement_count ss
+same_count : (x : Setting) (b : Block) (ss : Statements) →
+    statement_count (typed_statements x b ss) ≡ written.statement_count ss
 unfolding typed_statements statement_count written.statement_count
 same_count x b nil = refl
 same_count x b (cons s ss) = ap suc (same_count x (after s b) ss)
@@ -42,7 +43,8 @@ functions_weigh w files (d ∷ ds) =
     omega (arith, here, later, sums, last)
 
 -- a typed unit has at least as many bytes as its functions weigh
-pub unit_is_small : (text : Text) (typed : TUnit) → IsTypedUnitOf text typed → sum_by weight (unit_of typed).functions ≤ length text
+pub unit_is_small : (text : Text) (typed : TUnit) → IsTypedUnitOf text typed →
+    sum_by weight (unit_of typed).functions ≤ length text
 unit_is_small text typed is =
     let T : TypedUnit → Type 0 = λ u. sum_by weight u.functions ≤ length text in
     let few = tokens_within text is.is_unit.tokens is.is_unit.has_tokens in

@@ -13,7 +13,7 @@ use Rattle.pw_code.specs.Items.{Part, instruction, address}
 use Rattle.pw_code.specs.Frames.{local_slot, held_slot}
 use Rattle.pw_code.specs.Pieces.{bytes_of_words, skip, jump, unless_zero, check_index, hold}
 use Rattle.pw_code.specs.ExpressionCode.{expression_words, expression_code}
-use Rattle.pw_code.specs.StatementCode.{Targets, in_loop, condition_words, value_words, statement_words, optional_words, else_jump, set_local_code, value_code, condition_code, statement_code, statements_code, optional_code, else_code}
+use Rattle.pw_code.specs.StatementCode.{Targets, targets_in_loop, condition_words, value_words, statement_words, optional_words, else_jump, set_local_code, value_code, condition_code, statement_code, statements_code, optional_code, else_code}
 use Rattle.pw_gen.proofs.References.{IsKnownIn, known_variable}
 use Rattle.pw_gen.proofs.SoundPieces.{IsSoundPart, AreSound, both, sound_jump, sound_check_index}
 use Rattle.pw_gen.proofs.SoundExpressions.{sound_expression}
@@ -96,22 +96,22 @@ module _ (unit : TypedUnit) where
       sound_statement targets at (while_loop c body) h =
           let body_at : ℕ = at + (expression_words c + 2) in
           let next : ℕ = body_at + statement_words body in
-          sound_while (expression_code frame 0 c) (statement_code frame (in_loop (next + 1) next targets) body_at body) (statement_words body + 1)
-          next at (sound_expression unit classes frame 0 c h.0.parts) (sound_statement (in_loop (next + 1) next targets) body_at body h.1)
+          sound_while (expression_code frame 0 c) (statement_code frame (targets_in_loop (next + 1) next targets) body_at body) (statement_words body + 1)
+          next at (sound_expression unit classes frame 0 c h.0.parts) (sound_statement (targets_in_loop (next + 1) next targets) body_at body h.1)
       sound_statement targets at (do_loop body c) h =
           let next : ℕ = at + statement_words body in
           let jump_at : ℕ = next + (expression_words c + 1) in
-          sound_do (statement_code frame (in_loop (jump_at + 1) next targets) at body) (expression_code frame 0 c) jump_at at
-          (sound_statement (in_loop (jump_at + 1) next targets) at body h.1) (sound_expression unit classes frame 0 c h.0.parts)
+          sound_do (statement_code frame (targets_in_loop (jump_at + 1) next targets) at body) (expression_code frame 0 c) jump_at at
+          (sound_statement (targets_in_loop (jump_at + 1) next targets) at body h.1) (sound_expression unit classes frame 0 c h.0.parts)
       sound_statement targets at (for_loop first c last body) h =
           let top : ℕ = at + optional_words first in
           let body_at : ℕ = top + condition_words c in
           let next : ℕ = body_at + statement_words body in
           let jump_at : ℕ = next + optional_words last in
           sound_for (optional_code frame targets at first) (condition_code frame c (statement_words body + (optional_words last + 1)))
-          (statement_code frame (in_loop (jump_at + 1) next targets) body_at body) (optional_code frame targets next last) jump_at top
+          (statement_code frame (targets_in_loop (jump_at + 1) next targets) body_at body) (optional_code frame targets next last) jump_at top
           (sound_optional targets at first h.1) (sound_condition c (statement_words body + (optional_words last + 1)) h.0.parts)
-          (sound_statement (in_loop (jump_at + 1) next targets) body_at body h.3) (sound_optional targets next last h.2)
+          (sound_statement (targets_in_loop (jump_at + 1) next targets) body_at body h.3) (sound_optional targets next last h.2)
       sound_statement targets at (returns e) h =
           both unit (value_code frame e) (jump (at + value_words e) targets.return_to ∷ []) (sound_value e h.parts)
           (sound_jump unit (at + value_words e) targets.return_to, tt)

@@ -1,8 +1,6 @@
 -- What can be emitted in a whole can be in its parts.
-use Rattle.std.proofs.Common.{◌≡◌, ℕ, zero, suc, ◌+◌, ◌≤◌, max, List, [], ◌∷◌, length, refl, sym, ap, subst, ◌∙◌, arith, add-one, ◌++◌, append-nil, append_assoc}
-use Rattle.std.specs.List.{AllByRecursion}
-use Rattle.std.specs.Prelude.{slice_get, Some, None, ⊤}
-use Rattle.pw_base.specs.Limits.{parameters}
+use Rattle.std.proofs.Common.{◌≡◌, ℕ, zero, suc, ◌+◌, ◌≤◌, List, [], ◌∷◌, length, refl, sym, ap, subst, ◌∙◌, arith, add-one, ◌++◌, append-nil, append_assoc}
+use Rattle.std.specs.Prelude.{slice_get, Some, ⊤}
 use Rattle.pw_tree.specs.declared.texpr.TExpr.{TExpr}
 use Rattle.pw_tree.specs.declared.ty.Ref.{Ref}
 use Rattle.pw_tree.specs.TypedExpressions.{Mark, TypedExpression, TypedExpressions, constant, local, variable, designator, element, unary, binary, conditional, call, call_pointer, input, output, nil, cons, typed_expression_of, typed_expressions_of}
@@ -16,10 +14,9 @@ use Rattle.pw_code.specs.Pieces.{hold}
 use Rattle.pw_code.specs.ExpressionCode.{expression_code, arguments_code}
 use Rattle.pw_genexpr.specs.Appends.{AppendsPrefix}
 use Rattle.pw_genexpr.proofs.Appending.{prefix_of_more, prefix_after, both_appended}
-use Rattle.pw_code.specs.Bounds.{HasSmallOperands, HasShortCode}
 use Rattle.pw_code.proofs.Exports.{well_typed_is_short}
-use Rattle.pw_genexpr.specs.Conditions.{StandsIn, IsWithinLimits}
-use Rattle.pw_genexpr.specs.Steps.Emitting.{HasSlot, CanEmit, HaveShortCode, CanEmitAll}
+use Rattle.pw_genexpr.specs.Conditions.{StandsIn}
+use Rattle.pw_genexpr.specs.Steps.Emitting.{HasSlot, CanEmit, CanEmitAll}
 
 -- ---- arguments
 

@@ -1,9 +1,9 @@
 -- Loads of held values, from the first on.
-use Rattle.std.proofs.Common.{◌≡◌, ℕ, zero, suc, ◌+◌, ◌-◌, ◌≤◌, List, [], ◌∷◌, arith, refl, sym, ap, subst, add-one}
+use Rattle.std.proofs.Common.{◌≡◌, ℕ, suc, ◌+◌, ◌-◌, ◌≤◌, [], ◌∷◌, arith, refl, sym, subst, add-one}
 use Rattle.pw_isa.specs.declared.instruction.Inst.TheVariants.{Ld}
 use Rattle.pw_isa.specs.Registers.{sp}
 use Rattle.pw_code.specs.declared.frame.Frame.{Frame}
-use Rattle.pw_code.specs.Items.{Part, instruction}
+use Rattle.pw_code.specs.Items.{instruction}
 use Rattle.pw_code.specs.Frames.{held_slot}
 use Rattle.pw_code.specs.Pieces.{load_held}
 

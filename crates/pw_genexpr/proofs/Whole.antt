@@ -1,17 +1,17 @@
 -- The code of forms by their parts, as it is appended.
-use Rattle.std.proofs.Common.{◌≡◌, ℕ, suc, ◌+◌, ◌++◌, Bool, true, List, [], ◌∷◌, pos, length, refl, sym, ap, ◌∙◌, append_assoc}
-use Rattle.pw_isa.specs.declared.instruction.Inst.TheVariants.{Ld, Addi, Jalr, Bne, Ecall}
-use Rattle.pw_isa.specs.Registers.{x0, ra, sp, t0, a0, a7}
+use Rattle.std.proofs.Common.{◌≡◌, ℕ, suc, ◌+◌, ◌++◌, Bool, true, List, [], ◌∷◌, length, refl, sym, ap, ◌∙◌, append_assoc}
+use Rattle.pw_isa.specs.declared.instruction.Inst.TheVariants.{Ld}
+use Rattle.pw_isa.specs.Registers.{sp, t0, a0}
 use Rattle.pw_tree.specs.declared.operator.Bin.{Bin}
 use Rattle.pw_tree.specs.declared.operator.Bin.TheVariants.{Mul, Div, Rem, Add, Sub, Shl, Shr, Lt, Gt, Le, Ge, Eq, Ne, And, Xor, Or, AndAnd, OrOr}
 use Rattle.pw_tree.specs.declared.texpr.TExpr.{TExpr}
 use Rattle.pw_tree.specs.declared.ty.Ref.{Ref}
-use Rattle.pw_tree.specs.TypedExpressions.{Mark, TypedExpression, element, call, call_pointer, typed_expression_of, typed_expressions_of}
+use Rattle.pw_tree.specs.TypedExpressions.{Mark, TypedExpression, element, call, call_pointer, typed_expressions_of}
 use Rattle.pw_tree.specs.Held.{holds_left, count}
 use Rattle.pw_code.specs.declared.frame.Frame.{Frame}
-use Rattle.pw_code.specs.Items.{Part, instruction, address}
+use Rattle.pw_code.specs.Items.{Part, instruction}
 use Rattle.pw_code.specs.Frames.{held_slot}
-use Rattle.pw_code.specs.Pieces.{hold, binary_code, check_index, past, fault, null_call_fault, load_held}
+use Rattle.pw_code.specs.Pieces.{hold, binary_code, check_index, load_held}
 use Rattle.pw_code.specs.ExpressionCode.{expression_words, expression_code, arguments_code, operator_code, right_slot}
 use Rattle.pw_genexpr.specs.Steps.Emitting.{binary_expression_code, operands_code, element_code, call_code, call_pointer_code}
 use Rattle.pw_genexpr.proofs.Arguments.{count_of}

@@ -5,7 +5,7 @@ use Rattle.pw_grammar.specs.contracts.sort.Sort.{the_type}
 use Rattle.pw_grammar.specs.declared.sort.Sort.{Sort}
 use Rattle.pw_grammar.specs.declared.error.SyntaxError.TheVariants.{At}
 use Rattle.pw_grammar.specs.Terminals.{first_sort, is_same}
-use Rattle.pw_grammar.specs.Reading.Steps.{Position, Parser, and_then, ◌>>=◌, pure, refuse, next_sort}
+use Rattle.pw_grammar.specs.Reading.Steps.{Position, Parser, read_then, ◌>>=◌, pure, refuse, next_sort}
 use Rattle.pw_grammar.proofs.Lawful.{Language, Agree, GoesOn, Says, Same, Lawful, Within, Lax, says_within, Seq, Shrinks, same_passed, near_or_far, leads_nowhere, says_both, same_both, settled_both}
 use Rattle.pw_lex.specs.declared.token.Token.{Token}
 
@@ -44,7 +44,8 @@ keeps c n L p q l = record {
 long_enough : (a k n : ℕ) → k < a + n → a ≤ k → 0 < n
 long_enough a k n far near = omega arith
 
-pub keeps_within : {A : Type 0} (c : Sort → Type 0) (n : ℕ) (L M : Language A) (p q : Parser A) → Within L M → Keeps c n L p q → Keeps c n M p q
+pub keeps_within : {A : Type 0} (c : Sort → Type 0) (n : ℕ) (L M : Language A) (p q : Parser A) → Within L M → Keeps c n L p q →
+    Keeps c n M p q
 keeps_within c n L M p q w l = record {
   settled = l.settled;
   says = λ i h. says_within w i (p i) (l.says i h);
@@ -104,7 +105,8 @@ lawful_test {A} t n L p p' q q' yes_ no_ can = record {
   can = can;
 }
   where
-    settles : (i : Position) (b : Bool) → t (next_sort i) ≡ b → length i.rest < n → (if b then p i else q i) ≡ (if b then p' i else q' i)
+    settles : (i : Position) (b : Bool) → t (next_sort i) ≡ b → length i.rest < n →
+        (if b then p i else q i) ≡ (if b then p' i else q' i)
     settles i true e short = yes_.settled i e short
     settles i false e short = no_.settled i e short
 
@@ -112,7 +114,8 @@ lawful_test {A} t n L p p' q q' yes_ no_ can = record {
     tells i true e = yes_.says i e
     tells i false e = no_.says i e
 
-    keeps_on : (k : ℕ) (i j : Position) (b : Bool) → t (next_sort i) ≡ b → Agree k i j → Same k (if b then p i else q i) (if b then p j else q j)
+    keeps_on : (k : ℕ) (i j : Position) (b : Bool) → t (next_sort i) ≡ b → Agree k i j →
+        Same k (if b then p i else q i) (if b then p j else q j)
     keeps_on k i j true e same = yes_.steady k i j e same
     keeps_on k i j false e same = no_.steady k i j e same
 
@@ -145,7 +148,8 @@ lawful_option {A} {B} h n L F G none_ some_ can = record {
     keeps_on k i j None e same = none_.steady k i j e same
     keeps_on k i j (Some b) e same = (some_ b).steady k i j e same
 
-    stays : (k : ℕ) (i j : Position) → Agree k i j → (i.at ≤ k) ⊎ (k < i.at) → Same k (F (h (next_sort i)) i) (F (h (next_sort j)) j)
+    stays : (k : ℕ) (i j : Position) → Agree k i j → (i.at ≤ k) ⊎ (k < i.at) →
+        Same k (F (h (next_sort i)) i) (F (h (next_sort j)) j)
     stays k i j same (inl near) =
         subst (λ x. Same k (F (h (next_sort i)) i) (F (h x) j)) (sym (next_agrees k i j same near))
         (keeps_on k i j (h (next_sort i)) refl same)
@@ -156,7 +160,7 @@ lawful_option {A} {B} h n L F G none_ some_ can = record {
 pub keeps_bind_from : {A B : Type 0} (c : Sort → Type 0) (m n : ℕ) (L : Language A) (M : A → Language B) (p q : Parser A) (f g : A → Parser B)
     → Lax L → Keeps c m L p q → ((a : A) → Lawful n (M a) (f a) (g a)) → Shrinks m n p → Keeps c m (Seq L M) (p >>= f) (q >>= g)
 keeps_bind_from c m n L M p q f g lax first second shrinks = record {
-  settled = λ i h short. settled_both f g n (p i) (λ a j left. (second a).settled j left) (shrinks i short) ∙ ap (λ o. and_then o g) (first.settled i h short);
+  settled = λ i h short. settled_both f g n (p i) (λ a j left. (second a).settled j left) (shrinks i short) ∙ ap (λ o. read_then o g) (first.settled i h short);
   says = λ i h. says_both L M lax f (λ a j. (second a).says j) (λ a at. (second a).can at) i (p i) (first.says i h);
   steady = λ k i j h same. same_both L M f k (p i) (p j) (λ a l. (second a).says l) (λ a l o. (second a).steady k l o) (first.steady k i j h same);
 }

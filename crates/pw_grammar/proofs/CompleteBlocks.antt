@@ -27,7 +27,8 @@ use Rattle.pw_lex.specs.declared.token.Token.{Token}
 never : {A : Type 0} → false ≡ true → A
 never e = cc
 
-pub statement_starts : (y : StatementDerivation) (ts : List Token) → IsStatement false y → starts_statement (first_sort (spelled_statement y ++ ts)) ≡ true
+pub statement_starts : (y : StatementDerivation) (ts : List Token) → IsStatement false y →
+    starts_statement (first_sort (spelled_statement y ++ ts)) ≡ true
 unfolding spelled_statement IsStatement
 statement_starts (empty e) ts is = ap starts_statement is
 statement_starts (block o body c) ts is = ap starts_statement is.0
@@ -54,7 +55,8 @@ kind_is (declare l) is = a_local l refl is.1
 kind_is y is = a_statement is
 
 -- no element of a block begins so
-pub element_no : (y : StatementDerivation) (x : Sort) (ts : List Token) → starts_statement x ≡ false → r.begins_type x ≡ false → Kind y → first_sort (spelled_statement y ++ ts) ≢ x
+pub element_no : (y : StatementDerivation) (x : Sort) (ts : List Token) → starts_statement x ≡ false → r.begins_type x ≡ false →
+    Kind y → first_sort (spelled_statement y ++ ts) ≢ x
 unfolding spelled_statement
 element_no y x ts e f (a_statement is) = told_apart starts_statement (statement_starts y ts is) e
 element_no y x ts e f (a_local l same is) =
@@ -70,7 +72,8 @@ no_type_brace = refl
 
 -- ---- the elements of a block
 
-reads_one : (n : ℕ) (expr : Parser Expr) (stmt : Parser Stmt) → ReadsExpressions n expr → (y : StatementDerivation) (at : ℕ) (ts : List Token) → Kind y
+reads_one : (n : ℕ) (expr : Parser Expr) (stmt : Parser Stmt) → ReadsExpressions n expr →
+    (y : StatementDerivation) (at : ℕ) (ts : List Token) → Kind y
     → length (spelled_statement y ++ ts) < n → (IsStatement false y → ReadsPart stmt y at ts)
     → r.element expr stmt (spot at (spelled_statement y ++ ts)) ≡ Ok (tree_of_statement at y, spot (at + length (spelled_statement y)) ts)
 unfolding r.element spelled_statement kind_of
@@ -82,14 +85,16 @@ reads_one n expr stmt reads y at ts (a_local l same is) short part =
     (ap (λ b. if b then r.local expr (spot at (spelled_local l ++ ts)) else stmt (spot at (spelled_local l ++ ts))) (local_begins l ts is)
     ∙ reads_local n expr reads l at ts is (subst (λ y. length (spelled_statement y ++ ts) < n) same short))
 
-no_elements : (expr : Parser Expr) (stmt : Parser Stmt) (turns : ℕ) (found : List Stmt) (i : Position) → next_sort i ≡ s.RightBrace
+no_elements : (expr : Parser Expr) (stmt : Parser Stmt) (turns : ℕ) (found : List Stmt) (i : Position) →
+    next_sort i ≡ s.RightBrace
     → r.elements expr stmt turns found i ≡ Ok (found, i)
 unfolding r.elements
 no_elements expr stmt zero found i is = refl
 no_elements expr stmt (suc turns) found i is =
     either_this s.RightBrace (pure found) (r.element expr stmt >>= (λ y. r.elements expr stmt turns (found ++ y ∷ []))) i is
 
-one_element : (expr : Parser Expr) (stmt : Parser Stmt) (turns : ℕ) (found : List Stmt) (i j : Position) (y : Stmt) → next_sort i ≢ s.RightBrace
+one_element : (expr : Parser Expr) (stmt : Parser Stmt) (turns : ℕ) (found : List Stmt) (i j : Position) (y : Stmt) →
+    next_sort i ≢ s.RightBrace
     → r.element expr stmt i ≡ Ok (y, j)
     → r.elements expr stmt (suc turns) found i ≡ r.elements expr stmt turns (found ++ y ∷ []) j
 unfolding r.elements
@@ -102,12 +107,14 @@ abbrev pub ReadsElements : Parser Expr → Parser Stmt → ℕ → StatementDeri
 ReadsElements expr stmt turns ys at ts = (found : List Stmt) →
     r.elements expr stmt turns found (spot at (spelled_statements ys ++ ts)) ≡ Ok (found ++ trees_of_statements at ys, spot (at + length (spelled_statements ys)) ts)
 
-elements_nil : (expr : Parser Expr) (stmt : Parser Stmt) (turns at : ℕ) (ts : List Token) → first_sort ts ≡ s.RightBrace → ReadsElements expr stmt turns nil at ts
+elements_nil : (expr : Parser Expr) (stmt : Parser Stmt) (turns at : ℕ) (ts : List Token) → first_sort ts ≡ s.RightBrace →
+    ReadsElements expr stmt turns nil at ts
 unfolding spelled_statements trees_of_statements
 elements_nil expr stmt turns at ts is = λ found.
     valued (found ++ []) (counted (at + 0) (no_elements expr stmt turns found (spot at ts) is) (omega arith)) (sym (append-nil found))
 
-elements_cons : (n : ℕ) (expr : Parser Expr) (stmt : Parser Stmt) → ReadsExpressions n expr → (turns : ℕ) (y : StatementDerivation) (ys : StatementDerivations) (at : ℕ) (ts : List Token)
+elements_cons : (n : ℕ) (expr : Parser Expr) (stmt : Parser Stmt) → ReadsExpressions n expr →
+    (turns : ℕ) (y : StatementDerivation) (ys : StatementDerivations) (at : ℕ) (ts : List Token)
     → Kind y
     → length (spelled_statements (cons y ys) ++ ts) < n → (IsStatement false y → ReadsPart stmt y at (spelled_statements ys ++ ts))
     → ReadsElements expr stmt turns ys (at + length (spelled_statement y)) ts → ReadsElements expr stmt (suc turns) (cons y ys) at ts
@@ -124,13 +131,16 @@ elements_cons n expr stmt reads turns y ys at ts kind short part rest = λ found
     (append_assoc found (tree_of_statement at y ∷ []) (trees_of_statements (at + length (spelled_statement y)) ys)))
 
 -- behind the elements that are left, and before their end, there is no `else`
-rest_no : (ys : StatementDerivations) (ts : List Token) → AreStatements ys → first_sort ts ≡ s.RightBrace → first_sort (spelled_statements ys ++ ts) ≢ s.Else
+rest_no : (ys : StatementDerivations) (ts : List Token) → AreStatements ys → first_sort ts ≡ s.RightBrace →
+    first_sort (spelled_statements ys ++ ts) ≢ s.Else
 unfolding spelled_statements AreStatements
 rest_no nil ts is end = no_other end (λ p. cc)
 rest_no (cons y ys) ts is end = subst (λ v. first_sort v ≢ s.Else) (sym (append_assoc (spelled_statement y) (spelled_statements ys) ts))
     (element_no y s.Else (spelled_statements ys ++ ts) refl no_type_else (kind_is y is.0))
 
-reads_block : (expr : Parser Expr) (stmt : Parser Stmt) (n at : ℕ) (o : Token) (ys : StatementDerivations) (c : Token) (ts : List Token) → sort c ≡ s.RightBrace
+reads_block :
+    (expr : Parser Expr) (stmt : Parser Stmt) (n at : ℕ) (o : Token) (ys : StatementDerivations) (c : Token) (ts : List Token) →
+    sort c ≡ s.RightBrace
     → ReadsElements expr stmt n ys (suc at) (c ∷ ts)
     → r.block expr stmt n (spot at (spelled_statement (block o ys c) ++ ts)) ≡ Ok (kind_of at (block o ys c), spot (at + length (spelled_statement (block o ys c))) ts)
 unfolding r.block spelled_statement kind_of
@@ -143,7 +153,9 @@ reads_block expr stmt n at o ys c ts is_c elements =
 
 -- ---- any statement
 
-reads_whole : (expr : Parser Expr) (stmt : Parser Stmt) (n : ℕ) (y : StatementDerivation) (at : ℕ) (ts : List Token) (x : Sort) → IsStatement false y
+reads_whole :
+    (expr : Parser Expr) (stmt : Parser Stmt) (n : ℕ) (y : StatementDerivation) (at : ℕ) (ts : List Token) (x : Sort) →
+    IsStatement false y
     → first_sort (spelled_statement y ++ ts) ≡ x
     → r.form_by expr stmt n x (spot at (spelled_statement y ++ ts)) ≡ Ok (kind_of at y, spot (at + length (spelled_statement y)) ts)
     → r.whole expr stmt n (spot at (spelled_statement y ++ ts)) ≡ Ok (tree_of_statement at y, spot (at + length (spelled_statement y)) ts)
@@ -152,7 +164,8 @@ reads_whole expr stmt n y at ts x is begins reads =
     then_ _ (ap (λ x. r.form_by expr stmt n x (spot at (spelled_statement y ++ ts))) begins ∙ reads)
     (node_is at _ _ _ _ (spelled_statement y) ts refl refl (line_of_front (spelled_statement y) ts (statement_length y)))
 
-tested_fits : (t o : Token) (v : List Token) (c : Token) (w ts : List Token) (n : ℕ) → length ((t ∷ o ∷ (v ++ c ∷ w)) ++ ts) < suc n → length (w ++ ts) < n
+tested_fits : (t o : Token) (v : List Token) (c : Token) (w ts : List Token) (n : ℕ) →
+    length ((t ∷ o ∷ (v ++ c ∷ w)) ++ ts) < suc n → length (w ++ ts) < n
 tested_fits t o v c w ts n short = omega (arith, length-append (v ++ c ∷ w) ts, length-append v (c ∷ w), length-append w ts)
 
 else_fits : (t o : Token) (v : List Token) (c : Token) (w : List Token) (e : Token) (z ts : List Token) (n : ℕ)
@@ -187,7 +200,8 @@ head_fits t o u v e w c x ts n short = omega (
   length-append x ts,
 )
 
-block_fits : (o : Token) (v : List Token) (c : Token) (ts : List Token) (n : ℕ) → length ((o ∷ (v ++ c ∷ [])) ++ ts) < suc n → length (v ++ c ∷ ts) < n
+block_fits : (o : Token) (v : List Token) (c : Token) (ts : List Token) (n : ℕ) → length ((o ∷ (v ++ c ∷ [])) ++ ts) < suc n →
+    length (v ++ c ∷ ts) < n
 block_fits o v c ts n short = omega (arith, length-append (v ++ c ∷ []) ts, length-append v (c ∷ []), length-append v (c ∷ ts))
 
 -- the tokens of the statements of a block, each of which has one at least
@@ -206,7 +220,8 @@ one_more ts n short = omega arith
 while_no_else : (x : Sort) → x ≡ s.While → x ≢ s.Else
 while_no_else x e = no_other e (λ p. cc)
 
-simple_begins : (a : st.SimpleDerivation) (x : Token) (ts : List Token) → st.IsSimple a → starts_expression (first_sort ((spelled_simple a ++ x ∷ []) ++ ts)) ≡ true
+simple_begins : (a : st.SimpleDerivation) (x : Token) (ts : List Token) → st.IsSimple a →
+    starts_expression (first_sort ((spelled_simple a ++ x ∷ []) ++ ts)) ≡ true
 simple_begins a x ts is = subst (λ v. starts_expression (first_sort v) ≡ true) (sym (append_assoc (spelled_simple a) (x ∷ []) ts)) (simple_starts a (x ∷ ts) is)
 
 false_no_true : {A : Type 0} (b : Bool) → b ≡ false → b ≡ true → A
@@ -220,7 +235,8 @@ jump_is at t x ts kind is is_x = valued (jump_of (sort t)) (reads_jump kind at t
 mutual
   unfolding r.statement spelled_statement spelled_statements IsStatement AreStatements open_ended kind_of
 
-  pub reads_statement : ((m : ℕ) → ReadsExpressions m (expression m)) → (n : ℕ) (y : StatementDerivation) (at : ℕ) (ts : List Token) → IsStatement false y
+  pub reads_statement : ((m : ℕ) → ReadsExpressions m (expression m)) →
+      (n : ℕ) (y : StatementDerivation) (at : ℕ) (ts : List Token) → IsStatement false y
       → (open_ended y ≡ true → first_sort ts ≢ s.Else) → length (spelled_statement y ++ ts) < n → ReadsPart (r.statement n) y at ts
   reads_statement e zero y at ts is other short = absurd (omega arith)
   reads_statement e (suc n) (empty x) at ts is other short =
@@ -269,7 +285,8 @@ mutual
       reads_whole (expression (suc n)) (r.statement n) (suc n) (jump t x) at ts s.Continue (inr is, is_x) is (jump_is at t x ts k.Continue (ap jump_of is) is_x)
 
   -- with numbers of an expression, of a statement and of turns
-  pub reads_statements : ((m : ℕ) → ReadsExpressions m (expression m)) → (m n turns : ℕ) (ys : StatementDerivations) (at : ℕ) (ts : List Token) → AreStatements ys
+  pub reads_statements : ((m : ℕ) → ReadsExpressions m (expression m)) →
+      (m n turns : ℕ) (ys : StatementDerivations) (at : ℕ) (ts : List Token) → AreStatements ys
       → first_sort ts ≡ s.RightBrace → length (spelled_statements ys ++ ts) < n → length (spelled_statements ys ++ ts) < m → length (spelled_statements ys ++ ts) < turns
       → ReadsElements (expression m) (r.statement n) turns ys at ts
   reads_statements e m n turns nil at ts are end short short1 short2 = elements_nil (expression m) (r.statement n) turns at ts end

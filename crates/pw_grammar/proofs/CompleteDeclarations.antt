@@ -77,19 +77,22 @@ unfolding rd.declarator
 a_function expr stmt n l y j is = ap (λ b. if b then rd.function expr stmt n l y j else (if is_void y then refuse j else rd.variable n l y j))
     (sees_it s.LeftParen j is)
 
-a_variable : (expr : Parser Expr) (stmt : Parser Stmt) (n : ℕ) (l : Linkage) (y : Ty) (j : Position) → next_sort j ≢ s.LeftParen → is_void y ≡ false
+a_variable : (expr : Parser Expr) (stmt : Parser Stmt) (n : ℕ) (l : Linkage) (y : Ty) (j : Position) →
+    next_sort j ≢ s.LeftParen → is_void y ≡ false
     → rd.declarator expr stmt n l y j ≡ rd.variable n l y j
 unfolding rd.declarator
 a_variable expr stmt n l y j other void =
     ap (λ b. if b then rd.function expr stmt n l y j else (if is_void y then refuse j else rd.variable n l y j)) (sees_other s.LeftParen j other)
     ∙ ap (λ b. if b then refuse j else rd.variable n l y j) void
 
-ends_here : (expr : Parser Expr) (stmt : Parser Stmt) (n : ℕ) (l : Linkage) (y : Ty) (ps : List Param) (j : Position) → next_sort j ≡ s.Semicolon
+ends_here : (expr : Parser Expr) (stmt : Parser Stmt) (n : ℕ) (l : Linkage) (y : Ty) (ps : List Param) (j : Position) →
+    next_sort j ≡ s.Semicolon
     → rd.function_end expr stmt n l y ps j ≡ rd.prototype y ps j
 unfolding rd.function_end
 ends_here expr stmt n l y ps j is = ap (λ b. if (b || not (rd.may_define l ps)) then rd.prototype y ps j else rd.body expr stmt n y ps j) (sees_it s.Semicolon j is)
 
-has_body : (expr : Parser Expr) (stmt : Parser Stmt) (n : ℕ) (l : Linkage) (y : Ty) (ps : List Param) (j : Position) → next_sort j ≢ s.Semicolon → rd.may_define l ps ≡ true
+has_body : (expr : Parser Expr) (stmt : Parser Stmt) (n : ℕ) (l : Linkage) (y : Ty) (ps : List Param) (j : Position) →
+    next_sort j ≢ s.Semicolon → rd.may_define l ps ≡ true
     → rd.function_end expr stmt n l y ps j ≡ rd.body expr stmt n y ps j
 unfolding rd.function_end
 has_body expr stmt n l y ps j other may =
@@ -159,7 +162,8 @@ stored None v is = tt
 stored (Some t) v (inl is) = inr is
 stored (Some t) v (inr is) = inl is.0
 
-function_parts : (u v : List Token) (x o : Token) (w z ts : List Token) → (u ++ (v ++ x ∷ o ∷ (w ++ z))) ++ ts ≡ u ++ (v ++ x ∷ o ∷ (w ++ (z ++ ts)))
+function_parts : (u v : List Token) (x o : Token) (w z ts : List Token) →
+    (u ++ (v ++ x ∷ o ∷ (w ++ z))) ++ ts ≡ u ++ (v ++ x ∷ o ∷ (w ++ (z ++ ts)))
 function_parts u v x o w z ts =
     append_assoc u (v ++ x ∷ o ∷ (w ++ z)) ts ∙ ap (λ k. u ++ k) (append_assoc v (x ∷ o ∷ (w ++ z)) ts ∙ ap (λ k. v ++ x ∷ o ∷ k) (append_assoc w z ts))
 
@@ -177,13 +181,15 @@ front_fits : (u v : List Token) (x : Token) (w : List Token) (n : ℕ) → lengt
 front_fits u v x w n short = omega (arith, length-append u (v ++ x ∷ w), length-append v (x ∷ w))
 
 -- what comes behind a variable's name is no bracket
-variable_no : (v : VariableDerivation) (e : Token) (ts : List Token) → IsSizeAndInitialiser v → sort e ≡ s.Semicolon → first_sort (spelled_variable v ++ e ∷ ts) ≢ s.LeftParen
+variable_no : (v : VariableDerivation) (e : Token) (ts : List Token) → IsSizeAndInitialiser v → sort e ≡ s.Semicolon →
+    first_sort (spelled_variable v ++ e ∷ ts) ≢ s.LeftParen
 variable_no dc.scalar e ts is is_e = no_other is_e (λ p. cc)
 variable_no (dc.scalar_set q x) e ts is is_e = no_other is.0 (λ p. cc)
 variable_no (dc.array o n c) e ts is is_e = no_other is.0 (λ p. cc)
 variable_no (dc.array_set o n c q b x xs z) e ts is is_e = no_other is.0.0 (λ p. cc)
 
-pub reads_declaration : ((m : ℕ) → ReadsExpressions m (expression m)) → (n : ℕ) (c : DeclarationDerivation) (at : ℕ) (ts : List Token) → IsDeclaration c
+pub reads_declaration : ((m : ℕ) → ReadsExpressions m (expression m)) →
+    (n : ℕ) (c : DeclarationDerivation) (at : ℕ) (ts : List Token) → IsDeclaration c
     → length (spelled_declaration c ++ ts) < n
     → rd.declaration (expression n) (r.statement n) n (spot at (spelled_declaration c ++ ts))
     ≡ Ok (tree_of_declaration at c, spot (at + length (spelled_declaration c)) ts)
@@ -255,12 +261,14 @@ reads_declaration reads n (variable g y x v e) at ts (is_y, is_x, is_v, may, is_
 
 -- ---- units
 
-front_no_end : (g : Option Token) (c : ResultDerivation) (ts : List Token) → IsStorage g → IsResult c → first_sort (spelled_storage g ++ (spelled_result c ++ ts)) ≢ s.End
+front_no_end : (g : Option Token) (c : ResultDerivation) (ts : List Token) → IsStorage g → IsResult c →
+    first_sort (spelled_storage g ++ (spelled_result c ++ ts)) ≢ s.End
 front_no_end None c ts is_g is = result_no c ts s.End is no_type_end (λ p. cc)
 front_no_end (Some t) c ts (inl is_g) is = no_other is_g (λ p. cc)
 front_no_end (Some t) c ts (inr is_g) is = no_other is_g (λ p. cc)
 
-declaration_no_end : (c : DeclarationDerivation) (ts : List Token) → IsDeclaration c → first_sort (spelled_declaration c ++ ts) ≢ s.End
+declaration_no_end : (c : DeclarationDerivation) (ts : List Token) → IsDeclaration c →
+    first_sort (spelled_declaration c ++ ts) ≢ s.End
 declaration_no_end (prototype g y x o ps c e) ts is = subst (λ v. first_sort v ≢ s.End)
     (sym (function_parts (spelled_storage g) (spelled_result y) x o (spelled_parameters ps) (c ∷ e ∷ []) ts)) (front_no_end g y _ is.0 is.1)
 declaration_no_end (function g y x o ps c b body e) ts is = subst (λ v. first_sort v ≢ s.End)
@@ -276,7 +284,8 @@ next_declaration n turns found = do
 unit_fits : (u v : List Token) (n : ℕ) → 0 < length u → length (u ++ v) < suc n → length v < n
 unit_fits u v n some short = omega (arith, length-append u v)
 
-reads_declarations : ((m : ℕ) → ReadsExpressions m (expression m)) → (n turns : ℕ) (cs : UnitDerivation) (found : List Decl) (at : ℕ) → IsUnit cs
+reads_declarations : ((m : ℕ) → ReadsExpressions m (expression m)) →
+    (n turns : ℕ) (cs : UnitDerivation) (found : List Decl) (at : ℕ) → IsUnit cs
     → length (spelled_unit cs) < n → length (spelled_unit cs) < turns
     → rd.declarations (rd.declaration (expression n) (r.statement n) n) turns found (spot at (spelled_unit cs))
     ≡ Ok (found ++ trees_of_declarations at cs, spot (at + length (spelled_unit cs)) [])
@@ -294,7 +303,8 @@ reads_declarations reads n (suc turns) (c ∷ cs) found at is short1 short2 =
     (append_assoc found (tree_of_declaration at c ∷ []) (trees_of_declarations (at + length (spelled_declaration c)) cs)))
 
 -- a whole unit is read, to the end of its tokens
-pub reads_unit : ((m : ℕ) → ReadsExpressions m (expression m)) → (n : ℕ) (c : UnitDerivation) → IsUnit c → length (spelled_unit c) < n
+pub reads_unit : ((m : ℕ) → ReadsExpressions m (expression m)) → (n : ℕ) (c : UnitDerivation) → IsUnit c →
+    length (spelled_unit c) < n
     → rd.unit n (spot 0 (spelled_unit c)) ≡ Ok (trees_of_declarations 0 c, spot (length (spelled_unit c)) [])
 unfolding rd.unit rd.all_declarations
 reads_unit reads n c is short =

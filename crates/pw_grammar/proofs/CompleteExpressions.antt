@@ -24,20 +24,23 @@ Chains p n c = (k at : ℕ) (r : List Token) → k ≤ 9 → IsAt (suc k + 2) c 
     → length (spelled c) + length r < suc n → Chained p (suc n) k c at r
 
 -- an expression of a level is read at that level
-reads_at : (p : Parser Expr) (n : ℕ) → Knows p n → (c : ExpressionDerivation) → Chains p n c → (k at : ℕ) (r : List Token) → k ≤ 10 → IsAt (k + 2) c
+reads_at : (p : Parser Expr) (n : ℕ) → Knows p n → (c : ExpressionDerivation) → Chains p n c → (k at : ℕ) (r : List Token) →
+    k ≤ 10 → IsAt (k + 2) c
     → Stops (k + 2) (first_sort r) → length (spelled c) + length r < suc n → IsRead (read.level p (suc n) k) c at r
 reads_at p n knows c chains zero at r low is stops short = low_reads p n knows 0 c at r is stops short
 reads_at p n knows c chains (suc k) at r low is stops short =
     chained_reads p (suc n) k c at r
     (chains k at r (omega arith) is (stops_less (k + 2) (suc k + 2) (first_sort r) (omega arith) stops) short) stops
 
-low_chains : (p : Parser Expr) (n : ℕ) → Knows p n → (c : ExpressionDerivation) (k at : ℕ) (r : List Token) → IsAt 2 c → Stops (k + 2) (first_sort r)
+low_chains : (p : Parser Expr) (n : ℕ) → Knows p n → (c : ExpressionDerivation) (k at : ℕ) (r : List Token) → IsAt 2 c →
+    Stops (k + 2) (first_sort r)
     → length (spelled c) + length r < suc n → Chained p (suc n) k c at r
 low_chains p n knows c k at r is stops short =
     lifted p (suc n) k c at r (low_reads p n knows k c at r is stops short) (omega arith)
 
 -- a binary expression at its operator's own level
-own_level : (p : Parser Expr) (n : ℕ) → Knows p n → (a : ExpressionDerivation) (t : Token) (b : ExpressionDerivation) → Chains p n a → Chains p n b → (k at : ℕ) (r : List Token)
+own_level : (p : Parser Expr) (n : ℕ) → Knows p n → (a : ExpressionDerivation) (t : Token) (b : ExpressionDerivation) →
+    Chains p n a → Chains p n b → (k at : ℕ) (r : List Token)
     → k ≤ 9 → IsAt (suc k + 2) a → IsOperator (suc k + 2) (sort t) → IsAt (k + 2) b → Stops (k + 2) (first_sort r)
     → length (spelled a ++ t ∷ spelled b) + length r < suc n → Chained p (suc n) k (binary a t b) at r
 own_level p n knows a t b left right k at r low is_left is is_right stops short =
@@ -50,7 +53,8 @@ own_level p n knows a t b left right k at r low is_left is is_right stops short 
     front.turns front.enough front.comes
 
 -- and at each looser one
-higher_level : (p : Parser Expr) (n : ℕ) (c : ExpressionDerivation) (i k at : ℕ) (r : List Token) → Stops (k + 2) (first_sort r) → length r < suc n
+higher_level : (p : Parser Expr) (n : ℕ) (c : ExpressionDerivation) (i k at : ℕ) (r : List Token) →
+    Stops (k + 2) (first_sort r) → length r < suc n
     → i ≤ k → (k ≤ i) ⊎ (i < k) → Chained p (suc n) i c at r → Chained p (suc n) k c at r
 higher_level p n c i k at r stops short up (inl same) h = subst (λ j. Chained p (suc n) j c at r) (let f : i ≡ k = omega arith in f) h
 higher_level p n c i k at r stops short up (inr less) h =
@@ -58,7 +62,8 @@ higher_level p n c i k at r stops short up (inr less) h =
     (reads_up p (suc n) (k - suc i) (suc i) k c at r (omega arith)
     (chained_reads p (suc n) i c at r h (stops_less (suc i + 2) (k + 2) (first_sort r) (omega arith) stops)) stops short) short
 
-binary_chains : (p : Parser Expr) (n : ℕ) → Knows p n → (a : ExpressionDerivation) (t : Token) (b : ExpressionDerivation) → Chains p n a → Chains p n b → (k at : ℕ) (r : List Token)
+binary_chains : (p : Parser Expr) (n : ℕ) → Knows p n → (a : ExpressionDerivation) (t : Token) (b : ExpressionDerivation) →
+    Chains p n a → Chains p n b → (k at : ℕ) (r : List Token)
     → k ≤ 9 → Stops (k + 2) (first_sort r) → length (spelled a ++ t ∷ spelled b) + length r < suc n
     → (tighter i : ℕ) → tighter ≡ i + 2 → suc tighter ≤ suc k + 2 → IsAt (suc tighter) a → IsOperator (suc tighter) (sort t) → IsAt tighter b
     → Chained p (suc n) k (binary a t b) at r
@@ -89,13 +94,15 @@ level_chains p n knows (binary a t b) k at r low is stops short =
     is.0 (is.0 - 2) (omega (arith, h)) is.1 is.2 is.3 is.4
 level_chains p n knows (choice c q a m b) k at r low is stops short = absurd (let h : 13 ≤ suc k + 2 = is.0 in omega (arith, h))
 
-pub level_reads : (p : Parser Expr) (n : ℕ) → Knows p n → (c : ExpressionDerivation) (k at : ℕ) (r : List Token) → k ≤ 10 → IsAt (k + 2) c
+pub level_reads : (p : Parser Expr) (n : ℕ) → Knows p n → (c : ExpressionDerivation) (k at : ℕ) (r : List Token) → k ≤ 10 →
+    IsAt (k + 2) c
     → Stops (k + 2) (first_sort r) → length (spelled c) + length r < suc n → IsRead (read.level p (suc n) k) c at r
 level_reads p n knows c k at r low is stops short = reads_at p n knows c (level_chains p n knows c) k at r low is stops short
 
 -- ---- choices
 
-plain_reads : (p : Parser Expr) (n : ℕ) → Knows p n → (c : ExpressionDerivation) (at : ℕ) (r : List Token) → IsAt 12 c → EndsExpression (first_sort r)
+plain_reads : (p : Parser Expr) (n : ℕ) → Knows p n → (c : ExpressionDerivation) (at : ℕ) (r : List Token) → IsAt 12 c →
+    EndsExpression (first_sort r)
     → length (spelled c) + length r < suc n → IsRead (read.choice p (suc n)) c at r
 unfolding read.choice
 plain_reads p n knows c at r is ends short =
@@ -103,7 +110,8 @@ plain_reads p n knows c at r is ends short =
     (level_reads p n knows c 10 at r (omega arith) is (ends_stops 12 (first_sort r) ends) short)
     (rw (sees_other s.Question (record { at = at + length (spelled c); rest = r }) (ends_no_question (first_sort r) ends)) refl)
 
-branches_read : (p : Parser Expr) (n : ℕ) → Knows p n → (first : ℕ) (test : Expr) (q : Token) (a : ExpressionDerivation) (m : Token) (b : ExpressionDerivation) (at last : ℕ) (r : List Token)
+branches_read : (p : Parser Expr) (n : ℕ) → Knows p n →
+    (first : ℕ) (test : Expr) (q : Token) (a : ExpressionDerivation) (m : Token) (b : ExpressionDerivation) (at last : ℕ) (r : List Token)
     → IsAt 13 a → sort m ≡ s.Colon → IsAt 13 b → EndsExpression (first_sort r)
     → last ≡ suc (suc at + length (spelled a)) + length (spelled b) → suc (length (spelled a) + length (spelled b)) + length r < n
     → read.branches p first test (record { at = at; rest = q ∷ (spelled a ++ m ∷ (spelled b ++ r)) })
@@ -127,7 +135,8 @@ branches_read p n knows first test q a m b at last r is_a colon is_b ends total 
     (knows b (suc (suc at + length (spelled a))) r is_b ends (omega arith))
     (finishes first q.line _ _ _ last r refl (sym total)))))
 
-choice_reads : (p : Parser Expr) (n : ℕ) → Knows p n → (c : ExpressionDerivation) (at : ℕ) (r : List Token) → IsAt 13 c → EndsExpression (first_sort r)
+choice_reads : (p : Parser Expr) (n : ℕ) → Knows p n → (c : ExpressionDerivation) (at : ℕ) (r : List Token) → IsAt 13 c →
+    EndsExpression (first_sort r)
     → length (spelled c) + length r < suc n → IsRead (read.choice p (suc n)) c at r
 unfolding read.choice IsAt spelled expression_tree
 choice_reads p n knows (identifier t) at r is ends short = plain_reads p n knows (identifier t) at r is ends short
@@ -165,7 +174,8 @@ expression_knows zero c at r is ends short = absurd (omega arith)
 expression_knows (suc n) c at r is ends short = choice_reads (read.expression n) n (expression_knows n) c at r is ends short
 
 -- each expression is read, whatever it is that follows and does not go on with it, by turns above the number of tokens
-pub reads_expression : (n : ℕ) (c : ExpressionDerivation) (at : ℕ) (r : List Token) → IsAt 13 c → EndsExpression (first_sort r) → length (spelled c ++ r) < n
+pub reads_expression : (n : ℕ) (c : ExpressionDerivation) (at : ℕ) (r : List Token) → IsAt 13 c →
+    EndsExpression (first_sort r) → length (spelled c ++ r) < n
     → read.expression n (record { at = at; rest = spelled c ++ r }) ≡ Ok (expression_tree at c, record { at = at + length (spelled c); rest = r })
 reads_expression n c at r is ends short =
     expression_knows n c at r is ends (let count : length (spelled c ++ r) ≡ length (spelled c) + length r = length-append (spelled c) r in omega (arith, count))

@@ -4,11 +4,11 @@ use Rattle.std.proofs.lemmas.List.{append_assoc, append-nil, length-append}
 use Rattle.pw_grammar.specs.declared.sort.Sort.{Sort}
 use Rattle.pw_grammar.specs.declared.sort.Sort.TheVariants as s
 use Rattle.pw_grammar.specs.Terminals.{sort, first_sort}
-use Rattle.pw_grammar.specs.Expressions.{value_in, IsConstant}
+use Rattle.pw_grammar.specs.Expressions.{value_in, IsConstantSymbol}
 use Rattle.pw_grammar.specs.Statements.{first_line}
 use Rattle.pw_grammar.specs.Declarations as dc
 use Rattle.pw_grammar.specs.Declarations.{ElementDerivation, spelled_element, IsElement, kind_of_element, element_of, MoreElements, spelled_more_elements, AreMoreElements, more_elements_of, VariableDerivation, spelled_variable, IsExtent, IsSizeAndInitialiser, HasNoValue, MayHave, count_in, extent, elements_of, linkage_of, linkage_by}
-use Rattle.pw_grammar.specs.Reading.Steps.{Position, Parser, and_then, ◌>>=◌, pure, refuse, next_sort, sees, take, skip, either}
+use Rattle.pw_grammar.specs.Reading.Steps.{Position, Parser, read_then, ◌>>=◌, pure, refuse, next_sort, sees, take, skip, either}
 use Rattle.pw_grammar.specs.Reading.Declarations as rd
 use Rattle.pw_grammar.proofs.CompleteTokens.{spot, then_, counted, done, valued, step_skip, step_take, step_expect, step_name, sees_it, sees_other, either_this, either_other, behind, parted, fits}
 use Rattle.pw_grammar.proofs.CompleteStatements.{no_other}
@@ -21,18 +21,19 @@ use Rattle.pw_lex.specs.declared.token.Token.{Token}
 
 -- ---- elements
 
-sees_constant : (j : Position) → IsConstant (next_sort j) → (sees s.Number j || sees s.Character j) ≡ true
+sees_constant : (j : Position) → IsConstantSymbol (next_sort j) → (sees s.Number j || sees s.Character j) ≡ true
 sees_constant j (inl e) = ap (λ b. b || sees s.Character j) (sees_it s.Number j e)
 sees_constant j (inr e) = ap (λ b. b || sees s.Character j) (sees_other s.Number j (no_other e (λ p. cc))) ∙ sees_it s.Character j e
 
-step_constant : (at : ℕ) (t : Token) (ts : List Token) → IsConstant (sort t) → rd.constant_value (spot at (t ∷ ts)) ≡ Ok (value_in t.kind, spot (suc at) ts)
+step_constant : (at : ℕ) (t : Token) (ts : List Token) → IsConstantSymbol (sort t) →
+    rd.constant_value (spot at (t ∷ ts)) ≡ Ok (value_in t.kind, spot (suc at) ts)
 unfolding rd.constant_value
 step_constant at t ts is =
-    ap (λ b. if b then and_then (take (spot at (t ∷ ts))) (λ t. pure (value_in t.kind)) else refuse (spot at (t ∷ ts))) (sees_constant (spot at (t ∷ ts)) is)
+    ap (λ b. if b then read_then (take (spot at (t ∷ ts))) (λ t. pure (value_in t.kind)) else refuse (spot at (t ∷ ts))) (sees_constant (spot at (t ∷ ts)) is)
     ∙ then_ _ (step_take at t ts) refl
 
 -- a constant is no such sort
-constant_no : (x y : Sort) → IsConstant x → (s.Number ≡ y → ⊥) → (s.Character ≡ y → ⊥) → x ≢ y
+constant_no : (x y : Sort) → IsConstantSymbol x → (s.Number ≡ y → ⊥) → (s.Character ≡ y → ⊥) → x ≢ y
 constant_no x y (inl e) f g = no_other e f
 constant_no x y (inr e) f g = no_other e g
 
@@ -52,7 +53,8 @@ step_kind (dc.negative m t) at ts (is_m, is) =
     ∙ then_ _ (step_skip at m (t ∷ ts)) (then_ _ (step_constant (suc at) t ts is) (done _ _ ts (omega arith)))
 
 -- the node of an element, by its last token and its line
-element_is : (first line n : ℕ) (x : ElementDerivation) (r : List Token) → n ≡ first + length (spelled_element x) → line ≡ first_line (spelled_element x)
+element_is : (first line n : ℕ) (x : ElementDerivation) (r : List Token) → n ≡ first + length (spelled_element x) →
+    line ≡ first_line (spelled_element x)
     → rd.finish_element first line (kind_of_element x) (spot n r) ≡ Ok (element_of first x, spot (first + length (spelled_element x)) r)
 element_is first line n x r counts lines = cc
 
@@ -82,7 +84,8 @@ behind_comma turns found = do
   o ← skip
   either s.RightBrace (pure found) (next_element turns found)
 
-step_more_elements : (turns : ℕ) (xs : MoreElements) (found : List InitItem) (at : ℕ) (ts : List Token) → AreMoreElements xs → first_sort ts ≡ s.RightBrace
+step_more_elements : (turns : ℕ) (xs : MoreElements) (found : List InitItem) (at : ℕ) (ts : List Token) → AreMoreElements xs →
+    first_sort ts ≡ s.RightBrace
     → length (spelled_more_elements xs ++ ts) < turns
     → rd.more_initials turns found (spot at (spelled_more_elements xs ++ ts)) ≡ Ok (found ++ more_elements_of at xs, spot (at + length (spelled_more_elements xs)) ts)
 unfolding rd.more_initials spelled_more_elements AreMoreElements more_elements_of next_element behind_comma
@@ -115,10 +118,10 @@ step_more_elements (suc turns) (dc.more t x xs) found at ts is end short =
 -- ---- variables
 
 step_number : (at : ℕ) (t : Token) (ts : List Token) → sort t ≡ s.Number
-    → (if sees s.Number (spot at (t ∷ ts)) then and_then (take (spot at (t ∷ ts))) (λ t. pure (value_in t.kind)) else refuse (spot at (t ∷ ts)))
+    → (if sees s.Number (spot at (t ∷ ts)) then read_then (take (spot at (t ∷ ts))) (λ t. pure (value_in t.kind)) else refuse (spot at (t ∷ ts)))
     ≡ Ok (value_in t.kind, spot (suc at) ts)
 step_number at t ts is =
-    ap (λ b. if b then and_then (take (spot at (t ∷ ts))) (λ t. pure (value_in t.kind)) else refuse (spot at (t ∷ ts))) (sees_it s.Number (spot at (t ∷ ts)) is)
+    ap (λ b. if b then read_then (take (spot at (t ∷ ts))) (λ t. pure (value_in t.kind)) else refuse (spot at (t ∷ ts))) (sees_it s.Number (spot at (t ∷ ts)) is)
     ∙ then_ _ (step_take at t ts) refl
 
 step_size : (at : ℕ) (o n c : Token) (ts : List Token) → IsExtent o n c
@@ -132,7 +135,8 @@ no_size : (j : Position) → next_sort j ≢ s.LeftBracket → rd.maybe_size j �
 unfolding rd.maybe_size
 no_size j other = either_other s.LeftBracket rd.size (pure None) j other
 
-no_initials : (n : ℕ) (l : Linkage) (count : Option ℕ) (j : Position) → next_sort j ≢ s.Assign → rd.maybe_initials n l count j ≡ Ok (None, j)
+no_initials : (n : ℕ) (l : Linkage) (count : Option ℕ) (j : Position) → next_sort j ≢ s.Assign →
+    rd.maybe_initials n l count j ≡ Ok (None, j)
 unfolding rd.maybe_initials
 no_initials n l count j other = ap (λ b. if (b && not (rd.is_extern l)) then rd.initials_by n count j else pure None j) (sees_other s.Assign j other)
 
@@ -148,7 +152,8 @@ step_one : (n at : ℕ) (q : Token) (x : ElementDerivation) (ts : List Token) �
 unfolding rd.one_initial
 step_one n at q x ts is = then_ _ (step_skip at q _) (then_ _ (step_element x (suc at) ts is) refl)
 
-step_listed : (n count at : ℕ) (q b : Token) (x : ElementDerivation) (xs : MoreElements) (e : Token) (ts : List Token) → sort b ≡ s.LeftBrace → IsElement x → AreMoreElements xs
+step_listed : (n count at : ℕ) (q b : Token) (x : ElementDerivation) (xs : MoreElements) (e : Token) (ts : List Token) →
+    sort b ≡ s.LeftBrace → IsElement x → AreMoreElements xs
     → sort e ≡ s.RightBrace
     → length (spelled_element x ++ (spelled_more_elements xs ++ e ∷ ts)) < n
     → rd.initials_by n (Some count) (spot at (q ∷ b ∷ (spelled_element x ++ (spelled_more_elements xs ++ e ∷ ts))))
@@ -193,7 +198,8 @@ array_is ty count x xs a b m n e f = cc
 listed_parts : (u v : List Token) (z : Token) (ts : List Token) → (u ++ (v ++ z ∷ [])) ++ ts ≡ u ++ (v ++ z ∷ ts)
 listed_parts u v z ts = append_assoc u (v ++ z ∷ []) ts ∙ ap (λ w. u ++ w) (append_assoc v (z ∷ []) ts)
 
-pub step_variable : (n : ℕ) (l : Linkage) (ty : Ty) (v : VariableDerivation) (at : ℕ) (e : Token) (ts : List Token) → IsSizeAndInitialiser v → MayBe l v → sort e ≡ s.Semicolon
+pub step_variable : (n : ℕ) (l : Linkage) (ty : Ty) (v : VariableDerivation) (at : ℕ) (e : Token) (ts : List Token) →
+    IsSizeAndInitialiser v → MayBe l v → sort e ≡ s.Semicolon
     → length (spelled_variable v ++ e ∷ ts) < n
     → rd.variable n l ty (spot (suc at) (spelled_variable v ++ e ∷ ts))
     ≡ Ok ((at + extent v, d.Var ty (count_in v) (elements_of (suc at) v)), spot (suc (suc at + length (spelled_variable v))) ts)

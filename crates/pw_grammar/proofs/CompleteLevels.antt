@@ -3,8 +3,8 @@ use Rattle.std.proofs.Common.{◌≡◌, refl, sym, ◌∙◌, ap, ap₂, subst,
 use Rattle.std.proofs.lemmas.List.{append_assoc, append-nil, length-append}
 use Rattle.pw_grammar.specs.declared.sort.Sort.TheVariants as s
 use Rattle.pw_grammar.specs.Terminals.{sort, first_sort, prefix_of, binary_of, level_of}
-use Rattle.pw_grammar.specs.Expressions.{ExpressionDerivation, identifier, constant, bracketed, input, output, call, index, prefixed, binary, choice, spelled, IsAt, IsOperator, IsPrefixOperator, expression_tree, prefix_in, prefix_or, binary_in, binary_or}
-use Rattle.pw_grammar.specs.Reading.Steps.{Position, Parser, and_then, on_option, ◌>>=◌, pure, next_sort, finish}
+use Rattle.pw_grammar.specs.Expressions.{ExpressionDerivation, identifier, constant, bracketed, input, output, call, index, prefixed, binary, choice, spelled, IsAt, IsOperator, IsPrefixOperator, expression_tree, prefix_operator_in, prefix_or, binary_in, binary_or}
+use Rattle.pw_grammar.specs.Reading.Steps.{Position, Parser, read_then, on_option, ◌>>=◌, pure, next_sort, finish}
 use Rattle.pw_grammar.specs.Reading.Expressions as read
 use Rattle.pw_grammar.proofs.CompleteTokens.{then_, done, valued, step_skip, sees_other, parted}
 use Rattle.pw_grammar.proofs.CompleteEnds.{Stops, stops_less}
@@ -20,7 +20,7 @@ use Rattle.pw_lex.specs.declared.token.Token.{Token}
 
 -- the operators in front of a phrase, and what they stand in front of
 abbrev operators_of : ExpressionDerivation → List (Un × ℕ)
-operators_of (prefixed t a) = (prefix_in t, t.line) ∷ operators_of a
+operators_of (prefixed t a) = (prefix_operator_in t, t.line) ∷ operators_of a
 operators_of _ = []
 
 abbrev operand_of : ExpressionDerivation → ExpressionDerivation
@@ -50,33 +50,35 @@ wrapped_is : (c : ExpressionDerivation) (at last : ℕ) → last ≡ at + length
     → read.under_operators at last (operators_of c) (expression_tree (at + length (operators_of c)) (operand_of c)) ≡ expression_tree at c
 unfolding read.under_operators expression_tree spelled
 wrapped_is (prefixed t a) at last h =
-    ap₂ (λ l x. roll-Expr (record { first = at; last = l; line = t.line; kind = e.Unary (prefix_in t) x })) h
+    ap₂ (λ l x. roll-Expr (record { first = at; last = l; line = t.line; kind = e.Unary (prefix_operator_in t) x })) h
     (ap (λ m. read.under_operators (suc at) last (operators_of a) (expression_tree m (operand_of a))) (omega arith) ∙ wrapped_is a (suc at) last (h ∙ omega arith))
 wrapped_is c at last h = ap (λ m. expression_tree m c) (omega arith)
 
-no_operators : (turns : ℕ) (found : List (Un × ℕ)) (i : Position) → prefix_of (next_sort i) ≡ None → read.operators turns found i ≡ Ok (found, i)
+no_operators : (turns : ℕ) (found : List (Un × ℕ)) (i : Position) → prefix_of (next_sort i) ≡ None →
+    read.operators turns found i ≡ Ok (found, i)
 unfolding read.operators read.prefix_operator
 no_operators zero found i h = refl
-no_operators (suc turns) found i h = ap (λ o. and_then (read.prefix_by o i) (λ x. on_option x (pure found) (λ op. read.operators turns (found ++ op ∷ [])))) h
+no_operators (suc turns) found i h = ap (λ o. read_then (read.prefix_by o i) (λ x. on_option x (pure found) (λ op. read.operators turns (found ++ op ∷ [])))) h
 
-prefix_is : (t : Token) → IsPrefixOperator (sort t) → prefix_of (sort t) ≡ Some (prefix_in t)
+prefix_is : (t : Token) → IsPrefixOperator (sort t) → prefix_of (sort t) ≡ Some (prefix_operator_in t)
 prefix_is t o = o.1 ∙ ap Some (sym (ap prefix_or o.1))
 
 prefix_operator_reads : (t : Token) (at : ℕ) (ts : List Token) → IsPrefixOperator (sort t)
-    → read.prefix_operator (record { at = at; rest = t ∷ ts }) ≡ Ok (Some (prefix_in t, t.line), record { at = suc at; rest = ts })
+    → read.prefix_operator (record { at = at; rest = t ∷ ts }) ≡ Ok (Some (prefix_operator_in t, t.line), record { at = suc at; rest = ts })
 unfolding read.prefix_operator
 prefix_operator_reads t at ts o =
     ap (λ x. read.prefix_by x (record { at = at; rest = t ∷ ts })) (prefix_is t o) ∙ then_ _ (step_skip at t ts) refl
 
-operators_read : (c : ExpressionDerivation) (turns : ℕ) (found : List (Un × ℕ)) (at : ℕ) (r : List Token) → IsAt 2 c → length (operators_of c) ≤ turns
+operators_read : (c : ExpressionDerivation) (turns : ℕ) (found : List (Un × ℕ)) (at : ℕ) (r : List Token) → IsAt 2 c →
+    length (operators_of c) ≤ turns
     → read.operators turns found (record { at = at; rest = spelled c ++ r })
     ≡ Ok (found ++ operators_of c, record { at = at + length (operators_of c); rest = spelled (operand_of c) ++ r })
 unfolding read.operators IsAt spelled
 operators_read (prefixed t a) zero found at r is enough = absurd (omega arith)
 operators_read (prefixed t a) (suc turns) found at r is enough =
     then_ _ (prefix_operator_reads t at (spelled a ++ r) is.1)
-    (operators_read a turns (found ++ (prefix_in t, t.line) ∷ []) (suc at) r is.2 (omega arith)
-    ∙ valued _ (done _ _ _ (omega arith)) (append_assoc found ((prefix_in t, t.line) ∷ []) (operators_of a)))
+    (operators_read a turns (found ++ (prefix_operator_in t, t.line) ∷ []) (suc at) r is.2 (omega arith)
+    ∙ valued _ (done _ _ _ (omega arith)) (append_assoc found ((prefix_operator_in t, t.line) ∷ []) (operators_of a)))
 operators_read c turns found at r is enough =
     no_operators turns found (record { at = at; rest = spelled c ++ r }) (no_prefix c r (operand_at c is))
     ∙ valued _ (done _ _ _ (omega arith)) (sym (append-nil found))
@@ -88,7 +90,8 @@ suffixes_end p n zero first left i stops = refl
 suffixes_end p n (suc turns) first left i stops =
     rw (sees_other s.LeftParen i stops.paren) (rw (sees_other s.LeftBracket i stops.bracket) refl)
 
-pub prefix_reads : (p : Parser Expr) (n : ℕ) → Knows p n → (c : ExpressionDerivation) (at : ℕ) (r : List Token) → IsAt 2 c → Stops 1 (first_sort r)
+pub prefix_reads : (p : Parser Expr) (n : ℕ) → Knows p n → (c : ExpressionDerivation) (at : ℕ) (r : List Token) → IsAt 2 c →
+    Stops 1 (first_sort r)
     → length (spelled c) + length r < suc n → IsRead (read.prefix p (suc n)) c at r
 unfolding read.prefix read.wrap
 prefix_reads p n knows c at r is stops short =
@@ -121,7 +124,7 @@ chain_ends : (n : ℕ) (operand : Parser Expr) (turns first : ℕ) (left : Expr)
 unfolding read.chain read.binary_operator
 chain_ends n operand zero first left i stops = refl
 chain_ends n operand (suc turns) first left i stops =
-    ap (λ o. and_then (read.binary_by o i) (λ x. on_option x (pure left) (λ op. operand >>= (λ right. finish first op.1 (e.Binary op.0 left right)
+    ap (λ o. read_then (read.binary_by o i) (λ x. on_option x (pure left) (λ op. operand >>= (λ right. finish first op.1 (e.Binary op.0 left right)
     >>= (λ whole. read.chain n operand turns first whole))))) (none_at_level n (binary_of (next_sort i)) stops.operator)
 
 -- reading up to the phrase's end comes to the loop of the level behind it, with enough turns left
@@ -131,13 +134,15 @@ pub record Chained (p : Parser Expr) (n k : ℕ) (c : ExpressionDerivation) (at 
   pub comes : read.level p n (suc k) (record { at = at; rest = spelled c ++ r })
       ≡ read.chain (suc k + 2) (read.level p n k) turns at (expression_tree at c) (record { at = at + length (spelled c); rest = r })
 
-pub chained_reads : (p : Parser Expr) (n k : ℕ) (c : ExpressionDerivation) (at : ℕ) (r : List Token) → Chained p n k c at r → Stops (suc k + 2) (first_sort r)
+pub chained_reads : (p : Parser Expr) (n k : ℕ) (c : ExpressionDerivation) (at : ℕ) (r : List Token) → Chained p n k c at r →
+    Stops (suc k + 2) (first_sort r)
     → IsRead (read.level p n (suc k)) c at r
 chained_reads p n k c at r h stops =
     h.comes ∙ chain_ends (suc k + 2) (read.level p n k) h.turns at (expression_tree at c) (record { at = at + length (spelled c); rest = r }) stops
 
 -- a phrase of a level is one operand of the next
-pub lifted : (p : Parser Expr) (n k : ℕ) (c : ExpressionDerivation) (at : ℕ) (r : List Token) → IsRead (read.level p n k) c at r → length r < n
+pub lifted : (p : Parser Expr) (n k : ℕ) (c : ExpressionDerivation) (at : ℕ) (r : List Token) →
+    IsRead (read.level p n k) c at r → length r < n
     → Chained p n k c at r
 unfolding read.level
 lifted p n k c at r h short = record {
@@ -147,21 +152,25 @@ lifted p n k c at r h short = record {
 }
 
 -- a phrase of a level is read at each looser one
-pub reads_up : (p : Parser Expr) (n : ℕ) (d k m : ℕ) (c : ExpressionDerivation) (at : ℕ) (r : List Token) → m ≡ d + k → IsRead (read.level p n k) c at r
+pub reads_up : (p : Parser Expr) (n : ℕ) (d k m : ℕ) (c : ExpressionDerivation) (at : ℕ) (r : List Token) → m ≡ d + k →
+    IsRead (read.level p n k) c at r
     → Stops (m + 2) (first_sort r) → length r < n → IsRead (read.level p n m) c at r
 reads_up p n zero k m c at r same h stops short = subst (λ j. IsRead (read.level p n j) c at r) (let f : k ≡ m = omega (arith, same) in f) h
 reads_up p n (suc d) k m c at r same h stops short =
     reads_up p n d (suc k) m c at r (omega (arith, same))
     (chained_reads p n k c at r (lifted p n k c at r h short) (stops_less (suc k + 2) (m + 2) (first_sort r) (omega (arith, same)) stops)) stops short
 
-pub low_reads : (p : Parser Expr) (n : ℕ) → Knows p n → (k : ℕ) (c : ExpressionDerivation) (at : ℕ) (r : List Token) → IsAt 2 c → Stops (k + 2) (first_sort r)
+pub low_reads : (p : Parser Expr) (n : ℕ) → Knows p n → (k : ℕ) (c : ExpressionDerivation) (at : ℕ) (r : List Token) →
+    IsAt 2 c → Stops (k + 2) (first_sort r)
     → length (spelled c) + length r < suc n → IsRead (read.level p (suc n) k) c at r
 unfolding read.level
 low_reads p n knows k c at r is stops short =
     reads_up p (suc n) k 0 k c at r (omega arith)
     (prefix_reads p n knows c at r is (stops_less 1 (k + 2) (first_sort r) (omega arith) stops) short) stops (omega arith)
 
-pub binary_chained : (p : Parser Expr) (n k : ℕ) (a : ExpressionDerivation) (t : Token) (b : ExpressionDerivation) (at : ℕ) (r : List Token) → IsOperator (suc k + 2) (sort t)
+pub binary_chained :
+    (p : Parser Expr) (n k : ℕ) (a : ExpressionDerivation) (t : Token) (b : ExpressionDerivation) (at : ℕ) (r : List Token) →
+    IsOperator (suc k + 2) (sort t)
     → IsRead (read.level p n k) b (suc (at + length (spelled a))) r
     → (turns : ℕ) → length (t ∷ (spelled b ++ r)) < turns
     → read.level p n (suc k) (record { at = at; rest = spelled a ++ t ∷ (spelled b ++ r) })

@@ -23,7 +23,8 @@ use Rattle.pw_lex.specs.declared.token.Token.{Token}
 
 -- ---- what may be left out
 
-pub reads_maybe : (n : ℕ) (expr : Parser Expr) → ReadsExpressions n expr → (a : Option ExpressionDerivation) (at : ℕ) (ts : List Token) → IsMaybe a → first_sort ts ≡ s.Semicolon
+pub reads_maybe : (n : ℕ) (expr : Parser Expr) → ReadsExpressions n expr →
+    (a : Option ExpressionDerivation) (at : ℕ) (ts : List Token) → IsMaybe a → first_sort ts ≡ s.Semicolon
     → length (spelled_maybe a ++ ts) < n → r.maybe_before s.Semicolon expr (spot at (spelled_maybe a ++ ts))
     ≡ Ok (tree_of_maybe at a, spot (at + length (spelled_maybe a)) ts)
 unfolding r.maybe_before r.some
@@ -35,7 +36,8 @@ reads_maybe n expr reads (Some a) at ts is ends short =
 not_assign : (x : Sort) → x ≡ s.RightParen → x ≢ s.Assign
 not_assign x e = no_other e (λ p. cc)
 
-pub reads_step : (n : ℕ) (expr : Parser Expr) → ReadsExpressions n expr → (a : Option SimpleDerivation) (at : ℕ) (ts : List Token) → IsStep a → first_sort ts ≡ s.RightParen
+pub reads_step : (n : ℕ) (expr : Parser Expr) → ReadsExpressions n expr →
+    (a : Option SimpleDerivation) (at : ℕ) (ts : List Token) → IsStep a → first_sort ts ≡ s.RightParen
     → length (spelled_step a ++ ts) < n
     → r.maybe_before s.RightParen (r.simple_statement expr) (spot at (spelled_step a ++ ts)) ≡ Ok (tree_of_step at a, spot (at + length (spelled_step a)) ts)
 unfolding r.maybe_before r.some
@@ -60,7 +62,8 @@ starts_with expr i b other e =
     ap (λ b. if b then r.no_start i else (if r.begins_type (next_sort i) then r.some (r.local expr) i else r.simple_start expr i)) (sees_other s.Semicolon i other)
     ∙ ap (λ b. if b then r.some (r.local expr) i else r.simple_start expr i) e
 
-pub reads_start : (n : ℕ) (expr : Parser Expr) → ReadsExpressions n expr → (c : ForStartDerivation) (at : ℕ) (ts : List Token) → IsStart c → length (spelled_start c ++ ts) < n
+pub reads_start : (n : ℕ) (expr : Parser Expr) → ReadsExpressions n expr → (c : ForStartDerivation) (at : ℕ) (ts : List Token) →
+    IsStart c → length (spelled_start c ++ ts) < n
     → r.start expr (spot at (spelled_start c ++ ts)) ≡ Ok (tree_of_start at c, spot (at + length (spelled_start c)) ts)
 unfolding r.no_start r.some r.simple_start
 reads_start n expr reads (no_start e) at ts is short =
@@ -119,7 +122,8 @@ reads_for n expr stmt reads at t o start a e step c y ts is_o is_start is_a is_e
 
 -- ---- statements without statements in them
 
-pub reads_return : (n : ℕ) (expr : Parser Expr) → ReadsExpressions n expr → (at : ℕ) (t : Token) (a : Option ExpressionDerivation) (e : Token) (ts : List Token)
+pub reads_return : (n : ℕ) (expr : Parser Expr) → ReadsExpressions n expr →
+    (at : ℕ) (t : Token) (a : Option ExpressionDerivation) (e : Token) (ts : List Token)
     → IsMaybe a → sort e ≡ s.Semicolon → length (st.spelled_statement (st.leave t a e) ++ ts) < n
     → r.leave expr (spot at (st.spelled_statement (st.leave t a e) ++ ts))
     ≡ Ok (st.kind_of at (st.leave t a e), spot (at + length (st.spelled_statement (st.leave t a e))) ts)
@@ -138,11 +142,13 @@ pub reads_jump : (kind : StmtKind) (at : ℕ) (t e : Token) (ts : List Token) �
 unfolding r.jump
 reads_jump kind at t e ts is_e = then_ _ (step_skip at t (e ∷ ts)) (then_ _ (step_expect s.Semicolon (suc at) e ts is_e) (done _ _ ts (omega arith)))
 
-pub reads_empty : (at : ℕ) (e : Token) (ts : List Token) → r.empty (spot at (e ∷ ts)) ≡ Ok (k.Empty, spot (at + length (e ∷ [])) ts)
+pub reads_empty : (at : ℕ) (e : Token) (ts : List Token) →
+    r.empty (spot at (e ∷ ts)) ≡ Ok (k.Empty, spot (at + length (e ∷ [])) ts)
 unfolding r.empty
 reads_empty at e ts = then_ _ (step_skip at e ts) (done _ _ ts (omega arith))
 
-pub reads_evaluated : (n : ℕ) (expr : Parser Expr) → ReadsExpressions n expr → (at : ℕ) (a : SimpleDerivation) (e : Token) (ts : List Token)
+pub reads_evaluated : (n : ℕ) (expr : Parser Expr) → ReadsExpressions n expr →
+    (at : ℕ) (a : SimpleDerivation) (e : Token) (ts : List Token)
     → IsSimple a → sort e ≡ s.Semicolon → length (st.spelled_statement (st.simple a e) ++ ts) < n
     → r.evaluated expr (spot at (st.spelled_statement (st.simple a e) ++ ts))
     ≡ Ok (st.kind_of at (st.simple a e), spot (at + length (st.spelled_statement (st.simple a e))) ts)

@@ -33,16 +33,19 @@ no_type_void : r.begins_type s.Void ≡ false
 unfolding r.begins_type is_same
 no_type_void = refl
 
-pub step_given : {A : Type 0} (a : A) (at : ℕ) (t : Token) (ts : List Token) → rd.given a (spot at (t ∷ ts)) ≡ Ok (a, spot (suc at) ts)
+pub step_given : {A : Type 0} (a : A) (at : ℕ) (t : Token) (ts : List Token) →
+    rd.given a (spot at (t ∷ ts)) ≡ Ok (a, spot (suc at) ts)
 unfolding rd.given
 step_given a at t ts = then_ _ (step_skip at t ts) refl
 
 -- a result begins with no such sort
-pub result_no : (c : ResultDerivation) (ts : List Token) (x : Sort) → IsResult c → r.begins_type x ≡ false → (s.Void ≡ x → ⊥) → first_sort (spelled_result c ++ ts) ≢ x
+pub result_no : (c : ResultDerivation) (ts : List Token) (x : Sort) → IsResult c → r.begins_type x ≡ false → (s.Void ≡ x → ⊥) →
+    first_sort (spelled_result c ++ ts) ≢ x
 result_no (dc.nothing t) ts x is other void = no_other is void
 result_no (dc.value c) ts x is other void = told_apart r.begins_type (type_begins c ts is) other
 
-pub step_storage : (g : Option Token) (at : ℕ) (ts : List Token) → IsStorage g → first_sort ts ≢ s.Extern → first_sort ts ≢ s.Static
+pub step_storage : (g : Option Token) (at : ℕ) (ts : List Token) → IsStorage g → first_sort ts ≢ s.Extern →
+    first_sort ts ≢ s.Static
     → rd.storage (spot at (spelled_storage g ++ ts)) ≡ Ok (linkage_of g, spot (at + length (spelled_storage g)) ts)
 unfolding rd.storage
 step_storage None at ts is extern static =
@@ -87,12 +90,14 @@ step_parameter p at ts is other =
     (then_ _ (step_maybe_name p.name (at + length (spelled_type p.ty)) ts is.1 other)
     (parameter_is at _ p ts (omega (arith, length-append (spelled_type p.ty) (spelled_name p.name))))))
 
-parameter_begins : (p : ParameterDerivation) (ts : List Token) → IsParameter p → r.begins_type (first_sort (spelled_parameter p ++ ts)) ≡ true
+parameter_begins : (p : ParameterDerivation) (ts : List Token) → IsParameter p →
+    r.begins_type (first_sort (spelled_parameter p ++ ts)) ≡ true
 parameter_begins p ts is =
     subst (λ v. r.begins_type (first_sort v) ≡ true) (sym (append_assoc (spelled_type p.ty) (spelled_name p.name) ts)) (type_begins p.ty (spelled_name p.name ++ ts) is.0)
 
 -- behind further parameters stands no name
-more_no : (ps : MoreParameters) (ts : List Token) → AreMoreParameters ps → first_sort ts ≡ s.RightParen → first_sort (spelled_more_parameters ps ++ ts) ≢ s.Name
+more_no : (ps : MoreParameters) (ts : List Token) → AreMoreParameters ps → first_sort ts ≡ s.RightParen →
+    first_sort (spelled_more_parameters ps ++ ts) ≢ s.Name
 unfolding spelled_more_parameters AreMoreParameters
 more_no dc.end ts is end = no_other end (λ p. cc)
 more_no (dc.more t p ps) ts is end = no_other is.0 (λ p. cc)
@@ -104,7 +109,8 @@ next_parameter turns found = do
   p ← rd.parameter
   rd.more_parameters turns (found ++ p ∷ [])
 
-step_more_parameters : (turns : ℕ) (ps : MoreParameters) (found : List Param) (at : ℕ) (ts : List Token) → AreMoreParameters ps → first_sort ts ≡ s.RightParen
+step_more_parameters : (turns : ℕ) (ps : MoreParameters) (found : List Param) (at : ℕ) (ts : List Token) →
+    AreMoreParameters ps → first_sort ts ≡ s.RightParen
     → length (spelled_more_parameters ps ++ ts) < turns
     → rd.more_parameters turns found (spot at (spelled_more_parameters ps ++ ts))
     ≡ Ok (found ++ more_parameters_of at ps, spot (at + length (spelled_more_parameters ps)) ts)
@@ -130,7 +136,8 @@ step_more_parameters (suc turns) (dc.more t p ps) found at ts is end short =
     (omega (arith, length-append (spelled_parameter p) (spelled_more_parameters ps))))
     (append_assoc found (parameter_of (suc at) p ∷ []) (more_parameters_of (suc at + length (spelled_parameter p)) ps)))))
 
-pub step_parameters : (n : ℕ) (ps : ParametersDerivation) (at : ℕ) (ts : List Token) → AreParameters ps → first_sort ts ≡ s.RightParen → length (spelled_parameters ps ++ ts) < n
+pub step_parameters : (n : ℕ) (ps : ParametersDerivation) (at : ℕ) (ts : List Token) → AreParameters ps →
+    first_sort ts ≡ s.RightParen → length (spelled_parameters ps ++ ts) < n
     → rd.parameters n (spot at (spelled_parameters ps ++ ts)) ≡ Ok (parameters_of at ps, spot (at + length (spelled_parameters ps)) ts)
 unfolding rd.parameters rd.some_parameters
 step_parameters n (dc.none t) at ts is end short =

@@ -35,7 +35,8 @@ constant_reads : (t : Token) (at : ℕ) (r : List Token)
 unfolding read.constant expression_tree
 constant_reads t at r = then_ _ (step_take at t r) (finishes at t.line _ _ (suc at) (at + 1) r refl (omega arith))
 
-bracketed_reads : (p : Parser Expr) (n : ℕ) → Knows p n → (o : Token) (a : ExpressionDerivation) (c : Token) (at : ℕ) (r : List Token)
+bracketed_reads : (p : Parser Expr) (n : ℕ) → Knows p n →
+    (o : Token) (a : ExpressionDerivation) (c : Token) (at : ℕ) (r : List Token)
     → IsAt 13 a → sort c ≡ s.RightParen → suc (length (spelled a ++ c ∷ [])) + length r < suc n
     → IsRead (read.bracketed p) (bracketed o a c) at r
 unfolding read.bracketed spelled expression_tree
@@ -57,7 +58,8 @@ input_reads k o c at r opens closes =
     (then_ _ (step_expect s.RightParen _ c r closes)
     (finishes at k.line _ _ _ (at + 3) r refl (omega arith))))
 
-output_reads : (p : Parser Expr) (n : ℕ) → Knows p n → (k o : Token) (a : ExpressionDerivation) (c : Token) (at : ℕ) (r : List Token)
+output_reads : (p : Parser Expr) (n : ℕ) → Knows p n →
+    (k o : Token) (a : ExpressionDerivation) (c : Token) (at : ℕ) (r : List Token)
     → sort o ≡ s.LeftParen → IsAt 13 a → sort c ≡ s.RightParen → suc (suc (length (spelled a ++ c ∷ []))) + length r < suc n
     → IsRead (read.output p) (output k o a c) at r
 unfolding read.output spelled expression_tree
@@ -72,7 +74,8 @@ output_reads p n knows k o a c at r opens is closes short =
     (finishes at k.line _ _ _ _ r refl (omega (arith, count))))))
 
 -- the reader of primary expressions at a next token of this sort
-primary_is : (p : Parser Expr) (x : Sort) (i : Position) (o : ReadResult Expr) → next_sort i ≡ x → read.primary_by p x i ≡ o → read.primary p i ≡ o
+primary_is : (p : Parser Expr) (x : Sort) (i : Position) (o : ReadResult Expr) → next_sort i ≡ x → read.primary_by p x i ≡ o →
+    read.primary p i ≡ o
 unfolding read.primary
 primary_is p x i o h g = ap (λ y. read.primary_by p y i) h ∙ g
 
@@ -94,7 +97,8 @@ primary_reads p n knows (choice c q a m b) at r is short = absurd (let h : 13 �
 -- ---- arguments
 
 -- what may follow an argument: a comma, or what follows them all
-more_ends : (xs : More) (r : List Token) → AreMore xs → first_sort r ≡ s.RightParen → EndsExpression (first_sort (spelled_more xs ++ r))
+more_ends : (xs : More) (r : List Token) → AreMore xs → first_sort r ≡ s.RightParen →
+    EndsExpression (first_sort (spelled_more xs ++ r))
 unfolding spelled_more AreMore
 more_ends end r are closes = ends_with (first_sort r) s.RightParen closes refl
 more_ends (more t a xs) r are closes = ends_with (sort t) s.Comma are.0 refl
@@ -140,7 +144,8 @@ arguments_read p n turns knows (arguments a xs) at r are closes short enough =
 
 -- ---- calls and indices
 
-call_reads : (p : Parser Expr) (n turns : ℕ) → Knows p n → (first : ℕ) (left : Expr) (o : Token) (xs : Arguments) (c : Token) (at last : ℕ) (r : List Token)
+call_reads : (p : Parser Expr) (n turns : ℕ) → Knows p n →
+    (first : ℕ) (left : Expr) (o : Token) (xs : Arguments) (c : Token) (at last : ℕ) (r : List Token)
     → AreArguments xs → sort c ≡ s.RightParen → last ≡ suc (suc at + length (spelled_arguments xs))
     → suc (length (spelled_arguments xs) + length r) < n → suc (length (spelled_arguments xs) + length r) < turns
     → read.call p turns first left (record { at = at; rest = o ∷ (spelled_arguments xs ++ c ∷ r) })
@@ -153,7 +158,8 @@ call_reads p n turns knows first left o xs c at last r are closes ends short eno
     (then_ _ (step_expect s.RightParen _ c r closes)
     (finishes first o.line _ _ _ last r refl (sym ends))))
 
-index_reads : (p : Parser Expr) (n : ℕ) → Knows p n → (first : ℕ) (left : Expr) (o : Token) (i : ExpressionDerivation) (c : Token) (at last : ℕ) (r : List Token)
+index_reads : (p : Parser Expr) (n : ℕ) → Knows p n →
+    (first : ℕ) (left : Expr) (o : Token) (i : ExpressionDerivation) (c : Token) (at last : ℕ) (r : List Token)
     → IsAt 13 i → sort c ≡ s.RightBracket → last ≡ suc (suc at + length (spelled i)) → suc (length (spelled i) + length r) < n
     → read.index p first left (record { at = at; rest = o ∷ (spelled i ++ c ∷ r) })
     ≡ Ok (roll-Expr (record { first = first; last = last - 1; line = o.line; kind = e.Index left (expression_tree (suc at) i) }), record { at = last; rest = r })
@@ -183,7 +189,8 @@ primary_suffixed p n knows c at r is short = record {
   comes = then_ _ (primary_reads p n knows c at r is short) refl;
 }
 
-call_suffixed : (p : Parser Expr) (n : ℕ) → Knows p n → (f : ExpressionDerivation) (o : Token) (xs : Arguments) (c : Token) (at : ℕ) (r : List Token)
+call_suffixed : (p : Parser Expr) (n : ℕ) → Knows p n →
+    (f : ExpressionDerivation) (o : Token) (xs : Arguments) (c : Token) (at : ℕ) (r : List Token)
     → sort o ≡ s.LeftParen → AreArguments xs → sort c ≡ s.RightParen → length (spelled (call f o xs c)) + length r < suc n
     → (turns : ℕ) → length (o ∷ (spelled_arguments xs ++ c ∷ r)) < turns
     → read.postfix p (suc n) (record { at = at; rest = spelled f ++ o ∷ (spelled_arguments xs ++ c ∷ r) })
@@ -204,7 +211,8 @@ call_suffixed p n knows f o xs c at r opens are closes short (suc turns) enough 
           (omega (arith, count)) (omega (arith, count)) (omega (arith, count))) refl));
     }
 
-index_suffixed : (p : Parser Expr) (n : ℕ) → Knows p n → (a : ExpressionDerivation) (o : Token) (i : ExpressionDerivation) (c : Token) (at : ℕ) (r : List Token)
+index_suffixed : (p : Parser Expr) (n : ℕ) → Knows p n →
+    (a : ExpressionDerivation) (o : Token) (i : ExpressionDerivation) (c : Token) (at : ℕ) (r : List Token)
     → sort o ≡ s.LeftBracket → IsAt 13 i → sort c ≡ s.RightBracket → length (spelled (index a o i c)) + length r < suc n
     → (turns : ℕ) → length (o ∷ (spelled i ++ c ∷ r)) < turns
     → read.postfix p (suc n) (record { at = at; rest = spelled a ++ o ∷ (spelled i ++ c ∷ r) })

@@ -35,8 +35,8 @@ out-Index a b = ap out-ExprKind (sym (e.rolls-Index a b)) ∙ out-roll-ExprKind 
 word_is : (at : ℕ) (x : Token) → r.word_of at (expression_tree at (identifier x)) ≡ Some (name_in x.kind)
 unfolding expression_tree
 word_is at x =
-    ap (λ v. r.word_at at v.first (out-ExprKind v.kind)) (out-roll-Expr (record { first = at; last = at + 1 - 1; line = x.line; kind = e.Word (name_in x.kind) }))
-    ∙ (ap (λ v. r.word_at at at v) (out-Word (name_in x.kind)) ∙ ap (λ b. if b then Some (name_in x.kind) else None) (same_number at))
+    ap (λ v. r.unbracketed_word at v.first (out-ExprKind v.kind)) (out-roll-Expr (record { first = at; last = at + 1 - 1; line = x.line; kind = e.Word (name_in x.kind) }))
+    ∙ (ap (λ v. r.unbracketed_word at at v) (out-Word (name_in x.kind)) ∙ ap (λ b. if b then Some (name_in x.kind) else None) (same_number at))
 
 target_word : (at : ℕ) (x : Token) → r.target at (expression_tree at (identifier x)) ≡ Some (name_in x.kind, None)
 unfolding r.target expression_tree
@@ -65,15 +65,18 @@ target_element at x o i c = subst (λ n. r.target at (expression_tree at (index 
 
 -- ---- what is read
 
-reads_word : (n : ℕ) (expr : Parser Expr) → ReadsExpressions n expr → (at : ℕ) (x : Token) (ts : List Token) → sort x ≡ s.Name → EndsExpression (first_sort ts)
+reads_word : (n : ℕ) (expr : Parser Expr) → ReadsExpressions n expr → (at : ℕ) (x : Token) (ts : List Token) → sort x ≡ s.Name →
+    EndsExpression (first_sort ts)
     → length (x ∷ ts) < n → expr (spot at (x ∷ ts)) ≡ Ok (expression_tree at (identifier x), spot (suc at) ts)
 unfolding spelled IsAt
 reads_word n expr reads at x ts is_x ends short = counted (suc at) (reads.reads (identifier x) at ts is_x ends short) (omega arith)
 
-element_parts : (x o : Token) (v : List Token) (c : Token) (ts : List Token) → (x ∷ o ∷ (v ++ c ∷ [])) ++ ts ≡ x ∷ o ∷ (v ++ c ∷ ts)
+element_parts : (x o : Token) (v : List Token) (c : Token) (ts : List Token) →
+    (x ∷ o ∷ (v ++ c ∷ [])) ++ ts ≡ x ∷ o ∷ (v ++ c ∷ ts)
 element_parts x o v c ts = ap (λ w. x ∷ o ∷ w) (append_assoc v (c ∷ []) ts)
 
-reads_element : (n : ℕ) (expr : Parser Expr) → ReadsExpressions n expr → (at : ℕ) (x o : Token) (i : ExpressionDerivation) (c : Token) (ts : List Token)
+reads_element : (n : ℕ) (expr : Parser Expr) → ReadsExpressions n expr →
+    (at : ℕ) (x o : Token) (i : ExpressionDerivation) (c : Token) (ts : List Token)
     → sort x ≡ s.Name → sort o ≡ s.LeftBracket → IsAt 13 i → sort c ≡ s.RightBracket → EndsExpression (first_sort ts)
     → length (x ∷ o ∷ (spelled i ++ c ∷ ts)) < n
     → expr (spot at (x ∷ o ∷ (spelled i ++ c ∷ ts))) ≡ Ok (expression_tree at (index (identifier x) o i c), spot (suc (suc (suc at) + length (spelled i))) ts)
@@ -97,7 +100,8 @@ reads_assigned n expr reads to x i at q a other ts is is_q is_a ends short =
     ∙ (ap (λ t. r.assigned expr t (spot at (q ∷ (spelled a ++ ts)))) is
     ∙ then_ _ (step_skip at q (spelled a ++ ts)) (then_ _ (reads.reads a (suc at) ts is_a ends short) refl))
 
-pub reads_simple : (n : ℕ) (expr : Parser Expr) → ReadsExpressions n expr → (c : SimpleDerivation) (at : ℕ) (ts : List Token) → IsSimple c
+pub reads_simple : (n : ℕ) (expr : Parser Expr) → ReadsExpressions n expr → (c : SimpleDerivation) (at : ℕ) (ts : List Token) →
+    IsSimple c
     → EndsExpression (first_sort ts) → first_sort ts ≢ s.Assign → length (spelled_simple c ++ ts) < n
     → r.simple expr (spot at (spelled_simple c ++ ts)) ≡ Ok (kind_of_simple at c, spot (at + length (spelled_simple c)) ts)
 unfolding r.simple
@@ -117,7 +121,8 @@ reads_simple n expr reads (evaluate a) at ts is ends other short =
     then_ _ (reads.reads a at ts is ends short)
     (either_other s.Assign (r.assigned expr (r.target at (expression_tree at a))) (pure (k.Eval (expression_tree at a))) (spot (at + length (spelled a)) ts) other)
 
-pub reads_simple_statement : (n : ℕ) (expr : Parser Expr) → ReadsExpressions n expr → (c : SimpleDerivation) (at : ℕ) (ts : List Token) → IsSimple c
+pub reads_simple_statement : (n : ℕ) (expr : Parser Expr) → ReadsExpressions n expr →
+    (c : SimpleDerivation) (at : ℕ) (ts : List Token) → IsSimple c
     → EndsExpression (first_sort ts) → first_sort ts ≢ s.Assign → length (spelled_simple c ++ ts) < n
     → r.simple_statement expr (spot at (spelled_simple c ++ ts))
     ≡ Ok (statement_node at (spelled_simple c) (kind_of_simple at c), spot (at + length (spelled_simple c)) ts)

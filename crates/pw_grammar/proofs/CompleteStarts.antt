@@ -4,7 +4,7 @@ use Rattle.std.proofs.lemmas.List.{append_assoc}
 use Rattle.pw_grammar.specs.declared.sort.Sort.{Sort}
 use Rattle.pw_grammar.specs.declared.sort.Sort.TheVariants as s
 use Rattle.pw_grammar.specs.Terminals.{sort, first_sort, is_same, prefix_of}
-use Rattle.pw_grammar.specs.Expressions.{ExpressionDerivation, identifier, constant, bracketed, input, output, call, index, prefixed, binary, choice, spelled, IsAt, IsConstant}
+use Rattle.pw_grammar.specs.Expressions.{ExpressionDerivation, identifier, constant, bracketed, input, output, call, index, prefixed, binary, choice, spelled, IsAt, IsConstantSymbol}
 use Rattle.pw_grammar.specs.Statements.{type_of_keyword, SimpleDerivation, assign, assign_element, evaluate, spelled_simple, IsSimple}
 use Rattle.pw_grammar.specs.Reading.Steps.{Parser}
 use Rattle.pw_grammar.specs.Reading.Statements as r
@@ -40,16 +40,18 @@ prefix_starts _ op e = absurd (none e)
     none : None ≡ Some op → ⊥
     none p = cc
 
-constant_starts : (x : Sort) → IsConstant x → starts_expression x ≡ true
+constant_starts : (x : Sort) → IsConstantSymbol x → starts_expression x ≡ true
 constant_starts x (inl e) = ap starts_expression e
 constant_starts x (inr e) = ap starts_expression e
 
 -- so does a list in two parts, if its first part does before the second
-front_starts : (f : Sort → Bool) (u v ts : List Token) → f (first_sort (u ++ (v ++ ts))) ≡ true → f (first_sort ((u ++ v) ++ ts)) ≡ true
+front_starts : (f : Sort → Bool) (u v ts : List Token) → f (first_sort (u ++ (v ++ ts))) ≡ true →
+    f (first_sort ((u ++ v) ++ ts)) ≡ true
 front_starts f u v ts e = subst (λ w. f (first_sort w) ≡ true) (sym (append_assoc u v ts)) e
 
 -- whatever follows
-pub phrase_starts : (n : ℕ) (c : ExpressionDerivation) (ts : List Token) → IsAt n c → starts_expression (first_sort (spelled c ++ ts)) ≡ true
+pub phrase_starts : (n : ℕ) (c : ExpressionDerivation) (ts : List Token) → IsAt n c →
+    starts_expression (first_sort (spelled c ++ ts)) ≡ true
 unfolding spelled IsAt
 phrase_starts n (identifier t) ts e = ap starts_expression e
 phrase_starts n (constant t) ts e = constant_starts (sort t) e
@@ -62,7 +64,8 @@ phrase_starts n (prefixed t a) ts e = prefix_starts (sort t) e.1.0 e.1.1
 phrase_starts n (binary a t b) ts e = front_starts starts_expression (spelled a) _ ts (phrase_starts (suc e.0) a _ e.2)
 phrase_starts n (choice c q a m b) ts e = front_starts starts_expression (spelled c) _ ts (phrase_starts 12 c _ e.1)
 
-pub simple_starts : (c : SimpleDerivation) (ts : List Token) → IsSimple c → starts_expression (first_sort (spelled_simple c ++ ts)) ≡ true
+pub simple_starts : (c : SimpleDerivation) (ts : List Token) → IsSimple c →
+    starts_expression (first_sort (spelled_simple c ++ ts)) ≡ true
 simple_starts (assign x q a) ts e = ap starts_expression e.0
 simple_starts (assign_element x o i c q a) ts e = ap starts_expression e.0
 simple_starts (evaluate a) ts e = phrase_starts 13 a ts e
@@ -137,7 +140,8 @@ begins_no_type x e = neither (is_same x s.Unsigned) (type_of_keyword x) (sorts_o
     neither b o p q = ap (λ b. b || r.is_some o) p ∙ ap r.is_some q
 
 -- what begins as an expression is read as one
-pub form_of_expression : (expr : Parser Expr) (stmt : Parser Stmt) (n : ℕ) (x : Sort) → starts_expression x ≡ true → r.form_by expr stmt n x ≡ r.evaluated expr
+pub form_of_expression : (expr : Parser Expr) (stmt : Parser Stmt) (n : ℕ) (x : Sort) → starts_expression x ≡ true →
+    r.form_by expr stmt n x ≡ r.evaluated expr
 form_of_expression expr stmt n s.Name e = refl
 form_of_expression expr stmt n s.Number e = refl
 form_of_expression expr stmt n s.Character e = refl

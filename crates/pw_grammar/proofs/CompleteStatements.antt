@@ -20,7 +20,8 @@ no_other is other = λ e. other (sym is ∙ e)
 
 -- ---- `( e )`
 
-pub reads_test : (n : ℕ) (expr : Parser Expr) → ReadsExpressions n expr → (at : ℕ) (o : Token) (a : ExpressionDerivation) (c : Token) (ts : List Token)
+pub reads_test : (n : ℕ) (expr : Parser Expr) → ReadsExpressions n expr →
+    (at : ℕ) (o : Token) (a : ExpressionDerivation) (c : Token) (ts : List Token)
     → sort o ≡ s.LeftParen → IsAt 13 a → sort c ≡ s.RightParen → length (spelled a ++ c ∷ ts) < n
     → r.test expr (spot at (o ∷ (spelled a ++ c ∷ ts))) ≡ Ok (expression_tree (suc at) a, spot (suc (suc at + length (spelled a))) ts)
 unfolding r.test
@@ -35,7 +36,8 @@ reads_test n expr reads at o a c ts is_o is_a is_c short =
 abbrev pub ReadsPart : Parser Stmt → st.StatementDerivation → ℕ → List Token → Type 0
 ReadsPart stmt y at ts = stmt (spot at (st.spelled_statement y ++ ts)) ≡ Ok (st.tree_of_statement at y, spot (at + length (st.spelled_statement y)) ts)
 
-tested_parts : (t o : Token) (v : List Token) (c : Token) (w ts : List Token) → (t ∷ o ∷ (v ++ c ∷ w)) ++ ts ≡ t ∷ o ∷ (v ++ c ∷ (w ++ ts))
+tested_parts : (t o : Token) (v : List Token) (c : Token) (w ts : List Token) →
+    (t ∷ o ∷ (v ++ c ∷ w)) ++ ts ≡ t ∷ o ∷ (v ++ c ∷ (w ++ ts))
 tested_parts t o v c w ts = ap (λ u. t ∷ o ∷ u) (append_assoc v (c ∷ w) ts)
 
 pub reads_while : (n : ℕ) (expr : Parser Expr) (stmt : Parser Stmt) → ReadsExpressions n expr

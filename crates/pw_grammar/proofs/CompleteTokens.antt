@@ -6,7 +6,7 @@ use Rattle.pw_grammar.specs.declared.sort.Sort.TheVariants as s
 use Rattle.pw_grammar.specs.Terminals.{sort, first_sort}
 use Rattle.pw_grammar.specs.Expressions.{ExpressionDerivation, spelled, IsAt, expression_tree, name_in}
 use Rattle.pw_grammar.specs.Statements.{first_line, statement_node}
-use Rattle.pw_grammar.specs.Reading.Steps.{Position, ReadResult, Parser, and_then, finish, pure, refuse, next_sort, sees, take, take_from, skip, expect, name, either, finish_statement}
+use Rattle.pw_grammar.specs.Reading.Steps.{Position, ReadResult, Parser, read_then, finish, pure, refuse, next_sort, sees, take, take_from, skip, expect, name, either, finish_statement}
 use Rattle.pw_grammar.proofs.Branches.{sorts_same, sorts_other}
 use Rattle.pw_grammar.proofs.CompleteEnds.{EndsExpression}
 use Rattle.pw_tree.specs.declared.expr.Expr.{Expr, roll-Expr}
@@ -19,11 +19,13 @@ abbrev pub spot : ℕ → List Token → Position
 spot at ts = record { at = at; rest = ts }
 
 -- one reader after another
-pub then_ : {A B : Type 0} {x : ReadResult A} {y : ReadResult B} {p : A × Position} (f : A → Parser B) → x ≡ Ok p → f p.0 p.1 ≡ y → and_then x f ≡ y
-then_ f first second = ap (λ o. and_then o f) first ∙ second
+pub then_ : {A B : Type 0} {x : ReadResult A} {y : ReadResult B} {p : A × Position} (f : A → Parser B) → x ≡ Ok p →
+    f p.0 p.1 ≡ y → read_then x f ≡ y
+then_ f first second = ap (λ o. read_then o f) first ∙ second
 
 -- the same outcome, by another count of the tokens
-pub counted : {A : Type 0} {x : ReadResult A} {a : A} {n : ℕ} {ts : List Token} (m : ℕ) → x ≡ Ok (a, spot n ts) → n ≡ m → x ≡ Ok (a, spot m ts)
+pub counted : {A : Type 0} {x : ReadResult A} {a : A} {n : ℕ} {ts : List Token} (m : ℕ) → x ≡ Ok (a, spot n ts) → n ≡ m →
+    x ≡ Ok (a, spot m ts)
 counted {x = x} {a = a} {ts = ts} m first same = subst (λ k. x ≡ Ok (a, spot k ts)) same first
 
 -- a value where its tokens end, by another count of them
@@ -50,15 +52,17 @@ pub sees_other : (x : Sort) (i : Position) → next_sort i ≢ x → sees x i �
 unfolding sees
 sees_other x i e = sorts_other (next_sort i) x e
 
-pub step_expect : (x : Sort) (at : ℕ) (t : Token) (ts : List Token) → sort t ≡ x → expect x (spot at (t ∷ ts)) ≡ Ok (t.line, spot (suc at) ts)
+pub step_expect : (x : Sort) (at : ℕ) (t : Token) (ts : List Token) → sort t ≡ x →
+    expect x (spot at (t ∷ ts)) ≡ Ok (t.line, spot (suc at) ts)
 unfolding expect
 step_expect x at t ts e =
     ap (λ b. if b then skip (spot at (t ∷ ts)) else refuse (spot at (t ∷ ts))) (sees_it x (spot at (t ∷ ts)) e) ∙ step_skip at t ts
 
-pub step_name : (at : ℕ) (t : Token) (ts : List Token) → sort t ≡ s.Name → name (spot at (t ∷ ts)) ≡ Ok (name_in t.kind, spot (suc at) ts)
+pub step_name : (at : ℕ) (t : Token) (ts : List Token) → sort t ≡ s.Name →
+    name (spot at (t ∷ ts)) ≡ Ok (name_in t.kind, spot (suc at) ts)
 unfolding name
 step_name at t ts e =
-    ap (λ b. if b then and_then (take (spot at (t ∷ ts))) (λ t. pure (name_in t.kind)) else refuse (spot at (t ∷ ts))) (sees_it s.Name (spot at (t ∷ ts)) e)
+    ap (λ b. if b then read_then (take (spot at (t ∷ ts))) (λ t. pure (name_in t.kind)) else refuse (spot at (t ∷ ts))) (sees_it s.Name (spot at (t ∷ ts)) e)
     ∙ then_ _ (step_take at t ts) refl
 
 pub either_this : {A : Type 0} (x : Sort) (p q : Parser A) (i : Position) → next_sort i ≡ x → either x p q i ≡ p i
@@ -74,7 +78,8 @@ pub behind : (u v : List Token) (n : ℕ) → length (u ++ v) < n → length v <
 behind u v n short = omega (arith, length-append u v)
 
 -- a place before the same tokens, in other parts
-pub parted : {A : Type 0} {u v : List Token} {x : ReadResult A} (p : Parser A) (at : ℕ) → u ≡ v → p (spot at v) ≡ x → p (spot at u) ≡ x
+pub parted : {A : Type 0} {u v : List Token} {x : ReadResult A} (p : Parser A) (at : ℕ) → u ≡ v → p (spot at v) ≡ x →
+    p (spot at u) ≡ x
 parted p at same reads = ap (λ ts. p (spot at ts)) same ∙ reads
 
 -- a sort that a test tells from another
@@ -93,7 +98,8 @@ pub fits : (u v : List Token) (n : ℕ) → u ≡ v → length u < n → length 
 fits u v n same short = subst (λ ts. length ts < n) same short
 
 -- the node of a statement of these tokens, by its last token and its line
-pub node_is : (first line n : ℕ) (kind kind' : StmtKind) (tokens r : List Token) → kind ≡ kind' → n ≡ first + length tokens → line ≡ first_line tokens
+pub node_is : (first line n : ℕ) (kind kind' : StmtKind) (tokens r : List Token) → kind ≡ kind' → n ≡ first + length tokens →
+    line ≡ first_line tokens
     → finish_statement first line kind (spot n r) ≡ Ok (statement_node first tokens kind', spot (first + length tokens) r)
 node_is first line n kind kind' tokens r same counts lines = cc
 
@@ -108,5 +114,6 @@ finishes first line kind other m n r e f =
 
 -- a reader of expressions, with fewer than n tokens left
 pub record ReadsExpressions (n : ℕ) (expr : Parser Expr) : Type 0 where
-  pub reads : (c : ExpressionDerivation) (at : ℕ) (r : List Token) → IsAt 13 c → EndsExpression (first_sort r) → length (spelled c ++ r) < n
+  pub reads : (c : ExpressionDerivation) (at : ℕ) (r : List Token) → IsAt 13 c → EndsExpression (first_sort r) →
+      length (spelled c ++ r) < n
       → expr (spot at (spelled c ++ r)) ≡ Ok (expression_tree at c, spot (at + length (spelled c)) r)

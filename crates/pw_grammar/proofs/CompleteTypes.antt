@@ -27,7 +27,8 @@ one_word x y e = λ u. none (sym (ap type_of_keyword u) ∙ e)
     none : None ≡ Some y → ⊥
     none p = cc
 
-by_word : (o : Option Ty) (y : Ty) (at : ℕ) (t : Token) (ts : List Token) → o ≡ Some y → r.type_by o (spot at (t ∷ ts)) ≡ Ok (type_or o, spot (suc at) ts)
+by_word : (o : Option Ty) (y : Ty) (at : ℕ) (t : Token) (ts : List Token) → o ≡ Some y →
+    r.type_by o (spot at (t ∷ ts)) ≡ Ok (type_or o, spot (suc at) ts)
 by_word None y at t ts e = absurd (none e)
   where
     none : None ≡ Some y → ⊥
@@ -55,7 +56,8 @@ type_begins (word t) ts (y, e) = begins_or (is_same (sort t) s.Unsigned) (type_o
     begins_or false o e = ap r.is_some e
 type_begins (unsigned u l) ts (e, f) = ap (λ b. b || r.is_some (type_of_keyword (sort u))) (sorts_same (sort u) s.Unsigned e)
 
-pub local_begins : (l : LocalDerivation) (ts : List Token) → IsLocal l → r.begins_type (first_sort (spelled_local l ++ ts)) ≡ true
+pub local_begins : (l : LocalDerivation) (ts : List Token) → IsLocal l →
+    r.begins_type (first_sort (spelled_local l ++ ts)) ≡ true
 local_begins (plain c x e) ts is = subst (λ v. r.begins_type (first_sort v) ≡ true) (sym (append_assoc (spelled_type c) (x ∷ e ∷ []) ts))
     (type_begins c (x ∷ e ∷ ts) is.0)
 local_begins (set c x q a e) ts is =
@@ -70,7 +72,8 @@ no_type_is x y e f = λ same. not_both (r.begins_type x) e (ap r.begins_type sam
 
 -- ---- values
 
-pub step_value : (n : ℕ) (expr : Parser Expr) → ReadsExpressions n expr → (at : ℕ) (q : Token) (a : ExpressionDerivation) (ts : List Token)
+pub step_value : (n : ℕ) (expr : Parser Expr) → ReadsExpressions n expr →
+    (at : ℕ) (q : Token) (a : ExpressionDerivation) (ts : List Token)
     → sort q ≡ s.Assign → IsAt 13 a → EndsExpression (first_sort ts) → length (spelled a ++ ts) < n
     → r.maybe_value expr (spot at (q ∷ (spelled a ++ ts))) ≡ Ok (Some (expression_tree (suc at) a), spot (suc at + length (spelled a)) ts)
 unfolding r.maybe_value r.value
@@ -101,7 +104,8 @@ set_count at u x q v e = omega (arith, length-append u (x ∷ q ∷ (v ++ e ∷ 
 set_fits : (u : List Token) (x q : Token) (v : List Token) (n : ℕ) → length (u ++ x ∷ q ∷ v) < n → length v < n
 set_fits u x q v n short = omega (arith, length-append u (x ∷ q ∷ v))
 
-pub reads_local : (n : ℕ) (expr : Parser Expr) → ReadsExpressions n expr → (l : LocalDerivation) (at : ℕ) (ts : List Token) → IsLocal l → length (spelled_local l ++ ts) < n
+pub reads_local : (n : ℕ) (expr : Parser Expr) → ReadsExpressions n expr → (l : LocalDerivation) (at : ℕ) (ts : List Token) →
+    IsLocal l → length (spelled_local l ++ ts) < n
     → r.local expr (spot at (spelled_local l ++ ts)) ≡ Ok (statement_node at (spelled_local l) (kind_of_local at l), spot (at + length (spelled_local l)) ts)
 unfolding r.local
 reads_local n expr reads (plain c x e) at ts (is_c, is_x, is_e) short =

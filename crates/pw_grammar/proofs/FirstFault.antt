@@ -18,13 +18,18 @@ use Rattle.pw_tree.specs.declared.decl.Decl.{Decl}
 
 -- what is known of the limits
 pub record KnowsLimits : Type 0 where
-  pub late_found : (c : UnitDerivation) → IsUnit c → (at found : ℕ) → first_late (anew at) (spelled_unit c) ≡ Some found → (t : ℕ) × (found ≡ at + t) × StandsLate c t
-  pub late_first : (c : UnitDerivation) → IsUnit c → (at t : ℕ) → StandsLate c t → (found : ℕ) × (first_late (anew at) (spelled_unit c) ≡ Some found) × (found ≤ at + t)
+  pub late_found : (c : UnitDerivation) → IsUnit c → (at found : ℕ) → first_late (anew at) (spelled_unit c) ≡ Some found →
+      (t : ℕ) × (found ≡ at + t) × StandsLate c t
+  pub late_first : (c : UnitDerivation) → IsUnit c → (at t : ℕ) → StandsLate c t →
+      (found : ℕ) × (first_late (anew at) (spelled_unit c) ≡ Some found) × (found ≤ at + t)
   pub late_prefix : (w : Walk) (u v : List Token) (found : ℕ) → first_late w u ≡ Some found → first_late w (u ++ v) ≡ Some found
-  pub late_shared : (w : Walk) (u v : List Token) (found : ℕ) → first_late w (u ++ v) ≡ Some found → found < w.at + length u → first_late w u ≡ Some found
-  pub late_below : (w : Walk) (u : List Token) (found : ℕ) → first_late w u ≡ Some found → (w.at ≤ found) × (found < w.at + length u)
+  pub late_shared : (w : Walk) (u v : List Token) (found : ℕ) → first_late w (u ++ v) ≡ Some found → found < w.at + length u →
+      first_late w u ≡ Some found
+  pub late_below : (w : Walk) (u : List Token) (found : ℕ) → first_late w u ≡ Some found →
+      (w.at ≤ found) × (found < w.at + length u)
   pub nested_found : (ts : List Token) (t : ℕ) → first_nested 0 0 ts ≡ Some t → IsFault ts (TooNested t)
-  pub nested_first : (ts : List Token) (t : ℕ) → IsFault ts (TooNested t) → (found : ℕ) × (first_nested 0 0 ts ≡ Some found) × (found ≤ t)
+  pub nested_first : (ts : List Token) (t : ℕ) → IsFault ts (TooNested t) →
+      (found : ℕ) × (first_nested 0 0 ts ≡ Some found) × (found ≤ t)
 
 -- ---- prefixes
 
@@ -46,7 +51,8 @@ shorter a b ts e r = record {
 -- ---- limits
 
 -- the walk finds a late token no later than a fault says
-late_fault : (l : KnowsLimits) (ts : List Token) (t : ℕ) → t < length ts → GoesOnTooLong ts t → (found : ℕ) × (first_late (anew 0) ts ≡ Some found) × (found ≤ t)
+late_fault : (l : KnowsLimits) (ts : List Token) (t : ℕ) → t < length ts → GoesOnTooLong ts t →
+    (found : ℕ) × (first_late (anew 0) ts ≡ Some found) × (found ≤ t)
 late_fault l ts t low g =
     let f = l.late_first g.phrase g.is 0 t g.late in
     let near = (let z : f.0 ≤ t = omega (arith, f.2) in z) in
@@ -55,7 +61,8 @@ late_fault l ts t low g =
     (f.0, subst (λ z. first_late (anew 0) z ≡ Some f.0) (take-append-drop (suc t) ts) (l.late_prefix (anew 0) (take (suc t) ts) (drop (suc t) ts) f.0 shared), near)
 
 -- what the walk finds late is a fault, where a unit goes on with the tokens up to it
-late_is_fault : (l : KnowsLimits) (ts : List Token) (t : ℕ) → first_late (anew 0) ts ≡ Some t → Begins (take (suc t) ts) → IsFault ts (TooLong t)
+late_is_fault : (l : KnowsLimits) (ts : List Token) (t : ℕ) → first_late (anew 0) ts ≡ Some t → Begins (take (suc t) ts) →
+    IsFault ts (TooLong t)
 late_is_fault l ts t found b =
     let below = l.late_below (anew 0) ts t found in
     let low = (let z : t < length ts = omega (arith, below.1) in z) in
@@ -141,7 +148,8 @@ refused_later ts t m low b (inl (inside, stuck)) = by (near_or_far t m)
 refused_later ts t m low b (inr (end, whole)) = omega (arith, end, low)
 
 -- what is refused with no limit
-refused_first : (l : KnowsLimits) (ts : List Token) (fault : SyntaxError) → IsRefused ts fault → NoLimit (first_nested 0 0 ts) (first_late (anew 0) ts)
+refused_first : (l : KnowsLimits) (ts : List Token) (fault : SyntaxError) → IsRefused ts fault →
+    NoLimit (first_nested 0 0 ts) (first_late (anew 0) ts)
     → IsFirstFault ts fault
 refused_first l ts fault r none = subst (λ e. IsFirstFault ts e) (sym r.is) (record { is = r.stuck; first = others })
   where
@@ -151,7 +159,8 @@ refused_first l ts fault r none = subst (λ e. IsFirstFault ts e) (sym r.is) (re
     others (TooLong m) f = let n = late_fault l ts m f.0 f.1 in no_some (ComesBefore (At r.at) (TooLong m)) n.0 (sym none.late ∙ n.1)
     others NoMemory f = absurd f
 
-read_has_tree : (l : KnowsLimits) (ts : List Token) (ds : List Decl) → IsRead ts ds → NoLimit (first_nested 0 0 ts) (first_late (anew 0) ts) → HasTree ts (record { decls = ds; lines = lines_of ts })
+read_has_tree : (l : KnowsLimits) (ts : List Token) (ds : List Decl) → IsRead ts ds →
+    NoLimit (first_nested 0 0 ts) (first_late (anew 0) ts) → HasTree ts (record { decls = ds; lines = lines_of ts })
 read_has_tree l ts ds r none = record {
   derives = record { phrase = r.phrase; is = r.is; spells = r.spells; decls = r.trees; lines = refl };
   no_fault = faultless;
@@ -168,17 +177,22 @@ read_has_tree l ts ds r none = record {
     faultless (TooLong m) f = let n = late_fault l ts m f.0 f.1 in no_some ⊥ n.0 (sym none.late ∙ n.1)
     faultless NoMemory f = f
 
-tells_freely : (l : KnowsLimits) (ts : List Token) (o : ReadResult (List Decl)) → TellsOf ts o → NoLimit (first_nested 0 0 ts) (first_late (anew 0) ts)
+tells_freely : (l : KnowsLimits) (ts : List Token) (o : ReadResult (List Decl)) → TellsOf ts o →
+    NoLimit (first_nested 0 0 ts) (first_late (anew 0) ts)
     → Tells ts (value_of o)
 tells_freely l ts (Ok p) r none = read_has_tree l ts p.0 r none
 tells_freely l ts (Err e) r none = refused_first l ts e r none
 
 -- ---- with a limit
 
-limit_below : (l : KnowsLimits) (ts : List Token) (e : SyntaxError) (x : LimitIs (first_nested 0 0 ts) (first_late (anew 0) ts) e) → x.at < length ts
+limit_below :
+    (l : KnowsLimits) (ts : List Token) (e : SyntaxError) (x : LimitIs (first_nested 0 0 ts) (first_late (anew 0) ts) e) →
+    x.at < length ts
 limit_below l ts e x = by x.is
   where
-    by : ((e ≡ TooNested x.at) × (first_nested 0 0 ts ≡ Some x.at)) ⊎ ((e ≡ TooLong x.at) × (first_late (anew 0) ts ≡ Some x.at)) → x.at < length ts
+    by :
+        ((e ≡ TooNested x.at) × (first_nested 0 0 ts ≡ Some x.at)) ⊎ ((e ≡ TooLong x.at) × (first_late (anew 0) ts ≡ Some x.at)) →
+        x.at < length ts
     by (inl (z, f)) = (l.nested_found ts x.at f).0
     by (inr (z, f)) = let below = l.late_below (anew 0) ts x.at f in omega (arith, below.1)
 
@@ -198,7 +212,9 @@ limit_first : (l : KnowsLimits) (ts : List Token) (e : SyntaxError) (x : LimitIs
     → Begins (take (suc x.at) ts) → IsFirstFault ts e
 limit_first l ts e x b = record { is = fault x.is; first = others }
   where
-    fault : ((e ≡ TooNested x.at) × (first_nested 0 0 ts ≡ Some x.at)) ⊎ ((e ≡ TooLong x.at) × (first_late (anew 0) ts ≡ Some x.at)) → IsFault ts e
+    fault :
+        ((e ≡ TooNested x.at) × (first_nested 0 0 ts ≡ Some x.at)) ⊎ ((e ≡ TooLong x.at) × (first_late (anew 0) ts ≡ Some x.at)) →
+        IsFault ts e
     fault (inl (z, f)) = subst (λ d. IsFault ts d) (sym z) (l.nested_found ts x.at f)
     fault (inr (z, f)) = subst (λ d. IsFault ts d) (sym z) (late_is_fault l ts x.at f b)
 
@@ -268,7 +284,8 @@ tells_under l ts e x (Err fault) r = judged_err l ts e x fault r (nat_le (token_
 cut_short : (n m : ℕ) (ts : List Token) → m ≤ length ts → length ts < n → length (take m ts) < n
 cut_short n m ts low short = let e = length-take-le m ts low in omega (arith, e)
 
-parsed_by : (k : Knows) (l : KnowsLimits) (n : ℕ) (ts : List Token) → length ts < n → (limit : Option SyntaxError) → earlier (first_nested 0 0 ts) (first_late (anew 0) ts) ≡ limit
+parsed_by : (k : Knows) (l : KnowsLimits) (n : ℕ) (ts : List Token) → length ts < n → (limit : Option SyntaxError) →
+    earlier (first_nested 0 0 ts) (first_late (anew 0) ts) ≡ limit
     → Tells ts (judged limit (unit n (from_start (up_to limit ts))))
 parsed_by k l n ts short None is = tells_freely l ts (unit n (from_start ts)) (reading_tells k n ts short) (no_limit _ _ is)
 parsed_by k l n ts short (Some e) is =

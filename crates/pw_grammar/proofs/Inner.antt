@@ -4,7 +4,7 @@ use Rattle.std.proofs.lemmas.List.{append_assoc}
 use Rattle.pw_grammar.specs.declared.sort.Sort.{Sort}
 use Rattle.pw_grammar.specs.declared.sort.Sort.TheVariants as s
 use Rattle.pw_grammar.specs.Terminals.{sort, prefix_of, binary_of}
-use Rattle.pw_grammar.specs.Expressions.{ExpressionDerivation, identifier, constant, bracketed, input, output, call, index, prefixed, binary, choice, Arguments, nothing, arguments, More, end, more, spelled, spelled_arguments, spelled_more, IsAt, AreArguments, AreMore, IsConstant}
+use Rattle.pw_grammar.specs.Expressions.{ExpressionDerivation, identifier, constant, bracketed, input, output, call, index, prefixed, binary, choice, Arguments, nothing, arguments, More, end, more, spelled, spelled_arguments, spelled_more, IsAt, AreArguments, AreMore, IsConstantSymbol}
 use Rattle.pw_grammar.specs.Statements as y
 use Rattle.pw_grammar.specs.Faults.{opens_by, closes_by}
 use Rattle.pw_grammar.proofs.Late.{IsPlain, IsInner, inner_nil, inner_token, inner_cons, inner_both, inner_brackets}
@@ -21,10 +21,11 @@ plain_sort x z e p = subst (λ w. IsPlain w) (sym e) p
 pub opening_sort : (x z : Sort) → x ≡ z → opens_by z ≡ true → opens_by x ≡ true
 opening_sort x z e p = subst (λ w. opens_by w ≡ true) (sym e) p
 
-pub closing_sort : (x z : Sort) → x ≡ z → (opens_by z ≡ false) × (closes_by z ≡ true) → (opens_by x ≡ false) × (closes_by x ≡ true)
+pub closing_sort : (x z : Sort) → x ≡ z → (opens_by z ≡ false) × (closes_by z ≡ true) →
+    (opens_by x ≡ false) × (closes_by x ≡ true)
 closing_sort x z e p = subst (λ w. (opens_by w ≡ false) × (closes_by w ≡ true)) (sym e) p
 
-pub plain_constant : (x : Sort) → IsConstant x → IsPlain x
+pub plain_constant : (x : Sort) → IsConstantSymbol x → IsPlain x
 plain_constant x (inl e) = plain_sort x s.Number e (refl, refl)
 plain_constant x (inr e) = plain_sort x s.Character e (refl, refl)
 
@@ -66,23 +67,28 @@ inner_one t z e plain = inner_token t (plain_sort (sort t) z e plain)
 pub inner_then : (t : Token) (z : Sort) (u : List Token) → sort t ≡ z → IsPlain z → IsInner u → IsInner (t ∷ u)
 inner_then t z u e plain inner = inner_cons t u (plain_sort (sort t) z e plain) inner
 
-pub inner_parens : (o c : Token) (u : List Token) → sort o ≡ s.LeftParen → sort c ≡ s.RightParen → IsInner u → IsInner (o ∷ (u ++ c ∷ []))
+pub inner_parens : (o c : Token) (u : List Token) → sort o ≡ s.LeftParen → sort c ≡ s.RightParen → IsInner u →
+    IsInner (o ∷ (u ++ c ∷ []))
 inner_parens o c u e f inner = inner_brackets o c u (opening_sort (sort o) s.LeftParen e refl) (closing_sort (sort c) s.RightParen f (refl, refl)) inner
 
-pub inner_square : (o c : Token) (u : List Token) → sort o ≡ s.LeftBracket → sort c ≡ s.RightBracket → IsInner u → IsInner (o ∷ (u ++ c ∷ []))
+pub inner_square : (o c : Token) (u : List Token) → sort o ≡ s.LeftBracket → sort c ≡ s.RightBracket → IsInner u →
+    IsInner (o ∷ (u ++ c ∷ []))
 inner_square o c u e f inner = inner_brackets o c u (opening_sort (sort o) s.LeftBracket e refl) (closing_sort (sort c) s.RightBracket f (refl, refl)) inner
 
-pub inner_braces : (o c : Token) (u : List Token) → sort o ≡ s.LeftBrace → sort c ≡ s.RightBrace → IsInner u → IsInner (o ∷ (u ++ c ∷ []))
+pub inner_braces : (o c : Token) (u : List Token) → sort o ≡ s.LeftBrace → sort c ≡ s.RightBrace → IsInner u →
+    IsInner (o ∷ (u ++ c ∷ []))
 inner_braces o c u e f inner = inner_brackets o c u (opening_sort (sort o) s.LeftBrace e refl) (closing_sort (sort c) s.RightBrace f (refl, refl)) inner
 
 -- the same, and more behind the closing bracket
 inner_and_more : (o c : Token) (u v : List Token) → IsInner (o ∷ (u ++ c ∷ [])) → IsInner v → IsInner (o ∷ (u ++ c ∷ v))
 inner_and_more o c u v a b = subst (λ w. IsInner (o ∷ w)) (append_assoc u (c ∷ []) v) (inner_both (o ∷ (u ++ c ∷ [])) v a b)
 
-pub inner_parens_then : (o c : Token) (u v : List Token) → sort o ≡ s.LeftParen → sort c ≡ s.RightParen → IsInner u → IsInner v → IsInner (o ∷ (u ++ c ∷ v))
+pub inner_parens_then : (o c : Token) (u v : List Token) → sort o ≡ s.LeftParen → sort c ≡ s.RightParen → IsInner u →
+    IsInner v → IsInner (o ∷ (u ++ c ∷ v))
 inner_parens_then o c u v e f inner behind = inner_and_more o c u v (inner_parens o c u e f inner) behind
 
-pub inner_square_then : (o c : Token) (u v : List Token) → sort o ≡ s.LeftBracket → sort c ≡ s.RightBracket → IsInner u → IsInner v → IsInner (o ∷ (u ++ c ∷ v))
+pub inner_square_then : (o c : Token) (u v : List Token) → sort o ≡ s.LeftBracket → sort c ≡ s.RightBracket → IsInner u →
+    IsInner v → IsInner (o ∷ (u ++ c ∷ v))
 inner_square_then o c u v e f inner behind = inner_and_more o c u v (inner_square o c u e f inner) behind
 
 pub inner_semicolon : (t : Token) → sort t ≡ s.Semicolon → IsInner (t ∷ [])
@@ -162,7 +168,8 @@ inner_step (Some a) i = inner_simple a i
 -- ---- statements
 
 -- what stands in the brackets of a `for`
-inner_head : (t o e c : Token) (u v w z : List Token) → sort t ≡ s.For → sort o ≡ s.LeftParen → IsInner u → IsInner v → sort e ≡ s.Semicolon
+inner_head : (t o e c : Token) (u v w z : List Token) → sort t ≡ s.For → sort o ≡ s.LeftParen → IsInner u → IsInner v →
+    sort e ≡ s.Semicolon
     → IsInner w → sort c ≡ s.RightParen → IsInner z → IsInner (t ∷ o ∷ (u ++ (v ++ e ∷ (w ++ c ∷ z))))
 inner_head t o e c u v w z t_is o_is a b e_is d c_is f =
     subst (λ x. IsInner (t ∷ o ∷ x)) (append_assoc u (v ++ e ∷ w) (c ∷ z) ∙ ap (λ x. u ++ x) (append_assoc v (e ∷ w) (c ∷ z)))
@@ -176,7 +183,8 @@ inner_jump t e (inr i) j = inner_then t s.Continue (e ∷ []) i (refl, refl) (in
 mutual
   unfolding y.spelled_statement y.IsStatement
 
-  pub inner_statement : (c : y.StatementDerivation) (declares : Bool) → y.IsStatement declares c → IsInner (y.spelled_statement c)
+  pub inner_statement : (c : y.StatementDerivation) (declares : Bool) → y.IsStatement declares c →
+      IsInner (y.spelled_statement c)
   inner_statement (y.empty e) d i = inner_semicolon e i
   inner_statement (y.block o body c) d i = inner_braces o c (y.spelled_statements body) i.0 i.2 (inner_statements body i.1)
   inner_statement (y.declare l) d i = inner_local l i.1

@@ -9,7 +9,7 @@ use Rattle.pw_grammar.proofs.Lawful.{near_or_far}
 use Rattle.pw_grammar.specs.declared.sort.Sort.{Sort}
 use Rattle.pw_grammar.specs.declared.sort.Sort.TheVariants as s
 use Rattle.pw_grammar.specs.Terminals.{sort, is_same}
-use Rattle.pw_grammar.specs.Faults.{opens, closes, opens_by, closes_by, bracket}
+use Rattle.pw_grammar.specs.Faults.{closes_bracket, opens_by, closes_by, bracket}
 use Rattle.pw_grammar.specs.Reading.Limits.{Walk, is_inside, is_late, anew, step, first_late}
 use Rattle.pw_lex.specs.declared.token.Token.{Token}
 
@@ -67,40 +67,47 @@ outside_token body a b x e = ap (λ y. y && x) (no_brace body a b ∙ e)
 early_enough : (y : Bool) (start at : ℕ) → suc at ≤ start + 8192 → (y && nat_le (start + 8192) at) ≡ false
 early_enough y start at e = ap (λ z. y && z) (lt-leb (start + 8192) at e) ∙ and-false y
 
-early_token : (t : Token) (at n start : ℕ) (body : Bool) → (body ≡ false) ⊎ (suc at ≤ start + 8192) → is_late (within_brackets at n start body) t ≡ false
+early_token : (t : Token) (at n start : ℕ) (body : Bool) → (body ≡ false) ⊎ (suc at ≤ start + 8192) →
+    is_late (within_brackets at n start body) t ≡ false
 early_token t at n start body (inl e) = outside_token body (is_same (sort t) s.LeftBrace) (suc n == 0) (nat_le (start + 8192) at) e
 early_token t at n start body (inr e) = early_enough (is_inside (within_brackets at n start body) t) start at e
 
 late_token : (t : Token) (at n start : ℕ) → at ≡ start + 8192 → is_late (within_brackets at n start true) t ≡ true
 late_token t at n start e = le-leb (start + 8192) at (omega arith)
 
-pub passes_token : (t : Token) (at n m start : ℕ) (body : Bool) (v : List Token) → bracket (suc n) t ≡ suc m → (body ≡ false) ⊎ (suc at ≤ start + 8192)
+pub passes_token : (t : Token) (at n m start : ℕ) (body : Bool) (v : List Token) → bracket (suc n) t ≡ suc m →
+    (body ≡ false) ⊎ (suc at ≤ start + 8192)
     → first_late (within_brackets at n start body) (t ∷ v) ≡ first_late (within_brackets (suc at) m start body) v
 unfolding first_late
 passes_token t at n m start body v e early =
     ap (λ b. if b then Some at else first_late (step (within_brackets at n start body) t) v) (early_token t at n start body early)
     ∙ ap (λ w. first_late w v) (moves t at n m start body e)
 
-pub finds_token : (t : Token) (at n start : ℕ) (v : List Token) → at ≡ start + 8192 → first_late (within_brackets at n start true) (t ∷ v) ≡ Some (start + 8192)
+pub finds_token : (t : Token) (at n start : ℕ) (v : List Token) → at ≡ start + 8192 →
+    first_late (within_brackets at n start true) (t ∷ v) ≡ Some (start + 8192)
 unfolding first_late
 finds_token t at n start v e =
     ap (λ b. if b then Some at else first_late (step (within_brackets at n start true) t) v) (late_token t at n start e) ∙ ap Some e
 
-early_front : (at m n start : ℕ) (body : Bool) → (body ≡ false) ⊎ (at + (m + n) ≤ start + 8192) → (body ≡ false) ⊎ (at + m ≤ start + 8192)
+early_front : (at m n start : ℕ) (body : Bool) → (body ≡ false) ⊎ (at + (m + n) ≤ start + 8192) →
+    (body ≡ false) ⊎ (at + m ≤ start + 8192)
 early_front at m n start body (inl e) = inl e
 early_front at m n start body (inr e) = inr (omega arith)
 
-early_back : (at m n start : ℕ) (body : Bool) → (body ≡ false) ⊎ (at + (m + n) ≤ start + 8192) → (body ≡ false) ⊎ ((at + m) + n ≤ start + 8192)
+early_back : (at m n start : ℕ) (body : Bool) → (body ≡ false) ⊎ (at + (m + n) ≤ start + 8192) →
+    (body ≡ false) ⊎ ((at + m) + n ≤ start + 8192)
 early_back at m n start body (inl e) = inl e
 early_back at m n start body (inr e) = inr (omega arith)
 
-both_passes : (u v w : List Token) → IsInner u → IsInner v → (at n start : ℕ) (body : Bool) → (body ≡ false) ⊎ (at + (length u + length v) ≤ start + 8192)
+both_passes : (u v w : List Token) → IsInner u → IsInner v → (at n start : ℕ) (body : Bool) →
+    (body ≡ false) ⊎ (at + (length u + length v) ≤ start + 8192)
     → first_late (within_brackets at n start body) (u ++ (v ++ w)) ≡ first_late (within_brackets (at + length u + length v) n start body) w
 both_passes u v w a b at n start body early =
     a.passes at n start body (v ++ w) (early_front at (length u) (length v) start body early)
     ∙ b.passes (at + length u) n start body w (early_back at (length u) (length v) start body early)
 
-both_finds : (u v w : List Token) → IsInner u → IsInner v → (at n start : ℕ) → at ≤ start + 8192 → start + 8192 < at + (length u + length v)
+both_finds : (u v w : List Token) → IsInner u → IsInner v → (at n start : ℕ) → at ≤ start + 8192 →
+    start + 8192 < at + (length u + length v)
     → (at + length u ≤ start + 8192) ⊎ (start + 8192 < at + length u)
     → first_late (within_brackets at n start true) (u ++ (v ++ w)) ≡ Some (start + 8192)
 both_finds u v w a b at n start low high (inl e) =
@@ -120,7 +127,7 @@ inner_both u v a b = record {
 
 -- a token that is no bracket
 plain_bracket : (t : Token) (n : ℕ) → IsPlain (sort t) → bracket n t ≡ n
-plain_bracket t n (o, c) = ap (λ b. if b then suc n else (if closes t then n - 1 else n)) o ∙ ap (λ b. if b then n - 1 else n) c
+plain_bracket t n (o, c) = ap (λ b. if b then suc n else (if closes_bracket t then n - 1 else n)) o ∙ ap (λ b. if b then n - 1 else n) c
 
 pub inner_token : (t : Token) → IsPlain (sort t) → IsInner (t ∷ [])
 inner_token t plain = record {
@@ -136,7 +143,8 @@ inner_token t plain = record {
     just : (at start : ℕ) → at ≤ start + 8192 → start + 8192 < at + 1 → at ≡ start + 8192
     just at start low high = omega arith
 
-    early_one : (at start : ℕ) (body : Bool) → (body ≡ false) ⊎ (at + 1 ≤ start + 8192) → (body ≡ false) ⊎ (suc at ≤ start + 8192)
+    early_one : (at start : ℕ) (body : Bool) → (body ≡ false) ⊎ (at + 1 ≤ start + 8192) →
+        (body ≡ false) ⊎ (suc at ≤ start + 8192)
     early_one at start body (inl e) = inl e
     early_one at start body (inr e) = inr (omega arith)
 
@@ -146,10 +154,10 @@ pub inner_cons : (t : Token) (u : List Token) → IsPlain (sort t) → IsInner u
 inner_cons t u plain inner = inner_both (t ∷ []) u (inner_token t plain) inner
 
 opened : (t : Token) (n : ℕ) → opens_by (sort t) ≡ true → bracket n t ≡ suc n
-opened t n o = ap (λ b. if b then suc n else (if closes t then n - 1 else n)) o
+opened t n o = ap (λ b. if b then suc n else (if closes_bracket t then n - 1 else n)) o
 
 closed : (t : Token) (n : ℕ) → opens_by (sort t) ≡ false → closes_by (sort t) ≡ true → bracket (suc n) t ≡ n
-closed t n o c = ap (λ b. if b then suc (suc n) else (if closes t then suc n - 1 else suc n)) o ∙ (ap (λ b. if b then suc n - 1 else suc n) c ∙ less n)
+closed t n o c = ap (λ b. if b then suc (suc n) else (if closes_bracket t then suc n - 1 else suc n)) o ∙ (ap (λ b. if b then suc n - 1 else suc n) c ∙ less n)
   where
     less : (n : ℕ) → suc n - 1 ≡ n
     less n = omega arith
@@ -173,7 +181,8 @@ brackets_pass o c u v opens closes inner at n start body early =
     first_early (inl e) = inl e
     first_early (inr e) = inr (omega arith)
 
-    middle_early : (body ≡ false) ⊎ (suc (suc at + length u) ≤ start + 8192) → (body ≡ false) ⊎ (suc at + length u ≤ start + 8192)
+    middle_early : (body ≡ false) ⊎ (suc (suc at + length u) ≤ start + 8192) →
+        (body ≡ false) ⊎ (suc at + length u ≤ start + 8192)
     middle_early (inl e) = inl e
     middle_early (inr e) = inr (omega arith)
 

@@ -7,7 +7,7 @@ use Rattle.std.specs.Prelude.{max}
 use Rattle.pw_grammar.specs.declared.sort.Sort.{Sort}
 use Rattle.pw_grammar.specs.declared.sort.Sort.TheVariants as s
 use Rattle.pw_grammar.specs.Terminals.{sort, is_same}
-use Rattle.pw_grammar.specs.Expressions.{IsConstant}
+use Rattle.pw_grammar.specs.Expressions.{IsConstantSymbol}
 use Rattle.pw_grammar.specs.Statements as y
 use Rattle.pw_grammar.specs.Declarations as d
 use Rattle.pw_grammar.specs.Faults.{opens_by, closes_by}
@@ -60,7 +60,8 @@ after at start list = record { at = at; depth = 0; start = start; in_body = fals
 
 -- tokens that leave the walk outside brackets
 pub record IsOuter (u : List Token) : Type 0 where
-  pub passes : (at start : ℕ) (v : List Token) → first_late (after at start false) (u ++ v) ≡ first_late (after (at + length u) start false) v
+  pub passes : (at start : ℕ) (v : List Token) →
+      first_late (after at start false) (u ++ v) ≡ first_late (after (at + length u) start false) v
 
 pub outer_nil : IsOuter []
 outer_nil = record { passes = λ at start v. ap (λ m. first_late (after m start false) v) (let e : at ≡ at + 0 = omega arith in e) }
@@ -143,32 +144,39 @@ outer_type_sort _ ty e at start v = refl
 
 -- ---- brackets, from outside
 
-opens_paren : (at start : ℕ) (v : List Token) → first_on (after at start false) s.LeftParen v ≡ first_late (within_brackets (suc at) 0 start false) v
+opens_paren : (at start : ℕ) (v : List Token) →
+    first_on (after at start false) s.LeftParen v ≡ first_late (within_brackets (suc at) 0 start false) v
 unfolding is_same
 opens_paren at start v = refl
 
-opens_square : (at start : ℕ) (v : List Token) → first_on (after at start false) s.LeftBracket v ≡ first_late (within_brackets (suc at) 0 start false) v
+opens_square : (at start : ℕ) (v : List Token) →
+    first_on (after at start false) s.LeftBracket v ≡ first_late (within_brackets (suc at) 0 start false) v
 unfolding is_same
 opens_square at start v = refl
 
-opens_brace : (at start : ℕ) (v : List Token) → first_on (after at start false) s.LeftBrace v ≡ first_late (within_brackets (suc at) 0 start false) v
+opens_brace : (at start : ℕ) (v : List Token) →
+    first_on (after at start false) s.LeftBrace v ≡ first_late (within_brackets (suc at) 0 start false) v
 unfolding is_same
 opens_brace at start v = refl
 
-closes_paren : (at start : ℕ) (v : List Token) → first_on (within_brackets at 0 start false) s.RightParen v ≡ first_late (after (suc at) start true) v
+closes_paren : (at start : ℕ) (v : List Token) →
+    first_on (within_brackets at 0 start false) s.RightParen v ≡ first_late (after (suc at) start true) v
 unfolding is_same
 closes_paren at start v = refl
 
-closes_square : (at start : ℕ) (v : List Token) → first_on (within_brackets at 0 start false) s.RightBracket v ≡ first_late (after (suc at) start false) v
+closes_square : (at start : ℕ) (v : List Token) →
+    first_on (within_brackets at 0 start false) s.RightBracket v ≡ first_late (after (suc at) start false) v
 unfolding is_same
 closes_square at start v = refl
 
-closes_brace : (at start : ℕ) (v : List Token) → first_on (within_brackets at 0 start false) s.RightBrace v ≡ first_late (after (suc at) start false) v
+closes_brace : (at start : ℕ) (v : List Token) →
+    first_on (within_brackets at 0 start false) s.RightBrace v ≡ first_late (after (suc at) start false) v
 unfolding is_same
 closes_brace at start v = refl
 
 -- the end of a declaration, and a body's braces
-pub ends : (at start : ℕ) (list : Bool) (v : List Token) → first_on (after at start list) s.Semicolon v ≡ first_late (anew (suc at)) v
+pub ends : (at start : ℕ) (list : Bool) (v : List Token) →
+    first_on (after at start list) s.Semicolon v ≡ first_late (anew (suc at)) v
 unfolding is_same
 ends at start list v = refl
 
@@ -200,7 +208,8 @@ bracket_count at o c u = bracket_sum at (length u) (length (u ++ c ∷ [])) (len
     bracket_sum : (at n m : ℕ) → m ≡ n + 1 → suc (suc at + n) ≡ at + suc m
     bracket_sum at n m e = omega arith
 
-pub outer_square : (o c : Token) (u : List Token) → sort o ≡ s.LeftBracket → sort c ≡ s.RightBracket → IsInner u → IsOuter (o ∷ (u ++ c ∷ []))
+pub outer_square : (o c : Token) (u : List Token) → sort o ≡ s.LeftBracket → sort c ≡ s.RightBracket → IsInner u →
+    IsOuter (o ∷ (u ++ c ∷ []))
 outer_square o c u e f inner = record {
   passes = λ at start v.
       ap (λ z. first_late (after at start false) (o ∷ z)) (append_assoc u (c ∷ []) v)
@@ -208,7 +217,8 @@ outer_square o c u e f inner = record {
       ∙ ap (λ k. first_late (after k start false) v) (bracket_count at o c u));
 }
 
-pub outer_braces : (o c : Token) (u : List Token) → sort o ≡ s.LeftBrace → sort c ≡ s.RightBrace → IsInner u → IsOuter (o ∷ (u ++ c ∷ []))
+pub outer_braces : (o c : Token) (u : List Token) → sort o ≡ s.LeftBrace → sort c ≡ s.RightBrace → IsInner u →
+    IsOuter (o ∷ (u ++ c ∷ []))
 outer_braces o c u e f inner = record {
   passes = λ at start v.
       ap (λ z. first_late (after at start false) (o ∷ z)) (append_assoc u (c ∷ []) v)
@@ -238,7 +248,8 @@ pub defining_storage : (g : Option Token) → d.IsDefining g → d.IsStorage g
 defining_storage None i = i
 defining_storage (Some t) i = inr i
 
-valued_storage : (t : Token) (v : d.VariableDerivation) → (sort t ≡ s.Static) ⊎ ((sort t ≡ s.Extern) × d.HasNoValue v) → (sort t ≡ s.Extern) ⊎ (sort t ≡ s.Static)
+valued_storage : (t : Token) (v : d.VariableDerivation) → (sort t ≡ s.Static) ⊎ ((sort t ≡ s.Extern) × d.HasNoValue v) →
+    (sort t ≡ s.Extern) ⊎ (sort t ≡ s.Static)
 valued_storage t v (inl e) = inr e
 valued_storage t v (inr e) = inl e.0
 
@@ -278,7 +289,7 @@ inner_more_elements (d.more t x xs) i =
     inner_then t s.Comma (d.spelled_element x ++ d.spelled_more_elements xs) i.0 (refl, refl)
     (inner_both (d.spelled_element x) (d.spelled_more_elements xs) (inner_element x i.1) (inner_more_elements xs i.2))
 
-outer_constant : (t : Token) → IsConstant (sort t) → IsOuter (t ∷ [])
+outer_constant : (t : Token) → IsConstantSymbol (sort t) → IsOuter (t ∷ [])
 outer_constant t (inl e) = outer_one t s.Number e outer_number
 outer_constant t (inr e) = outer_one t s.Character e outer_character
 
@@ -291,7 +302,8 @@ outer_extent : (o n c : Token) → d.IsExtent o n c → IsOuter (o ∷ n ∷ c �
 outer_extent o n c i = outer_square o c (n ∷ []) i.0 i.2 (inner_one n s.Number i.1 (refl, refl))
 
 -- the elements with their braces
-outer_elements : (b e : Token) (u v : List Token) → sort b ≡ s.LeftBrace → sort e ≡ s.RightBrace → IsInner u → IsInner v → IsOuter (b ∷ (u ++ (v ++ e ∷ [])))
+outer_elements : (b e : Token) (u v : List Token) → sort b ≡ s.LeftBrace → sort e ≡ s.RightBrace → IsInner u → IsInner v →
+    IsOuter (b ∷ (u ++ (v ++ e ∷ [])))
 outer_elements b e u v b_is e_is i j =
     subst (λ w. IsOuter (b ∷ w)) (append_assoc u v (e ∷ [])) (outer_braces b e (u ++ v) b_is e_is (inner_both u v i j))
 
@@ -310,7 +322,8 @@ outer_variable (d.array_set o n c q b x xs e) i =
 pub outer_head : (u v : List Token) (x : Token) → IsOuter u → IsOuter v → sort x ≡ s.Name → IsOuter (u ++ (v ++ x ∷ []))
 outer_head u v x a b e = outer_both u (v ++ x ∷ []) a (outer_both v (x ∷ []) b (outer_one x s.Name e outer_name))
 
-pub passes_head : (h ps z : List Token) (o c : Token) (at start : ℕ) → IsOuter h → sort o ≡ s.LeftParen → IsInner ps → sort c ≡ s.RightParen
+pub passes_head : (h ps z : List Token) (o c : Token) (at start : ℕ) → IsOuter h → sort o ≡ s.LeftParen → IsInner ps →
+    sort c ≡ s.RightParen
     → first_late (after at start false) (h ++ o ∷ (ps ++ c ∷ z)) ≡ first_late (after (at + (length h + length ps + 2)) start true) z
 passes_head h ps z o c at start outer o_is inner c_is =
     outer.passes at start (o ∷ (ps ++ c ∷ z))
@@ -329,7 +342,8 @@ is_late_now : (at start : ℕ) (v w : Option ℕ) → start + 8192 ≤ at → (i
 is_late_now at start v w e = ap (λ b. if b then v else w) (le-leb (start + 8192) at e)
 
 -- within 8,192 tokens it is passed
-pub passes_body : (b e : Token) (body v : List Token) (at start : ℕ) → sort b ≡ s.LeftBrace → IsInner body → sort e ≡ s.RightBrace
+pub passes_body : (b e : Token) (body v : List Token) (at start : ℕ) → sort b ≡ s.LeftBrace → IsInner body →
+    sort e ≡ s.RightBrace
     → suc (suc at + length body) ≤ start + 8192
     → first_late (after at start true) (b ∷ (body ++ e ∷ v)) ≡ first_late (anew (suc (suc at + length body))) v
 passes_body b e body v at start b_is inner e_is short =
@@ -369,7 +383,8 @@ found_in_body b e body v at start b_is inner e_is long (inr far) =
     ∙ ap Some (let z : at ≡ max at (start + 8192) = omega arith in z)))
 
 -- else its first token behind 8,192 others of the function is found
-pub finds_body : (b e : Token) (body v : List Token) (at start : ℕ) → sort b ≡ s.LeftBrace → IsInner body → sort e ≡ s.RightBrace
+pub finds_body : (b e : Token) (body v : List Token) (at start : ℕ) → sort b ≡ s.LeftBrace → IsInner body →
+    sort e ≡ s.RightBrace
     → start + 8192 < suc (suc at + length body)
     → first_late (after at start true) (b ∷ (body ++ e ∷ v)) ≡ Some (max at (start + 8192))
 finds_body b e body v at start b_is inner e_is long = found_in_body b e body v at start b_is inner e_is long (near_or_far (suc at) (start + 8192))

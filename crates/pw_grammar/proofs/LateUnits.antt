@@ -41,7 +41,8 @@ head_length g r x = length-append g (r ++ x ∷ []) ∙ (ap (λ n. length g + n)
 -- no token of it stands late, and the walk passes it whole
 pub record Passes (c : DeclarationDerivation) : Type 0 where
   pub early : (t : ℕ) → IsLate c t (before_body c) → ⊥
-  pub passes : (at : ℕ) (v : List Token) → first_late (anew at) (spelled_declaration c ++ v) ≡ first_late (anew (at + length (spelled_declaration c))) v
+  pub passes : (at : ℕ) (v : List Token) →
+      first_late (anew at) (spelled_declaration c ++ v) ≡ first_late (anew (at + length (spelled_declaration c))) v
 
 -- it is a function's definition of more than 8,192 tokens, and the walk finds the first of them that stands late
 pub record Catches (c : DeclarationDerivation) : Type 0 where
@@ -52,7 +53,8 @@ pub record Catches (c : DeclarationDerivation) : Type 0 where
   pub finds : (at : ℕ) (v : List Token) → first_late (anew at) (spelled_declaration c ++ v) ≡ Some (at + max brace 8192)
 
 -- the rest of a prototype
-passes_prototype : (h ps v : List Token) (o c e : Token) (at : ℕ) → IsOuter h → sort o ≡ s.LeftParen → IsInner ps → sort c ≡ s.RightParen → sort e ≡ s.Semicolon
+passes_prototype : (h ps v : List Token) (o c e : Token) (at : ℕ) → IsOuter h → sort o ≡ s.LeftParen → IsInner ps →
+    sort c ≡ s.RightParen → sort e ≡ s.Semicolon
     → first_late (anew at) (h ++ (o ∷ ((ps ++ c ∷ e ∷ []) ++ v))) ≡ first_late (anew (at + (length h + suc (length (ps ++ c ∷ e ∷ []))))) v
 passes_prototype h ps v o c e at outer o_is inner c_is e_is =
     ap (λ z. first_late (anew at) (h ++ (o ∷ z))) (append_assoc ps (c ∷ e ∷ []) v)
@@ -82,7 +84,8 @@ passes_variable h u v e at a b e_is =
 abbrev rest_of_function : List Token → List Token → Token → Token → Token → Token → List Token
 rest_of_function ps body o c b e = o ∷ (ps ++ c ∷ b ∷ (body ++ e ∷ []))
 
-rest_splits : (ps body v : List Token) (o c b e : Token) → rest_of_function ps body o c b e ++ v ≡ o ∷ (ps ++ c ∷ b ∷ (body ++ e ∷ v))
+rest_splits : (ps body v : List Token) (o c b e : Token) →
+    rest_of_function ps body o c b e ++ v ≡ o ∷ (ps ++ c ∷ b ∷ (body ++ e ∷ v))
 rest_splits ps body v o c b e =
     ap (λ z. o ∷ z) (append_assoc ps (c ∷ b ∷ (body ++ e ∷ [])) v ∙ ap (λ z. ps ++ c ∷ b ∷ z) (append_assoc body (e ∷ []) v))
 
@@ -136,7 +139,8 @@ finds_function h ps body v o c b e at p long =
 
 -- ---- the same of the derivation
 
-walk_function : (g r ps body : List Token) (x o c b e : Token) (w : DeclarationDerivation) → spelled_declaration w ≡ g ++ (r ++ x ∷ rest_of_function ps body o c b e)
+walk_function : (g r ps body : List Token) (x o c b e : Token) (w : DeclarationDerivation) →
+    spelled_declaration w ≡ g ++ (r ++ x ∷ rest_of_function ps body o c b e)
     → before_body w ≡ Some (length g + length r + length ps + 3)
     → HasBody (head g r x) ps body o c b e → (length (spelled_declaration w) ≤ 8192) ⊎ (8192 < length (spelled_declaration w)) → Passes w ⊎ Catches w
 walk_function g r ps body x o c b e w spells brace p (inl short) = inl (record {
@@ -217,12 +221,14 @@ same_number n m e = cc
 abbrev pub IsLateAt : UnitDerivation → ℕ → ℕ → Type 0
 IsLateAt c at found = (t : ℕ) × (found ≡ at + t) × StandsLate c t
 
-found_behind_it : (c : DeclarationDerivation) (cs : UnitDerivation) (at found : ℕ) → IsLateAt cs (at + length (spelled_declaration c)) found → IsLateAt (c ∷ cs) at found
+found_behind_it : (c : DeclarationDerivation) (cs : UnitDerivation) (at found : ℕ) →
+    IsLateAt cs (at + length (spelled_declaration c)) found → IsLateAt (c ∷ cs) at found
 unfolding StandsLate
 found_behind_it c cs at found f =
     (length (spelled_declaration c) + f.0, (let e : found ≡ (at + length (spelled_declaration c)) + f.0 = f.1 in omega (arith, e)), inr (f.0, refl, f.2))
 
-caught : (c : DeclarationDerivation) (cs : UnitDerivation) (at found : ℕ) → (p : Catches c) → found ≡ at + max p.brace 8192 → IsLateAt (c ∷ cs) at found
+caught : (c : DeclarationDerivation) (cs : UnitDerivation) (at found : ℕ) → (p : Catches c) → found ≡ at + max p.brace 8192 →
+    IsLateAt (c ∷ cs) at found
 unfolding StandsLate
 caught c cs at found p e =
     (max p.brace 8192, e, inl (subst (λ o. IsLate c (max p.brace 8192) o) (sym p.body) (late p.brace (length (spelled_declaration c)) p.inside p.long)))
@@ -230,7 +236,8 @@ caught c cs at found p e =
     late : (brace n : ℕ) → brace < n → 8192 < n → (brace ≤ max brace 8192) × (8192 ≤ max brace 8192) × (max brace 8192 < n)
     late brace n inside long = omega arith
 
-late_found_with : (c : DeclarationDerivation) (cs : UnitDerivation) (at found : ℕ) → ((at found : ℕ) → first_late (anew at) (spelled_unit cs) ≡ Some found → IsLateAt cs at found)
+late_found_with : (c : DeclarationDerivation) (cs : UnitDerivation) (at found : ℕ) →
+    ((at found : ℕ) → first_late (anew at) (spelled_unit cs) ≡ Some found → IsLateAt cs at found)
     → Passes c ⊎ Catches c → first_late (anew at) (spelled_declaration c ++ spelled_unit cs) ≡ Some found → IsLateAt (c ∷ cs) at found
 late_found_with c cs at found others (inl p) e =
     found_behind_it c cs at found (others (at + length (spelled_declaration c)) found (sym (p.passes at (spelled_unit cs)) ∙ e))
@@ -238,7 +245,8 @@ late_found_with c cs at found others (inr p) e =
     caught c cs at found p (same_number (at + max p.brace 8192) found (sym (p.finds at (spelled_unit cs)) ∙ e))
 
 -- what is found stands late
-pub late_found : (c : UnitDerivation) → IsUnit c → (at found : ℕ) → first_late (anew at) (spelled_unit c) ≡ Some found → (t : ℕ) × (found ≡ at + t) × StandsLate c t
+pub late_found : (c : UnitDerivation) → IsUnit c → (at found : ℕ) → first_late (anew at) (spelled_unit c) ≡ Some found →
+    (t : ℕ) × (found ≡ at + t) × StandsLate c t
 unfolding first_late spelled_unit IsUnit
 late_found [] i at found e = absurd (nothing_is found e)
 late_found (c ∷ cs) i at found e = late_found_with c cs at found (late_found cs i.1) (walk_declaration c i.0) e
@@ -248,13 +256,15 @@ abbrev pub FindsBy : Walk → List Token → ℕ → Type 0
 FindsBy w u t = (found : ℕ) × (first_late w u ≡ Some found) × (found ≤ t)
 
 -- in a function that is too long, one is found up to each number from its brace and its token 8,192 on
-finds_by : (c : DeclarationDerivation) (at t : ℕ) (v : List Token) → (p : Catches c) → p.brace ≤ t → 8192 ≤ t → FindsBy (anew at) (spelled_declaration c ++ v) (at + t)
+finds_by : (c : DeclarationDerivation) (at t : ℕ) (v : List Token) → (p : Catches c) → p.brace ≤ t → 8192 ≤ t →
+    FindsBy (anew at) (spelled_declaration c ++ v) (at + t)
 finds_by c at t v p brace far = (at + max p.brace 8192, p.finds at v, least p.brace brace)
   where
     least : (n : ℕ) → n ≤ t → at + max n 8192 ≤ at + t
     least n e = omega arith
 
-late_first_with : (c : DeclarationDerivation) (cs : UnitDerivation) (at t : ℕ) → ((at t : ℕ) → StandsLate cs t → FindsBy (anew at) (spelled_unit cs) (at + t))
+late_first_with : (c : DeclarationDerivation) (cs : UnitDerivation) (at t : ℕ) →
+    ((at t : ℕ) → StandsLate cs t → FindsBy (anew at) (spelled_unit cs) (at + t))
     → Passes c ⊎ Catches c → IsLate c t (before_body c) ⊎ ((before : ℕ) × (t ≡ length (spelled_declaration c) + before) × StandsLate cs before)
     → FindsBy (anew at) (spelled_declaration c ++ spelled_unit cs) (at + t)
 late_first_with c cs at t others (inl p) (inl late) = absurd (p.early t late)
@@ -277,7 +287,8 @@ late_first_with c cs at t others (inr p) (inr later) =
     far n before e f = omega arith
 
 -- where a token stands late, one is found that is not behind it
-pub late_first : (c : UnitDerivation) → IsUnit c → (at t : ℕ) → StandsLate c t → (found : ℕ) × (first_late (anew at) (spelled_unit c) ≡ Some found) × (found ≤ at + t)
+pub late_first : (c : UnitDerivation) → IsUnit c → (at t : ℕ) → StandsLate c t →
+    (found : ℕ) × (first_late (anew at) (spelled_unit c) ≡ Some found) × (found ≤ at + t)
 unfolding StandsLate spelled_unit IsUnit
 late_first [] i at t late = absurd late
 late_first (c ∷ cs) i at t late = late_first_with c cs at t (late_first cs i.1) (walk_declaration c i.0) late
@@ -310,7 +321,8 @@ late_below_with true at n found o others e = let same : found ≡ at = same_numb
 late_below_with false at n found o others e = let f = others e in omega (arith, f)
 
 -- it is one of the tokens
-pub late_below : (w : Walk) (u : List Token) (found : ℕ) → first_late w u ≡ Some found → (w.at ≤ found) × (found < w.at + length u)
+pub late_below : (w : Walk) (u : List Token) (found : ℕ) → first_late w u ≡ Some found →
+    (w.at ≤ found) × (found < w.at + length u)
 unfolding first_late
 late_below w [] found e = absurd (nothing_is found e)
 late_below w (t ∷ u) found e =
@@ -326,7 +338,8 @@ late_nowhere : (at found : ℕ) → at ≤ found → found < at + 0 → ⊥
 late_nowhere at found low high = omega arith
 
 -- what is found among the first tokens is found in them alone
-pub late_shared : (w : Walk) (u v : List Token) (found : ℕ) → first_late w (u ++ v) ≡ Some found → found < w.at + length u → first_late w u ≡ Some found
+pub late_shared : (w : Walk) (u v : List Token) (found : ℕ) → first_late w (u ++ v) ≡ Some found → found < w.at + length u →
+    first_late w u ≡ Some found
 unfolding first_late
 late_shared w [] v found e near = absurd (late_nowhere w.at found (late_below w v found e).0 near)
 late_shared w (t ∷ u) v found e near =
@@ -343,7 +356,8 @@ from_zero : (found t : ℕ) → found ≡ 0 + t → t ≡ found
 from_zero found t e = omega arith
 
 -- what is found is the fault, where a unit goes on from the tokens up to it
-pub too_long_found : (ts : List Token) (found : ℕ) → first_late (anew 0) ts ≡ Some found → Begins (take (suc found) ts) → IsFault ts (TooLong found)
+pub too_long_found : (ts : List Token) (found : ℕ) → first_late (anew 0) ts ≡ Some found → Begins (take (suc found) ts) →
+    IsFault ts (TooLong found)
 too_long_found ts found e b =
     let f = late_found b.phrase b.is 0 found (ap (λ u. first_late (anew 0) u) b.spells ∙ late_prefix (anew 0) (take (suc found) ts) b.rest found at_front) in
     (short, record { phrase = b.phrase; is = b.is; rest = b.rest; spells = b.spells; late = subst (λ n. StandsLate b.phrase n) (from_zero found f.0 f.1) f.2 })
@@ -356,7 +370,8 @@ too_long_found ts found e b =
         (ap (λ u. first_late (anew 0) u) (take-append-drop (suc found) ts) ∙ e) (among found found ts short (omega arith))
 
 -- where that fault is, one is found that is not behind it
-pub too_long_first : (ts : List Token) (t : ℕ) → IsFault ts (TooLong t) → (found : ℕ) × (first_late (anew 0) ts ≡ Some found) × (found ≤ t)
+pub too_long_first : (ts : List Token) (t : ℕ) → IsFault ts (TooLong t) →
+    (found : ℕ) × (first_late (anew 0) ts ≡ Some found) × (found ≤ t)
 too_long_first ts t fault =
     let g = fault.1 in
     let f = late_first g.phrase g.is 0 t g.late in (

@@ -10,7 +10,7 @@ use Rattle.pw_grammar.specs.declared.error.SyntaxError.{SyntaxError}
 use Rattle.pw_grammar.specs.declared.error.SyntaxError.TheVariants.{At}
 use Rattle.pw_grammar.specs.Terminals.{sort, first_sort}
 use Rattle.pw_grammar.specs.Faults.{token_of}
-use Rattle.pw_grammar.specs.Reading.Steps.{Position, ReadResult, Parser, and_then, ◌>>=◌, pure, next_sort}
+use Rattle.pw_grammar.specs.Reading.Steps.{Position, ReadResult, Parser, read_then, ◌>>=◌, pure, next_sort}
 use Rattle.pw_lex.specs.declared.token.Token.{Token}
 
 -- A language: the values that own tokens have, from the first one's number on and before a token of a sort.
@@ -240,7 +240,7 @@ says_second L M lax i j a r (Err e) q = record {
 
 pub says_both : {A B : Type 0} (L : Language A) (M : A → Language B) (lax : Lax L) (f : A → Parser B)
     → ((a : A) (j : Position) → Says (M a) j (f a j)) → ((a : A) (at : ℕ) → GoesOn (M a) at [])
-    → (i : Position) (o : ReadResult A) → Says L i o → Says (Seq L M) i (and_then o f)
+    → (i : Position) (o : ReadResult A) → Says L i o → Says (Seq L M) i (read_then o f)
 says_both L M lax f says can i (Ok p) r = says_second L M lax i p.1 p.0 r (f p.0 p.1) (says p.0 p.1)
 says_both L M lax f says can i (Err e) r = record {
   tokens = r.tokens;
@@ -259,7 +259,8 @@ forward_ok L i a j r = subst (λ n. i.at ≤ n) (sym r.leads.at) (omega arith)
 forward_err : {A : Type 0} (L : Language A) (i : Position) (e : SyntaxError) (m : ℕ) → HasStopped L i e → e ≡ At m → i.at ≤ m
 forward_err L i e m r is = let same : m ≡ r.place.at = ap token_of (sym is ∙ r.is) in omega (arith, same, r.leads.at)
 
-pub same_passed : {A : Type 0} (L : Language A) (i : Position) (k : ℕ) (o other : ReadResult A) → Says L i o → k < i.at → Same k o other
+pub same_passed : {A : Type 0} (L : Language A) (i : Position) (k : ℕ) (o other : ReadResult A) → Says L i o → k < i.at →
+    Same k o other
 same_passed L i k (Ok p) other r far = λ near. absurd (let on : i.at ≤ p.1.at = forward_ok L i p.0 p.1 r in omega arith)
 same_passed L i k (Err e) other r far = λ m is near. absurd (let on : i.at ≤ m = forward_err L i e m r is in omega arith)
 
@@ -274,15 +275,15 @@ near_or_far (suc n) (suc k) = one_more (near_or_far n k)
 
 same_second : {A B : Type 0} (L : Language A) (M : A → Language B) (f : A → Parser B) (k : ℕ) (a : A) (j : Position) (other : ReadResult A)
     → Says (M a) j (f a j) → ((a : A) (j l : Position) → Agree k j l → Same k (f a j) (f a l))
-    → (j.at ≤ k → Reaches k a j other) → (j.at ≤ k) ⊎ (k < j.at) → Same k (f a j) (and_then other f)
+    → (j.at ≤ k → Reaches k a j other) → (j.at ≤ k) ⊎ (k < j.at) → Same k (f a j) (read_then other f)
 same_second L M f k a j other says steady same (inl near) =
-    let r = same near in subst (λ o. Same k (f a j) (and_then o f)) (sym r.is) (steady a j r.place r.agree)
-same_second L M f k a j other says steady same (inr far) = same_passed (M a) j k (f a j) (and_then other f) says far
+    let r = same near in subst (λ o. Same k (f a j) (read_then o f)) (sym r.is) (steady a j r.place r.agree)
+same_second L M f k a j other says steady same (inr far) = same_passed (M a) j k (f a j) (read_then other f) says far
 
 pub same_both : {A B : Type 0} (L : Language A) (M : A → Language B) (f : A → Parser B) (k : ℕ) (o other : ReadResult A)
     → ((a : A) (j : Position) → Says (M a) j (f a j)) → ((a : A) (j l : Position) → Agree k j l → Same k (f a j) (f a l))
-    → Same k o other → Same k (and_then o f) (and_then other f)
-same_both L M f k (Err e) other says steady same = λ m is near. ap (λ o. and_then o f) (same m is near)
+    → Same k o other → Same k (read_then o f) (read_then other f)
+same_both L M f k (Err e) other says steady same = λ m is near. ap (λ o. read_then o f) (same m is near)
 same_both L M f k (Ok p) other says steady same = same_second L M f k p.0 p.1 other (says p.0 p.1) steady same (near_or_far p.1.at k)
 
 -- ---- settled
@@ -293,7 +294,7 @@ Leaves n (Ok p) = length p.1.rest < n
 Leaves n (Err e) = ⊤
 
 pub settled_both : {A B : Type 0} (f g : A → Parser B) (n : ℕ) (o : ReadResult A)
-    → ((a : A) (j : Position) → length j.rest < n → f a j ≡ g a j) → Leaves n o → and_then o f ≡ and_then o g
+    → ((a : A) (j : Position) → length j.rest < n → f a j ≡ g a j) → Leaves n o → read_then o f ≡ read_then o g
 settled_both f g n (Ok p) same left = same p.0 p.1 left
 settled_both f g n (Err e) same left = refl
 
@@ -306,7 +307,7 @@ Shrinks m n p = (i : Position) → length i.rest < m → Leaves n (p i)
 pub bind_from : {A B : Type 0} (m n : ℕ) (L : Language A) (M : A → Language B) (p q : Parser A) (f g : A → Parser B)
     → Lax L → Lawful m L p q → ((a : A) → Lawful n (M a) (f a) (g a)) → Shrinks m n p → Lawful m (Seq L M) (p >>= f) (q >>= g)
 bind_from m n L M p q f g lax first second shrinks = record {
-  settled = λ i short. settled_both f g n (p i) (λ a j left. (second a).settled j left) (shrinks i short) ∙ ap (λ o. and_then o g) (first.settled i short);
+  settled = λ i short. settled_both f g n (p i) (λ a j left. (second a).settled j left) (shrinks i short) ∙ ap (λ o. read_then o g) (first.settled i short);
   says = λ i. says_both L M lax f (λ a j. (second a).says j) (λ a at. (second a).can at) i (p i) (first.says i);
   steady = λ k i j same. same_both L M f k (p i) (p j) (λ a l. (second a).says l) (λ a l o. (second a).steady k l o) (first.steady k i j same);
   can = λ at. stops_first L M at [] (first.can at) ((second (first.can at).value).can (at + length (first.can at).rest));
@@ -315,7 +316,8 @@ bind_from m n L M p q f g lax first second shrinks = record {
 shorter : (n a b m : ℕ) → n ≡ a + b → n < m → b < m
 shorter n a b m e short = omega arith
 
-pub leaves_fewer : {A : Type 0} (L : Language A) (i : Position) (m : ℕ) (o : ReadResult A) → Says L i o → length i.rest < m → Leaves m o
+pub leaves_fewer : {A : Type 0} (L : Language A) (i : Position) (m : ℕ) (o : ReadResult A) → Says L i o → length i.rest < m →
+    Leaves m o
 leaves_fewer L i m (Ok p) r short = shorter (length i.rest) (length r.tokens) (length p.1.rest) m (ap length r.leads.rest ∙ length-append r.tokens p.1.rest) short
 leaves_fewer L i m (Err e) r short = tt
 

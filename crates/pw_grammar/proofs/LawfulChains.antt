@@ -8,7 +8,7 @@ use Rattle.pw_grammar.specs.declared.error.SyntaxError.TheVariants.{At}
 use Rattle.pw_grammar.specs.Terminals.{binary_of, level_of, sort, sort_of, is_same}
 use Rattle.pw_grammar.specs.Expressions as g
 use Rattle.pw_grammar.specs.Expressions.{spelled, IsAt, expression_tree, binary_or}
-use Rattle.pw_grammar.specs.Reading.Steps.{on_option, Position, Parser, and_then, ◌>>=◌, pure, refuse, next_sort, sees, skip, finish}
+use Rattle.pw_grammar.specs.Reading.Steps.{on_option, Position, Parser, read_then, ◌>>=◌, pure, refuse, next_sort, sees, skip, finish}
 use Rattle.pw_grammar.specs.Reading.Expressions as r
 use Rattle.pw_grammar.proofs.Lawful.{Language, GoesOn, Lawful, Within, within, Seq, bind, leads_nowhere}
 use Rattle.pw_grammar.proofs.Branches.{keeps, lawful_test, lawful_option, keeps_within, same_sorts}
@@ -57,7 +57,8 @@ of_level : (level : ℕ) (b : Option Bin) (op : Bin) → r.at_level level b ≡ 
 of_level level None op h = absurd (none_some op h)
 of_level level (Some other) op h = of_test level other op (level_of other == level) refl h
 
-count_binary : (first at : ℕ) (u v : List Token) (t : Token) → at ≡ first + length u → suc at + length v ≡ first + length (u ++ t ∷ v)
+count_binary : (first at : ℕ) (u v : List Token) (t : Token) → at ≡ first + length u →
+    suc at + length v ≡ first + length (u ++ t ∷ v)
 count_binary first at u v t e = omega (arith, e, length-append u (t ∷ v))
 
 -- an operator and its right operand behind a phrase, and what stands behind those
@@ -96,7 +97,7 @@ chain_at level operand m first left (Some op) = skip >>= (λ line. operand >>= (
     finish first line (e.Binary op left right) >>= r.chain level operand m first))
 
 chain_by : (level : ℕ) (operand : Parser Expr) (m first : ℕ) (left : Expr) (b : Option Bin) (i : Position)
-    → and_then (r.binary_by b i) (λ x. on_option x (pure left) (λ op. operand >>= (λ right.
+    → read_then (r.binary_by b i) (λ x. on_option x (pure left) (λ op. operand >>= (λ right.
     finish first op.1 (e.Binary op.0 left right) >>= r.chain level operand m first))) ≡ chain_at level operand m first left b i
 unfolding chain_at
 chain_by level operand m first left None i = refl

@@ -64,7 +64,8 @@ keeps_variable m n small linkage ty true e = keeps_refuse (λ x. is_same x s.Lef
 keeps_variable m n small linkage ty false e =
     keeps (λ x. is_same x s.LeftParen ≡ false) n (APart linkage ty) _ _ (within (variable_is linkage ty e) (lawful_variable m n small linkage ty))
 
-lawful_part : (m n : ℕ) → n ≤ m → (p q : Parser Expr) (v w : Parser Stmt) → Lawful n (AnExpression 13) p q → Lawful n (AStatement false) v w
+lawful_part : (m n : ℕ) → n ≤ m → (p q : Parser Expr) (v w : Parser Stmt) → Lawful n (AnExpression 13) p q →
+    Lawful n (AStatement false) v w
     → (linkage : Linkage) (ty : Ty) → Lawful n (APart linkage ty) (r.declarator p v m linkage ty) (r.declarator q w (suc m) linkage ty)
 unfolding r.declarator sees
 lawful_part m n small p q v w l h linkage ty = lawful_test (λ x. is_same x s.LeftParen) n (APart linkage ty) _ _ _ _
@@ -107,7 +108,8 @@ defining None is e = tt
 defining (Some t) (inl is) e = absurd (both_ways (r.is_extern (g.linkage_by (sort t))) e (ap (λ x. r.is_extern (g.linkage_by x)) is))
 defining (Some t) (inr is) e = is
 
-may_have : (t : Option Token) (v : g.VariableDerivation) → g.IsStorage t → (r.is_extern (g.linkage_of t) ≡ true → g.HasNoValue v) → g.MayHave t v
+may_have : (t : Option Token) (v : g.VariableDerivation) → g.IsStorage t →
+    (r.is_extern (g.linkage_of t) ≡ true → g.HasNoValue v) → g.MayHave t v
 may_have None v is none = tt
 may_have (Some t) v (inl is) none = inr (is, none (ap (λ x. r.is_extern (g.linkage_by x)) is))
 may_have (Some t) v (inr is) none = inl is
@@ -187,7 +189,8 @@ behind_is_full first name_at linkage ty line at a x y = no_cons y.token y.behind
     no_cons : (t : Token) (u : List Token) → [] ≡ t ∷ u → ⊥
     no_cons t u e = cc
 
-behind_goes_on : (first name_at : ℕ) (linkage : Linkage) (ty : Ty) (at : ℕ) → GoesOn (Lined (λ line. Behind first name_at linkage ty line)) at []
+behind_goes_on : (first name_at : ℕ) (linkage : Linkage) (ty : Ty) (at : ℕ) →
+    GoesOn (Lined (λ line. Behind first name_at linkage ty line)) at []
 behind_goes_on first name_at linkage ty at = record {
   rest = a_name.token ∷ left_paren.token ∷ void.token ∷ right_paren.token ∷ semicolon.token ∷ [];
   value = _;
@@ -207,7 +210,8 @@ behind_goes_on first name_at linkage ty at = record {
   starts = λ e x o. subst (λ z. z ≢ s.Else) (sym a_name.sort_is) a_name.no_else;
 }
 
-pub lawful_declaration : (m n : ℕ) → n ≤ m → (p q : Parser Expr) (v w : Parser Stmt) → Lawful n (AnExpression 13) p q → Lawful n (AStatement false) v w
+pub lawful_declaration : (m n : ℕ) → n ≤ m → (p q : Parser Expr) (v w : Parser Stmt) → Lawful n (AnExpression 13) p q →
+    Lawful n (AStatement false) v w
     → Lawful n ADeclaration (r.declaration p v m) (r.declaration q w (suc m))
 unfolding r.declaration
 lawful_declaration m n small p q v w l h = within declaration_is (lawful_from n _ _ _

@@ -4,7 +4,7 @@ use Rattle.std.proofs.lemmas.List.{append-nil, length-append}
 use Rattle.pw_grammar.specs.declared.sort.Sort.{Sort}
 use Rattle.pw_grammar.specs.declared.sort.Sort.TheVariants as s
 use Rattle.pw_grammar.specs.Terminals.{sort, sort_of, is_same}
-use Rattle.pw_grammar.specs.Expressions.{identifier, constant, bracketed, input, output, spelled, IsAt, IsConstant, expression_tree, name_in, value_in, is_unsigned_constant}
+use Rattle.pw_grammar.specs.Expressions.{identifier, constant, bracketed, input, output, spelled, IsAt, IsConstantSymbol, expression_tree, name_in, value_in, is_unsigned_constant}
 use Rattle.pw_grammar.specs.Reading.Steps.{Position, Parser, refuse, next_sort, take}
 use Rattle.pw_grammar.specs.Reading.Expressions as r
 use Rattle.pw_grammar.proofs.Lawful.{Language, GoesOn, Says, Same, Lawful, Within, Seq, Pure, lawful_pure}
@@ -32,7 +32,8 @@ count_output : (at n m : ℕ) → m ≡ n + 1 → suc (suc (suc at) + n) ≡ at 
 count_output at n m e = omega arith
 
 -- `( e )`, once the bracket was seen
-bracketed_is : (n : ℕ) → Within (Then (λ x. is_same x s.LeftParen ≡ true) (λ o. WithExpression 13 (λ a. Then (λ x. x ≡ s.RightParen) (λ c. Pure a)))) (AnExpression n)
+bracketed_is : (n : ℕ) →
+    Within (Then (λ x. is_same x s.LeftParen ≡ true) (λ o. WithExpression 13 (λ a. Then (λ x. x ≡ s.RightParen) (λ c. Pure a)))) (AnExpression n)
 unfolding spelled IsAt expression_tree
 bracketed_is n at a u x o =
     let b = o.second in
@@ -52,7 +53,8 @@ lawful_bracketed n m p q l = keeps_within (λ x. is_same x s.LeftParen ≡ true)
     (λ a. lawful_then n s.RightParen _ _ _ paren (λ c. lawful_pure n a))))
 
 -- `__out ( e )`
-output_is : (n : ℕ) → Within (Here (λ first. Then (λ x. is_same x s.Output ≡ true) (λ line. Then (λ x. x ≡ s.LeftParen) (λ o. WithExpression 13 (λ a.
+output_is : (n : ℕ) →
+    Within (Here (λ first. Then (λ x. is_same x s.Output ≡ true) (λ line. Then (λ x. x ≡ s.LeftParen) (λ o. WithExpression 13 (λ a.
     Then (λ x. x ≡ s.RightParen) (λ c. ANode first line (e.Output a))))))) (AnExpression n)
 unfolding spelled IsAt expression_tree
 output_is n at a u x k =
@@ -95,7 +97,7 @@ lawful_identifier n m c named ends = keeps_within c (suc n) _ _ _ _ (identifier_
     (keeps_take c ends (suc n)) (λ t. lawful_finish n first t.line (e.Word (name_in t.kind))) (take_shrinks n)))
 
 -- a number or a character
-constant_is : (m : ℕ) (c : Sort → Type 0) → ((x : Sort) → c x → IsConstant x)
+constant_is : (m : ℕ) (c : Sort → Type 0) → ((x : Sort) → c x → IsConstantSymbol x)
     → Within (Here (λ first. Seq (AToken c) (λ t. ANode first t.line (e.Num (value_in t.kind) (is_unsigned_constant t.kind))))) (AnExpression m)
 unfolding spelled IsAt expression_tree
 constant_is m c named at a u x y = record {
@@ -106,7 +108,7 @@ constant_is m c named at a u x y = record {
       (ap (λ v. at + length v) y.first.is);
 }
 
-lawful_constant : (n m : ℕ) (c : Sort → Type 0) → ((x : Sort) → c x → IsConstant x) → (c s.End → ⊥)
+lawful_constant : (n m : ℕ) (c : Sort → Type 0) → ((x : Sort) → c x → IsConstantSymbol x) → (c s.End → ⊥)
     → Keeps c (suc n) (AnExpression m) r.constant r.constant
 unfolding r.constant
 lawful_constant n m c named ends = keeps_within c (suc n) _ _ _ _ (constant_is m c named)
@@ -151,7 +153,8 @@ primary_is_tests p s.Output = refl
 primary_is_tests p _ = refl
 
 -- the laws of readers that give the same outcomes
-pub lawful_equal : {A : Type 0} (n : ℕ) (L : Language A) (p q p' q' : Parser A) → ((i : Position) → p i ≡ p' i) → ((i : Position) → q i ≡ q' i)
+pub lawful_equal : {A : Type 0} (n : ℕ) (L : Language A) (p q p' q' : Parser A) → ((i : Position) → p i ≡ p' i) →
+    ((i : Position) → q i ≡ q' i)
     → Lawful n L p' q' → Lawful n L p q
 lawful_equal n L p q p' q' left right l = record {
   settled = λ i short. left i ∙ (l.settled i short ∙ sym (right i));
@@ -160,7 +163,8 @@ lawful_equal n L p q p' q' left right l = record {
   can = l.can;
 }
 
-pub lawful_primary : (n m : ℕ) (p q : Parser Expr) → Lawful n (AnExpression 13) p q → Lawful (suc n) (AnExpression m) (r.primary p) (r.primary q)
+pub lawful_primary : (n m : ℕ) (p q : Parser Expr) → Lawful n (AnExpression 13) p q →
+    Lawful (suc n) (AnExpression m) (r.primary p) (r.primary q)
 unfolding r.primary primary_tests
 lawful_primary n m p q l = lawful_equal (suc n) (AnExpression m) _ _ (λ i. primary_tests p (next_sort i) i) (λ i. primary_tests q (next_sort i) i)
     (λ i. ap (λ f. f i) (primary_is_tests p (next_sort i))) (λ i. ap (λ f. f i) (primary_is_tests q (next_sort i)))

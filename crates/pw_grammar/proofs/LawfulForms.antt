@@ -83,7 +83,8 @@ block_is at a u x o =
       closed = λ e. absurd cc;
     }
 
-pub lawful_block : (m n : ℕ) → n ≤ m → (p q : Parser Expr) (v w : Parser Stmt) → Lawful n (AnExpression 13) p q → Lawful n (AStatement false) v w
+pub lawful_block : (m n : ℕ) → n ≤ m → (p q : Parser Expr) (v w : Parser Stmt) → Lawful n (AnExpression 13) p q →
+    Lawful n (AStatement false) v w
     → Form s.LeftBrace (suc n) (r.block p v m) (r.block q w (suc m))
 unfolding r.block
 lawful_block m n small p q v w l h = keeps_within (Is s.LeftBrace) (suc n) _ AForm _ _ block_is
@@ -115,7 +116,8 @@ else_goes_on : (at : ℕ) → GoesOn AnElse at []
 else_goes_on at = record { rest = []; value = None; reads = λ x o. (refl, o); starts = λ e x o. o }
 
 -- what a last statement is before
-pub before_end : (v : List Token) (x : Sort) (c : StatementDerivation) → v ≡ [] → (open_ended c ≡ true → sort_before v x ≢ s.Else) → open_ended c ≡ true → x ≢ s.Else
+pub before_end : (v : List Token) (x : Sort) (c : StatementDerivation) → v ≡ [] →
+    (open_ended c ≡ true → sort_before v x ≢ s.Else) → open_ended c ≡ true → x ≢ s.Else
 before_end v x c e closed is = subst (λ v. sort_before v x ≢ s.Else) e (closed is)
 
 pub last_spells : (u v w : List Token) → u ≡ v ++ w → w ≡ [] → u ≡ v
@@ -199,7 +201,8 @@ conditional_is at kind u x t =
     (subst (λ v. AnElse (after_test at a.phrase + length (spelled_statement y.phrase)) n.value n.front (sort_before v x)) n.second.empty n.first)
     n.second.is
 
-pub lawful_conditional : (n : ℕ) (p q : Parser Expr) (v w : Parser Stmt) → Lawful n (AnExpression 13) p q → Lawful n (AStatement false) v w
+pub lawful_conditional : (n : ℕ) (p q : Parser Expr) (v w : Parser Stmt) → Lawful n (AnExpression 13) p q →
+    Lawful n (AStatement false) v w
     → Form s.If (suc n) (r.conditional p v) (r.conditional q w)
 unfolding r.conditional
 lawful_conditional n p q v w l h = keeps_within (Is s.If) (suc n) _ AForm _ _ conditional_is
@@ -221,7 +224,8 @@ while_is at kind u x t =
       closed = before_end y.behind x y.phrase y.second.empty y.closed;
     }
 
-pub lawful_while : (n : ℕ) (p q : Parser Expr) (v w : Parser Stmt) → Lawful n (AnExpression 13) p q → Lawful n (AStatement false) v w
+pub lawful_while : (n : ℕ) (p q : Parser Expr) (v w : Parser Stmt) → Lawful n (AnExpression 13) p q →
+    Lawful n (AStatement false) v w
     → Form s.While (suc n) (r.while_loop p v) (r.while_loop q w)
 unfolding r.while_loop
 lawful_while n p q v w l h = keeps_within (Is s.While) (suc n) _ AForm _ _ while_is
@@ -244,7 +248,8 @@ do_is at kind u x t =
       closed = λ e. absurd cc;
     }
 
-pub lawful_do : (n : ℕ) (p q : Parser Expr) (v w : Parser Stmt) → Lawful n (AnExpression 13) p q → Lawful n (AStatement false) v w
+pub lawful_do : (n : ℕ) (p q : Parser Expr) (v w : Parser Stmt) → Lawful n (AnExpression 13) p q →
+    Lawful n (AStatement false) v w
     → Form s.Do (suc n) (r.do_loop p v) (r.do_loop q w)
 unfolding r.do_loop
 lawful_do n p q v w l h = keeps_within (Is s.Do) (suc n) _ AForm _ _ do_is
@@ -273,7 +278,8 @@ for_is at kind u x t =
       closed = before_end y.behind x y.phrase y.second.empty y.closed;
     }
 
-pub lawful_for : (n : ℕ) (p q : Parser Expr) (v w : Parser Stmt) → Lawful n (AnExpression 13) p q → Lawful n (AStatement false) v w
+pub lawful_for : (n : ℕ) (p q : Parser Expr) (v w : Parser Stmt) → Lawful n (AnExpression 13) p q →
+    Lawful n (AStatement false) v w
     → Form s.For (suc n) (r.for_loop p v) (r.for_loop q w)
 unfolding r.for_loop
 lawful_for n p q v w l h = keeps_within (Is s.For) (suc n) _ AForm _ _ for_is
@@ -306,7 +312,8 @@ lawful_leave n p q l = keeps_within (Is s.Return) (suc n) _ AForm _ _ leave_is
     (keeps_then (Is s.Return) n _ _ _ (no_end s.Return (λ z. cc)) (λ o. lawful_with_phrase n IsMaybe spelled_maybe tree_of_maybe _ _ _ _ _
     (lawful_maybe n s.Semicolon p q l) (λ a. lawful_then n s.Semicolon _ _ _ semicolon (λ e. lawful_pure n (k.Return a)))))
 
-jump_is : (z : Sort) → (z ≡ s.Break) ⊎ (z ≡ s.Continue) → Within (Then (Is z) (λ o. Then (λ x. x ≡ s.Semicolon) (λ e. Pure (jump_of z)))) AForm
+jump_is : (z : Sort) → (z ≡ s.Break) ⊎ (z ≡ s.Continue) →
+    Within (Then (Is z) (λ o. Then (λ x. x ≡ s.Semicolon) (λ e. Pure (jump_of z)))) AForm
 unfolding spelled_statement IsStatement open_ended kind_of
 jump_is z which at kind u x t =
     let e = t.second in
@@ -319,7 +326,8 @@ jump_is z which at kind u x t =
       closed = λ e. absurd cc;
     }
 
-pub lawful_jump : (n : ℕ) (z : Sort) → (z ≡ s.Break) ⊎ (z ≡ s.Continue) → s.End ≢ z → Form z (suc n) (r.jump (jump_of z)) (r.jump (jump_of z))
+pub lawful_jump : (n : ℕ) (z : Sort) → (z ≡ s.Break) ⊎ (z ≡ s.Continue) → s.End ≢ z →
+    Form z (suc n) (r.jump (jump_of z)) (r.jump (jump_of z))
 unfolding r.jump
 lawful_jump n z which other = keeps_within (Is z) (suc n) _ AForm _ _ (jump_is z which)
     (keeps_then (Is z) n _ _ _ (no_end z other) (λ o. lawful_then n s.Semicolon _ _ _ semicolon (λ e. lawful_pure n (jump_of z))))
@@ -336,7 +344,8 @@ evaluated_is at kind u x y =
       closed = λ e. absurd cc;
     }
 
-pub lawful_evaluated : (n : ℕ) (p q : Parser Expr) → Lawful n (AnExpression 13) p q → Lawful n AForm (r.evaluated p) (r.evaluated q)
+pub lawful_evaluated : (n : ℕ) (p q : Parser Expr) → Lawful n (AnExpression 13) p q →
+    Lawful n AForm (r.evaluated p) (r.evaluated q)
 unfolding r.evaluated
 lawful_evaluated n p q l = within evaluated_is (lawful_with_phrase n IsSimple spelled_simple kind_of_simple _ _ _ _ _ (lawful_simple n p q l)
     (λ a. lawful_then n s.Semicolon _ _ _ semicolon (λ e. lawful_pure n a)))

@@ -47,7 +47,8 @@ end_at ty ps at (bodied b body e) = d.Fun ty ps (trees_of_statements (suc at) bo
 abbrev AnEnd : Linkage → Ty → List Param → Language DeclKind
 AnEnd linkage ty ps = APhrase (IsEnd linkage ps) spelled_end (end_at ty ps)
 
-closed_is : (linkage : Linkage) (ty : Ty) (ps : List Param) → Within (Then (λ x. x ≡ s.Semicolon) (λ e. Pure (d.Proto ty ps))) (AnEnd linkage ty ps)
+closed_is : (linkage : Linkage) (ty : Ty) (ps : List Param) →
+    Within (Then (λ x. x ≡ s.Semicolon) (λ e. Pure (d.Proto ty ps))) (AnEnd linkage ty ps)
 closed_is linkage ty ps at a u x e = record
     { phrase = closed e.token; is = e.sort_is; spells = e.splits ∙ ap (λ v. e.token ∷ v) e.second.empty; value_is = e.second.is }
 
@@ -72,11 +73,13 @@ end_goes_on linkage ty ps at = record {
   starts = λ e x o. subst (λ z. z ≢ s.Else) (sym semicolon.sort_is) semicolon.no_else;
 }
 
-lawful_prototype : (n : ℕ) (linkage : Linkage) (ty : Ty) (ps : List Param) → Lawful n (AnEnd linkage ty ps) (r.prototype ty ps) (r.prototype ty ps)
+lawful_prototype : (n : ℕ) (linkage : Linkage) (ty : Ty) (ps : List Param) →
+    Lawful n (AnEnd linkage ty ps) (r.prototype ty ps) (r.prototype ty ps)
 unfolding r.prototype
 lawful_prototype n linkage ty ps = within (closed_is linkage ty ps) (lawful_then n s.Semicolon _ _ _ semicolon (λ e. lawful_pure n (d.Proto ty ps)))
 
-lawful_body : (m n : ℕ) → n ≤ m → (p q : Parser Expr) (v w : Parser Stmt) → Lawful n (AnExpression 13) p q → Lawful n (AStatement false) v w
+lawful_body : (m n : ℕ) → n ≤ m → (p q : Parser Expr) (v w : Parser Stmt) → Lawful n (AnExpression 13) p q →
+    Lawful n (AStatement false) v w
     → (linkage : Linkage) (ty : Ty) (ps : List Param) → r.may_define linkage ps ≡ true
     → Lawful n (AnEnd linkage ty ps) (r.body p v m ty ps) (r.body q w (suc m) ty ps)
 unfolding r.body
@@ -85,7 +88,8 @@ lawful_body m n small p q v w l h linkage ty ps may = within (bodied_is linkage 
     (λ ys. lawful_then n s.RightBrace _ _ _ right_brace (λ c. lawful_pure n (d.Fun ty ps ys)))))
 
 -- where a body is read, there may be one
-keeps_body : (m n : ℕ) → n ≤ m → (p q : Parser Expr) (v w : Parser Stmt) → Lawful n (AnExpression 13) p q → Lawful n (AStatement false) v w
+keeps_body : (m n : ℕ) → n ≤ m → (p q : Parser Expr) (v w : Parser Stmt) → Lawful n (AnExpression 13) p q →
+    Lawful n (AStatement false) v w
     → (linkage : Linkage) (ty : Ty) (ps : List Param) (may : Bool) → r.may_define linkage ps ≡ may
     → Keeps (λ x. (is_same x s.Semicolon || not may) ≡ false) n (AnEnd linkage ty ps) (r.body p v m ty ps) (r.body q w (suc m) ty ps)
 keeps_body m n small p q v w l h linkage ty ps true may =
@@ -100,7 +104,8 @@ keeps_body m n small p q v w l h linkage ty ps false may = record {
     never true e = cc
     never false e = cc
 
-lawful_end : (m n : ℕ) → n ≤ m → (p q : Parser Expr) (v w : Parser Stmt) → Lawful n (AnExpression 13) p q → Lawful n (AStatement false) v w
+lawful_end : (m n : ℕ) → n ≤ m → (p q : Parser Expr) (v w : Parser Stmt) → Lawful n (AnExpression 13) p q →
+    Lawful n (AStatement false) v w
     → (linkage : Linkage) (ty : Ty) (ps : List Param)
     → Lawful n (AnEnd linkage ty ps) (r.function_end p v m linkage ty ps) (r.function_end q w (suc m) linkage ty ps)
 unfolding r.function_end sees
@@ -131,7 +136,8 @@ record Defines (linkage : Linkage) (ps : g.ParametersDerivation) : Type 0 where
   not_extern : r.is_extern linkage ≡ false
   names : g.AllHaveNames ps
 
-defines : (linkage : Linkage) (at : ℕ) (ps : g.ParametersDerivation) → r.may_define linkage (g.parameters_of at ps) ≡ true → Defines linkage ps
+defines : (linkage : Linkage) (at : ℕ) (ps : g.ParametersDerivation) → r.may_define linkage (g.parameters_of at ps) ≡ true →
+    Defines linkage ps
 unfolding r.may_define
 defines linkage at ps e =
     let b = and_parts (not (r.is_extern linkage)) (list_all r.is_named (g.parameters_of at ps)) e in
@@ -179,7 +185,8 @@ function_by linkage ty at a u o ps c (bodied b body e) o_is ps_are c_is z_is f y
       value_is = y;
     }
 
-function_is : (linkage : Linkage) (ty : Ty) → Within (Then (Is s.LeftParen) (λ o. WithPhrase g.AreParameters g.spelled_parameters g.parameters_of (λ ps. Here (λ at.
+function_is : (linkage : Linkage) (ty : Ty) →
+    Within (Then (Is s.LeftParen) (λ o. WithPhrase g.AreParameters g.spelled_parameters g.parameters_of (λ ps. Here (λ at.
     Then (λ x. x ≡ s.RightParen) (λ c. WithPhrase (IsEnd linkage ps) spelled_end (end_at ty ps) (λ kind. Pure (at, kind))))))) (AFunction linkage ty)
 function_is linkage ty at a u x o =
     let ps = o.second in
@@ -204,7 +211,8 @@ function_goes_on linkage ty at = record {
   starts = λ e x o. subst (λ z. z ≢ s.Else) (sym left_paren.sort_is) left_paren.no_else;
 }
 
-pub lawful_function : (m n : ℕ) → n ≤ m → (p q : Parser Expr) (v w : Parser Stmt) → Lawful n (AnExpression 13) p q → Lawful n (AStatement false) v w
+pub lawful_function : (m n : ℕ) → n ≤ m → (p q : Parser Expr) (v w : Parser Stmt) → Lawful n (AnExpression 13) p q →
+    Lawful n (AStatement false) v w
     → (linkage : Linkage) (ty : Ty)
     → Keeps (Is s.LeftParen) n (AFunction linkage ty) (r.function p v m linkage ty) (r.function q w (suc m) linkage ty)
 unfolding r.function

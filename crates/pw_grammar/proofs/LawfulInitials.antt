@@ -5,7 +5,7 @@ use Rattle.std.specs.Bool.{⊤}
 use Rattle.pw_grammar.specs.declared.sort.Sort.{Sort}
 use Rattle.pw_grammar.specs.declared.sort.Sort.TheVariants as s
 use Rattle.pw_grammar.specs.Terminals.{sort, is_same}
-use Rattle.pw_grammar.specs.Expressions.{value_in, IsConstant}
+use Rattle.pw_grammar.specs.Expressions.{value_in, IsConstantSymbol}
 use Rattle.pw_grammar.specs.Statements.{first_line}
 use Rattle.pw_grammar.specs.Declarations as g
 use Rattle.pw_grammar.specs.Reading.Steps.{sees, either}
@@ -27,12 +27,12 @@ abbrev pub value_of : Token → ℕ
 value_of t = value_in t.kind
 
 abbrev AConstant : Language ℕ
-AConstant = OneOf IsConstant value_of
+AConstant = OneOf IsConstantSymbol value_of
 
-constant_is : (x : Sort) → (is_same x s.Number || is_same x s.Character) ≡ true → IsConstant x
+constant_is : (x : Sort) → (is_same x s.Number || is_same x s.Character) ≡ true → IsConstantSymbol x
 constant_is x e = by_test (is_same x s.Number) refl e
   where
-    by_test : (b : Bool) → is_same x s.Number ≡ b → (b || is_same x s.Character) ≡ true → IsConstant x
+    by_test : (b : Bool) → is_same x s.Number ≡ b → (b || is_same x s.Character) ≡ true → IsConstantSymbol x
     by_test true f e = inl (same_sorts x s.Number f)
     by_test false f e = inr (same_sorts x s.Character e)
 
@@ -50,7 +50,7 @@ constant_goes_on at = record {
 
 lawful_constant : (n : ℕ) → Lawful n AConstant r.constant_value r.constant_value
 unfolding r.constant_value sees
-lawful_constant n = lawful_one_of n (λ x. is_same x s.Number || is_same x s.Character) IsConstant value_of constant_is end_is_no_constant constant_goes_on
+lawful_constant n = lawful_one_of n (λ x. is_same x s.Number || is_same x s.Character) IsConstantSymbol value_of constant_is end_is_no_constant constant_goes_on
 
 -- ---- elements
 
@@ -65,7 +65,7 @@ word_is at a u x y = record
     { phrase = g.ElementDerivation.word y.token; is = y.sort_is; spells = y.splits ∙ ap (λ v. y.token ∷ v) y.second.empty; value_is = y.second.is }
 
 abbrev WithConstant : (ℕ → Language InitKind) → Language InitKind
-WithConstant M = WithPhrase (λ (t : Token). IsConstant (sort t)) (λ t. t ∷ []) (λ at t. value_of t) M
+WithConstant M = WithPhrase (λ (t : Token). IsConstantSymbol (sort t)) (λ t. t ∷ []) (λ at t. value_of t) M
 
 positive_is : Within (WithConstant (λ n. Pure (i.Num n))) AKind
 positive_is at a u x y = record
@@ -89,7 +89,8 @@ kind_goes_on at = record {
   starts = λ e x o. number_starts x;
 }
 
-lawful_signed : (n : ℕ) → Lawful n AKind (either s.Minus r.element_negative r.element_positive) (either s.Minus r.element_negative r.element_positive)
+lawful_signed : (n : ℕ) →
+    Lawful n AKind (either s.Minus r.element_negative r.element_positive) (either s.Minus r.element_negative r.element_positive)
 unfolding r.element_negative r.element_positive sees
 lawful_signed n = lawful_test (λ x. is_same x s.Minus) n AKind _ _ _ _
     (keeps_within (Is s.Minus) n _ AKind _ _ negative_is (keeps_then_fewer (Is s.Minus) n _ _ _ (no_end s.Minus (λ z. cc))
@@ -112,7 +113,8 @@ record IsItem (first line : ℕ) (kind : InitKind) (at : ℕ) (a : InitItem) (u 
 abbrev AnItem : ℕ → ℕ → InitKind → Language InitItem
 AnItem first line kind = λ at a u x. IsItem first line kind at a u
 
-lawful_finish_element : (n first line : ℕ) (kind : InitKind) → Lawful n (AnItem first line kind) (r.finish_element first line kind) (r.finish_element first line kind)
+lawful_finish_element : (n first line : ℕ) (kind : InitKind) →
+    Lawful n (AnItem first line kind) (r.finish_element first line kind) (r.finish_element first line kind)
 lawful_finish_element n first line kind = record {
   settled = λ i short. refl;
   says = λ i. record { tokens = []; leads = leads_nowhere i; reads = record { is = refl; empty = refl } };
@@ -186,7 +188,8 @@ items_of_next found at (Some p) = found ++ g.element_of at p.0 ∷ g.more_elemen
 abbrev ANext : List InitItem → Language (List InitItem)
 ANext found = APhrase IsNext spelled_next (items_of_next found)
 
-some_next_is : (found : List InitItem) → Within (WithPhrase g.IsElement g.spelled_element g.element_of (λ x. MoreItems (found ++ x ∷ []))) (ANext found)
+some_next_is : (found : List InitItem) →
+    Within (WithPhrase g.IsElement g.spelled_element g.element_of (λ x. MoreItems (found ++ x ∷ []))) (ANext found)
 some_next_is found at a u x y = record {
   phrase = Some (y.phrase, y.second.phrase);
   is = (y.is, y.second.is);
@@ -198,7 +201,8 @@ next_goes_on : (found : List InitItem) (at : ℕ) → GoesOn (ANext found) at []
 next_goes_on found at = record
     { rest = []; value = found; reads = λ x o. record { phrase = None; is = tt; spells = refl; value_is = refl }; starts = λ e x o. o }
 
-comma_by : (found : List InitItem) (at : ℕ) (a : List InitItem) (u : List Token) (o : Token) (next : Next) → sort o ≡ s.Comma → IsNext next
+comma_by : (found : List InitItem) (at : ℕ) (a : List InitItem) (u : List Token) (o : Token) (next : Next) → sort o ≡ s.Comma →
+    IsNext next
     → u ≡ o ∷ spelled_next next → a ≡ items_of_next found (suc at) next
     → Phrased g.AreMoreElements g.spelled_more_elements (λ at xs. found ++ g.more_elements_of at xs) at a u
 unfolding g.spelled_more_elements g.AreMoreElements g.more_elements_of
@@ -214,7 +218,8 @@ more_go_on : (found : List InitItem) (at : ℕ) → GoesOn (MoreItems found) at 
 more_go_on found at = record
     { rest = []; value = found; reads = λ x o. no_more found at found [] x (record { is = refl; empty = refl }); starts = λ e x o. o }
 
-pub lawful_items : (m n : ℕ) → n ≤ m → (found : List InitItem) → Lawful n (MoreItems found) (r.more_initials m found) (r.more_initials (suc m) found)
+pub lawful_items : (m n : ℕ) → n ≤ m → (found : List InitItem) →
+    Lawful n (MoreItems found) (r.more_initials m found) (r.more_initials (suc m) found)
 unfolding r.more_initials sees
 lawful_items zero n small found =
     let none = within (no_more found) (lawful_pure n found) in

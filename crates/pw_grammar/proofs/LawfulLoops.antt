@@ -43,7 +43,8 @@ pub record WithStatement {B : Type 0} (declares : Bool) (M : Stmt → Language B
   pub closed : open_ended phrase ≡ true → sort_before behind x ≢ s.Else
   pub second : M (tree_of_statement at phrase) (at + length (spelled_statement phrase)) b behind x
 
-statement_then : {B : Type 0} (declares : Bool) (M : Stmt → Language B) → Within (Seq (AStatement declares) M) (WithStatement declares M)
+statement_then : {B : Type 0} (declares : Bool) (M : Stmt → Language B) →
+    Within (Seq (AStatement declares) M) (WithStatement declares M)
 statement_then declares M at b u x y = record {
   phrase = y.first.phrase;
   behind = y.back;
@@ -117,7 +118,8 @@ unfolding spelled_statement IsStatement open_ended kind_of
 local_in_block at a u x y = record
     { phrase = declare y.phrase; is = (refl, y.is); spells = y.spells; tree = y.value_is; closed = λ e. absurd cc }
 
-lawful_element : (n : ℕ) (p q : Parser Expr) (v w : Parser Stmt) → Lawful n (AnExpression 13) p q → Lawful n (AStatement false) v w
+lawful_element : (n : ℕ) (p q : Parser Expr) (v w : Parser Stmt) → Lawful n (AnExpression 13) p q →
+    Lawful n (AStatement false) v w
     → Lawful n (AStatement true) (r.element p v) (r.element q w)
 unfolding r.element
 lawful_element n p q v w l k = lawful_test r.begins_type n (AStatement true) _ _ _ _
@@ -147,7 +149,8 @@ elements_go_on found at = record
     { rest = []; value = found; reads = λ x o. no_more found at found [] x (record { is = refl; empty = refl }); starts = λ e x o. o }
 
 -- m turns, where fewer than m tokens are left
-pub lawful_elements : (m n : ℕ) → n ≤ m → (p q : Parser Expr) (v w : Parser Stmt) → Lawful n (AnExpression 13) p q → Lawful n (AStatement false) v w
+pub lawful_elements : (m n : ℕ) → n ≤ m → (p q : Parser Expr) (v w : Parser Stmt) → Lawful n (AnExpression 13) p q →
+    Lawful n (AStatement false) v w
     → (found : List Stmt) → Lawful n (Elements found) (r.elements p v m found) (r.elements q w (suc m) found)
 unfolding r.elements sees
 lawful_elements zero n small p q v w l k found =

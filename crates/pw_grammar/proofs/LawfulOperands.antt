@@ -6,7 +6,7 @@ use Rattle.pw_grammar.specs.declared.sort.Sort.TheVariants as s
 use Rattle.pw_grammar.specs.Terminals.{sort, sort_of, is_same}
 use Rattle.pw_grammar.specs.Expressions as g
 use Rattle.pw_grammar.specs.Expressions.{ExpressionDerivation, Arguments, More, spelled, spelled_arguments, spelled_more, IsAt, AreArguments, AreMore, expression_tree, argument_trees, more_argument_trees}
-use Rattle.pw_grammar.specs.Reading.Steps.{Position, ReadResult, Parser, and_then, ◌>>=◌, pure, sees, here, skip}
+use Rattle.pw_grammar.specs.Reading.Steps.{Position, ReadResult, Parser, read_then, ◌>>=◌, pure, sees, here, skip}
 use Rattle.pw_grammar.specs.Reading.Expressions as r
 use Rattle.pw_grammar.proofs.Lawful.{Language, GoesOn, Says, Lawful, Within, Lax, within, Seq, bind, Leaves, leaves_fewer, Pure, lawful_pure}
 use Rattle.pw_grammar.proofs.Branches.{Keeps, keeps, keeps_pure, lawful_test, keeps_within, keeps_bind_from, same_sorts}
@@ -39,7 +39,7 @@ lawful_none n L p p' q l = record {
 }
 
 leaves_both : {A B : Type 0} (n : ℕ) (M : A → Language B) (f : A → Parser B) → ((a : A) (j : Position) → Says (M a) j (f a j))
-    → (o : ReadResult A) → Leaves n o → Leaves n (and_then o f)
+    → (o : ReadResult A) → Leaves n o → Leaves n (read_then o f)
 leaves_both n M f says (Ok p) left = leaves_fewer (M p.0) p.1 n (f p.0 p.1) (says p.0 p.1) left
 leaves_both n M f says (Err e) left = tt
 
@@ -74,7 +74,8 @@ expression_looser m n less at a u x y = record { phrase = y.phrase; is = looser 
 
 -- behind any phrase of level m that begins at `first` and has the tree `left`, they make a phrase of level n
 pub record Onward (m n first : ℕ) (left : Expr) (at : ℕ) (a : Expr) (u : List Token) : Type 0 where
-  pub onward : (c : ExpressionDerivation) → IsAt m c → left ≡ expression_tree first c → at ≡ first + length (spelled c) → IsExpression n first a (spelled c ++ u)
+  pub onward : (c : ExpressionDerivation) → IsAt m c → left ≡ expression_tree first c → at ≡ first + length (spelled c) →
+      IsExpression n first a (spelled c ++ u)
 
 abbrev pub AnOnward : ℕ → ℕ → ℕ → Expr → Language Expr
 AnOnward m n first left = λ at a u x. Onward m n first left at a u
@@ -99,7 +100,8 @@ lawful_stays k m n first left less = within inside (lawful_pure k left)
         (subst (λ b. Onward m n first left at b []) (sym y.is) (onward_stays m n first left at less))
 
 -- once more
-pub onward_again : (k m n first : ℕ) (left : Expr) → Within (Seq (AnOnward k m first left) (λ a. AnOnward m n first a)) (AnOnward k n first left)
+pub onward_again : (k m n first : ℕ) (left : Expr) →
+    Within (Seq (AnOnward k m first left) (λ a. AnOnward m n first a)) (AnOnward k n first left)
 onward_again k m n first left at a u x y = record {
   onward = λ c is tree at_is.
       let d = y.first.onward c is tree at_is in
@@ -155,7 +157,8 @@ no_more found at = record { list = g.end; are = tt; spells = refl; trees = sym (
 more_goes_on : (found : List Expr) (at : ℕ) → GoesOn (SomeMore found) at []
 more_goes_on found at = record { rest = []; value = found; reads = λ x o. no_more found at; starts = λ e x o. o }
 
-one_more : (found : List Expr) → Within (Then (λ x. is_same x s.Comma ≡ true) (λ o. WithExpression 13 (λ a. SomeMore (found ++ a ∷ [])))) (SomeMore found)
+one_more : (found : List Expr) →
+    Within (Then (λ x. is_same x s.Comma ≡ true) (λ o. WithExpression 13 (λ a. SomeMore (found ++ a ∷ [])))) (SomeMore found)
 unfolding spelled_more AreMore more_argument_trees
 one_more found at a u x y =
     let b = y.second in

@@ -35,7 +35,8 @@ given_is z a C spell tree make is spells value at b u x y =
       value_is = y.second.is ∙ sym (value at y.token same);
     }
 
-pub keeps_given : {A : Type 0} (n : ℕ) (z : Sort) → s.End ≢ z → (a : A) {P : Type 0} (C : P → Type 0) (spell : P → List Token) (tree : ℕ → P → A) (make : Token → P)
+pub keeps_given : {A : Type 0} (n : ℕ) (z : Sort) → s.End ≢ z →
+    (a : A) {P : Type 0} (C : P → Type 0) (spell : P → List Token) (tree : ℕ → P → A) (make : Token → P)
     → ((t : Token) → sort t ≡ z → C (make t)) → ((t : Token) → spell (make t) ≡ t ∷ []) → ((at : ℕ) (t : Token) → sort t ≡ z → tree at (make t) ≡ a)
     → Keeps (Is z) n (APhrase C spell tree) (r.given a) (r.given a)
 unfolding r.given
@@ -54,7 +55,8 @@ storage_goes_on : (at : ℕ) → GoesOn AStorage at []
 storage_goes_on at = record
     { rest = []; value = linkage.Plain; reads = λ x o. record { phrase = None; is = tt; spells = refl; value_is = refl }; starts = λ e x o. o }
 
-lawful_static : (n : ℕ) → Lawful n AStorage (either s.Static (r.given linkage.Static) (pure linkage.Plain)) (either s.Static (r.given linkage.Static) (pure linkage.Plain))
+lawful_static : (n : ℕ) →
+    Lawful n AStorage (either s.Static (r.given linkage.Static) (pure linkage.Plain)) (either s.Static (r.given linkage.Static) (pure linkage.Plain))
 unfolding sees
 lawful_static n = lawful_test (λ x. is_same x s.Static) n AStorage _ _ _ _
     (keeps_given n s.Static (λ z. cc) linkage.Static g.IsStorage g.spelled_storage linkage_at (λ t. Some t) (λ t e. inr e) (λ t. refl) (λ at t e. ap g.linkage_by e))
@@ -124,7 +126,8 @@ record IsParam (first : ℕ) (ty : Ty) (x : Option (List ℕ)) (at : ℕ) (a : P
 abbrev AParam : ℕ → Ty → Option (List ℕ) → Language Param
 AParam first ty x = λ at a u y. IsParam first ty x at a u
 
-lawful_finish_parameter : (n first : ℕ) (ty : Ty) (x : Option (List ℕ)) → Lawful n (AParam first ty x) (r.finish_parameter first ty x) (r.finish_parameter first ty x)
+lawful_finish_parameter : (n first : ℕ) (ty : Ty) (x : Option (List ℕ)) →
+    Lawful n (AParam first ty x) (r.finish_parameter first ty x) (r.finish_parameter first ty x)
 lawful_finish_parameter n first ty x = record {
   settled = λ i short. refl;
   says = λ i. record { tokens = []; leads = leads_nowhere i; reads = record { is = refl; empty = refl } };
@@ -164,7 +167,8 @@ no_more : (found : List Param) → Within (Pure found) (More found)
 unfolding g.spelled_more_parameters g.AreMoreParameters g.more_parameters_of
 no_more found at a u x y = record { phrase = g.MoreParameters.end; is = tt; spells = y.empty; value_is = y.is ∙ sym (append-nil found) }
 
-one_more : (found : List Param) → Within (Then (Is s.Comma) (λ o. WithPhrase g.IsParameter g.spelled_parameter g.parameter_of (λ p. More (found ++ p ∷ [])))) (More found)
+one_more : (found : List Param) →
+    Within (Then (Is s.Comma) (λ o. WithPhrase g.IsParameter g.spelled_parameter g.parameter_of (λ p. More (found ++ p ∷ [])))) (More found)
 unfolding g.spelled_more_parameters g.AreMoreParameters g.more_parameters_of
 one_more found at a u x o =
     let y = o.second in
@@ -179,7 +183,8 @@ more_go_on : (found : List Param) (at : ℕ) → GoesOn (More found) at []
 more_go_on found at = record
     { rest = []; value = found; reads = λ x o. no_more found at found [] x (record { is = refl; empty = refl }); starts = λ e x o. o }
 
-lawful_more : (m n : ℕ) → n ≤ m → (found : List Param) → Lawful n (More found) (r.more_parameters m found) (r.more_parameters (suc m) found)
+lawful_more : (m n : ℕ) → n ≤ m → (found : List Param) →
+    Lawful n (More found) (r.more_parameters m found) (r.more_parameters (suc m) found)
 unfolding r.more_parameters sees
 lawful_more zero n small found =
     let none = within (no_more found) (lawful_pure n found) in

@@ -5,8 +5,8 @@ use Rattle.std.specs.Bool.{⊤}
 use Rattle.pw_grammar.specs.declared.sort.Sort.TheVariants as s
 use Rattle.pw_grammar.specs.Terminals.{prefix_of, sort}
 use Rattle.pw_grammar.specs.Expressions as g
-use Rattle.pw_grammar.specs.Expressions.{ExpressionDerivation, spelled, IsAt, expression_tree, IsPrefixOperator, prefix_or, prefix_in}
-use Rattle.pw_grammar.specs.Reading.Steps.{on_option, Position, ReadResult, Parser, and_then, ◌>>=◌, pure, next_sort, skip}
+use Rattle.pw_grammar.specs.Expressions.{ExpressionDerivation, spelled, IsAt, expression_tree, IsPrefixOperator, prefix_or, prefix_operator_in}
+use Rattle.pw_grammar.specs.Reading.Steps.{on_option, Position, ReadResult, Parser, read_then, ◌>>=◌, pure, next_sort, skip}
 use Rattle.pw_grammar.specs.Reading.Expressions as r
 use Rattle.pw_grammar.proofs.Lawful.{Language, GoesOn, Lawful, Within, within, Seq, bind, Pure, lawful_pure, leads_nowhere}
 use Rattle.pw_grammar.proofs.Branches.{keeps_pure, lawful_option, keeps_within}
@@ -22,7 +22,7 @@ use Rattle.pw_lex.specs.declared.token.Token.{Token}
 
 -- one reader instead of two, where the first answers an operator and its line
 pub then_option : {A U : Type 0} (o : ReadResult ℕ) (op : U) (stop : Parser A) (f : U × ℕ → Parser A)
-    → and_then (and_then o (λ line. pure (Some (op, line)))) (λ x. on_option x stop f) ≡ and_then o (λ line. f (op, line))
+    → read_then (read_then o (λ line. pure (Some (op, line)))) (λ x. on_option x stop f) ≡ read_then o (λ line. f (op, line))
 then_option (Ok p) op stop f = refl
 then_option (Err fault) op stop f = refl
 
@@ -35,7 +35,7 @@ ArePrefixes (t ∷ ts) = IsPrefixOperator (sort t) × ArePrefixes ts
 -- the operators that these tokens are, with their lines
 operators_in : List Token → List (Un × ℕ)
 operators_in [] = []
-operators_in (t ∷ ts) = (prefix_in t, t.line) ∷ operators_in ts
+operators_in (t ∷ ts) = (prefix_operator_in t, t.line) ∷ operators_in ts
 
 record HasOperators (found value : List (Un × ℕ)) (u : List Token) : Type 0 where
   are : ArePrefixes u
@@ -69,16 +69,18 @@ operators_at m found None = pure found
 operators_at m found (Some op) = skip >>= (λ line. r.operators m (found ++ (op, line) ∷ []))
 
 operators_by : (m : ℕ) (found : List (Un × ℕ)) (b : Option Un) (i : Position)
-    → and_then (r.prefix_by b i) (λ x. on_option x (pure found) (λ op. r.operators m (found ++ op ∷ []))) ≡ operators_at m found b i
+    → read_then (r.prefix_by b i) (λ x. on_option x (pure found) (λ op. r.operators m (found ++ op ∷ []))) ≡ operators_at m found b i
 unfolding operators_at
 operators_by m found None i = refl
 operators_by m found (Some op) i = then_option (skip i) op (pure found) (λ op. r.operators m (found ++ op ∷ []))
 
-operators_are : (m : ℕ) (found : List (Un × ℕ)) (i : Position) → r.operators (suc m) found i ≡ operators_at m found (prefix_of (next_sort i)) i
+operators_are : (m : ℕ) (found : List (Un × ℕ)) (i : Position) →
+    r.operators (suc m) found i ≡ operators_at m found (prefix_of (next_sort i)) i
 unfolding r.operators r.prefix_operator
 operators_are m found i = operators_by m found (prefix_of (next_sort i)) i
 
-lawful_operators : (m : ℕ) (found : List (Un × ℕ)) → Lawful m (SomeOperators found) (r.operators m found) (r.operators (suc m) found)
+lawful_operators : (m : ℕ) (found : List (Un × ℕ)) →
+    Lawful m (SomeOperators found) (r.operators m found) (r.operators (suc m) found)
 unfolding operators_at r.operators
 lawful_operators zero found = lawful_none 0 (SomeOperators found) _ (pure found) _ none_read
   where
@@ -128,7 +130,8 @@ unfolding prefixes spelled
 prefixes_spell [] c = refl
 prefixes_spell (t ∷ ts) c = ap (λ v. t ∷ v) (prefixes_spell ts c)
 
-count_prefixes : (at last : ℕ) (t : Token) (ts u v : List Token) → v ≡ ts ++ u → last ≡ at + length ((t ∷ ts) ++ u) - 1 → last ≡ at + length (t ∷ v) - 1
+count_prefixes : (at last : ℕ) (t : Token) (ts u v : List Token) → v ≡ ts ++ u → last ≡ at + length ((t ∷ ts) ++ u) - 1 →
+    last ≡ at + length (t ∷ v) - 1
 count_prefixes at last t ts u v e f = omega (arith, ap length e, f)
 
 prefixes_tree : (ts : List Token) (c : ExpressionDerivation) (at last : ℕ) → last ≡ at + length (ts ++ spelled c) - 1
@@ -136,9 +139,9 @@ prefixes_tree : (ts : List Token) (c : ExpressionDerivation) (at last : ℕ) →
 unfolding prefixes operators_in r.under_operators spelled expression_tree
 prefixes_tree [] c at last last_is = ap (λ n. expression_tree n c) (omega arith)
 prefixes_tree (t ∷ ts) c at last last_is =
-    ap (λ l. roll-Expr (record { first = at; last = l; line = t.line; kind = e.Unary (prefix_in t) (r.under_operators (suc at) last (operators_in ts) (expression_tree (at + suc (length ts)) c)) }))
+    ap (λ l. roll-Expr (record { first = at; last = l; line = t.line; kind = e.Unary (prefix_operator_in t) (r.under_operators (suc at) last (operators_in ts) (expression_tree (at + suc (length ts)) c)) }))
     (count_prefixes at last t ts (spelled c) (spelled (prefixes ts c)) (prefixes_spell ts c) last_is)
-    ∙ ap (λ a. roll-Expr (record { first = at; last = at + length (t ∷ spelled (prefixes ts c)) - 1; line = t.line; kind = e.Unary (prefix_in t) a }))
+    ∙ ap (λ a. roll-Expr (record { first = at; last = at + length (t ∷ spelled (prefixes ts c)) - 1; line = t.line; kind = e.Unary (prefix_operator_in t) a }))
     (ap (λ n. r.under_operators (suc at) last (operators_in ts) (expression_tree n c)) (omega arith) ∙ prefixes_tree ts c (suc at) last (omega (arith, last_is)))
 
 count_operand : (at : ℕ) (u v : List Token) → at + length u + length v - 1 ≡ at + length (u ++ v) - 1

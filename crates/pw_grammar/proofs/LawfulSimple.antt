@@ -42,7 +42,8 @@ AfterExpression first a at kind u x = Nothing (k.Eval a) kind u ⊎ SetTo first 
 after_goes_on : (first : ℕ) (a : Expr) (at : ℕ) → GoesOn (AfterExpression first a) at []
 after_goes_on first a at = record { rest = []; value = k.Eval a; reads = λ x o. inl (record { is = refl; empty = refl }); starts = λ e x o. o }
 
-lawful_assigned : (n first : ℕ) (a : Expr) (p q : Parser Expr) → Lawful n (AnExpression 13) p q → (to : Option (List ℕ × Option Expr)) → r.target first a ≡ to
+lawful_assigned : (n first : ℕ) (a : Expr) (p q : Parser Expr) → Lawful n (AnExpression 13) p q →
+    (to : Option (List ℕ × Option Expr)) → r.target first a ≡ to
     → Keeps (Is s.Assign) n (AfterExpression first a) (r.assigned p to) (r.assigned q to)
 lawful_assigned n first a p q l None e = keeps_refuse (Is s.Assign) n (AfterExpression first a) (after_goes_on first a)
 lawful_assigned n first a p q l (Some to) e =
@@ -67,7 +68,8 @@ record Sets (to : List ℕ × Option Expr) (at : ℕ) (kind : StmtKind) (v : Lis
   splits : v ≡ token ∷ spelled right
   kind_is : kind ≡ k.Set to.0 to.1 (expression_tree (suc at) right)
 
-sets : (first : ℕ) (a : Expr) (at : ℕ) (kind : StmtKind) (v : List Token) (x : Sort) (y : SetTo first a at kind v x) → Sets y.0 at kind v
+sets : (first : ℕ) (a : Expr) (at : ℕ) (kind : StmtKind) (v : List Token) (x : Sort) (y : SetTo first a at kind v x) →
+    Sets y.0 at kind v
 sets first a at kind v x y =
     let o = y.2 in
     let b = o.second in
@@ -80,7 +82,8 @@ sets first a at kind v x y =
       kind_is = b.second.is;
     }
 
-word_set : (at : ℕ) (kind : StmtKind) (u v : List Token) (c : ExpressionDerivation) (to : List ℕ × Option Expr) → IsWord c to → IsAt 13 c
+word_set : (at : ℕ) (kind : StmtKind) (u v : List Token) (c : ExpressionDerivation) (to : List ℕ × Option Expr) → IsWord c to →
+    IsAt 13 c
     → u ≡ spelled c ++ v → Sets to (at + length (spelled c)) kind v → Phrased IsSimple spelled_simple kind_of_simple at kind u
 unfolding spelled IsAt
 word_set at kind u v c to i is e y = record {
@@ -97,7 +100,8 @@ word_set at kind u v c to i is e y = record {
 after_element : (at n m : ℕ) → m ≡ n + 1 → suc (at + suc (suc m)) ≡ suc (suc (suc (suc at) + n))
 after_element at n m e = omega arith
 
-element_set : (at : ℕ) (kind : StmtKind) (u v : List Token) (c : ExpressionDerivation) (to : List ℕ × Option Expr) → IsElement at c to → IsAt 13 c
+element_set : (at : ℕ) (kind : StmtKind) (u v : List Token) (c : ExpressionDerivation) (to : List ℕ × Option Expr) →
+    IsElement at c to → IsAt 13 c
     → u ≡ spelled c ++ v → Sets to (at + length (spelled c)) kind v → Phrased IsSimple spelled_simple kind_of_simple at kind u
 unfolding spelled IsAt
 element_set at kind u v c to i is e y =
@@ -153,7 +157,8 @@ abbrev pub ASimpleStatement : Language Stmt
 ASimpleStatement = APhrase IsSimple spelled_simple (λ at c. statement_node at (spelled_simple c) (kind_of_simple at c))
 
 -- a node that was finished behind its own tokens v
-pub node_is : (at behind : ℕ) (kind kind' : StmtKind) (a : Stmt) (u v : List Token) → u ≡ v → behind ≡ at + length v → kind ≡ kind'
+pub node_is : (at behind : ℕ) (kind kind' : StmtKind) (a : Stmt) (u v : List Token) → u ≡ v → behind ≡ at + length v →
+    kind ≡ kind'
     → a ≡ roll-Stmt (record { first = at; last = behind - 1; line = first_line u; kind = kind }) → a ≡ statement_node at v kind'
 node_is at behind kind kind' a u v e f g y =
     y ∙ (ap (λ n. roll-Stmt (record { first = at; last = n - 1; line = first_line u; kind = kind })) f
@@ -270,7 +275,8 @@ value_goes_on : (at : ℕ) → GoesOn AValue at []
 value_goes_on at = record
     { rest = []; value = None; reads = λ x o. record { phrase = None; is = tt; spells = refl; value_is = refl }; starts = λ e x o. o }
 
-lawful_value : (n : ℕ) (p q : Parser Expr) → Lawful n (AnExpression 13) p q → Lawful n AValue (r.maybe_value p) (r.maybe_value q)
+lawful_value : (n : ℕ) (p q : Parser Expr) → Lawful n (AnExpression 13) p q →
+    Lawful n AValue (r.maybe_value p) (r.maybe_value q)
 unfolding r.maybe_value r.value sees
 lawful_value n p q l = lawful_test (λ x. is_same x s.Assign) n AValue _ _ _ _
     (keeps_fewer (Is s.Assign) n AValue _ _ (keeps_within (Is s.Assign) (suc n) _ AValue _ _ value_is
@@ -284,7 +290,8 @@ tree_of_local at l = statement_node at (spelled_local l) (kind_of_local at l)
 abbrev pub ALocal : Language Stmt
 ALocal = APhrase IsLocal spelled_local tree_of_local
 
-local_by : (at : ℕ) (a : Stmt) (u : List Token) (ty : TypeDerivation) (x e : Token) (v : Value) → IsType ty → sort x ≡ s.Name → IsValue v → sort e ≡ s.Semicolon
+local_by : (at : ℕ) (a : Stmt) (u : List Token) (ty : TypeDerivation) (x e : Token) (v : Value) → IsType ty → sort x ≡ s.Name →
+    IsValue v → sort e ≡ s.Semicolon
     → u ≡ spelled_type ty ++ x ∷ (spelled_value v ++ e ∷ [])
     → a ≡ roll-Stmt (record {
       first = at;

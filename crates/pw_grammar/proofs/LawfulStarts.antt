@@ -38,7 +38,8 @@ maybe_goes_on : (at : ℕ) → GoesOn AMaybe at []
 maybe_goes_on at = record
     { rest = []; value = None; reads = λ x o. record { phrase = None; is = tt; spells = refl; value_is = refl }; starts = λ e x o. o }
 
-pub lawful_maybe : (n : ℕ) (z : Sort) (p q : Parser Expr) → Lawful n (AnExpression 13) p q → Lawful n AMaybe (r.maybe_before z p) (r.maybe_before z q)
+pub lawful_maybe : (n : ℕ) (z : Sort) (p q : Parser Expr) → Lawful n (AnExpression 13) p q →
+    Lawful n AMaybe (r.maybe_before z p) (r.maybe_before z q)
 unfolding r.maybe_before r.some sees
 lawful_maybe n z p q l = lawful_test (λ x. is_same x z) n AMaybe _ _ _ _
     (keeps_pure (Is z) n AMaybe None (λ at x h. record { phrase = None; is = tt; spells = refl; value_is = refl }))

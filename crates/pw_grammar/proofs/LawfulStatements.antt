@@ -56,7 +56,8 @@ test_form : (z : Sort) (n : ℕ) (a b c d : Parser StmtKind) → Form z n a b �
 test_form z n a b c d first others = lawful_test (λ x. is_same x z) n AForm a b c d first
     (keeps (λ x. is_same x z ≡ false) n AForm c d others) form_goes_on
 
-lawful_form_if : (n : ℕ) (p q : Parser Expr) (v w : Parser Stmt) → Lawful (suc n) (AnExpression 13) p q → Lawful n (AStatement false) v w
+lawful_form_if : (n : ℕ) (p q : Parser Expr) (v w : Parser Stmt) → Lawful (suc n) (AnExpression 13) p q →
+    Lawful n (AStatement false) v w
     → Lawful (suc n) AForm (λ i. form_if p v (suc n) (next_sort i) i) (λ i. form_if q w (suc (suc n)) (next_sort i) i)
 lawful_form_if n p q v w l h =
     let f = fewer_than n (suc n) {L = AnExpression 13} {p = p} {q = q} (omega arith) l in
@@ -71,7 +72,8 @@ lawful_form_if n p q v w l h =
     (test_form s.Continue (suc n) _ _ _ _ (lawful_jump n s.Continue (inr refl) (λ z. cc))
     (lawful_evaluated (suc n) p q l)))))))))
 
-lawful_form : (n : ℕ) (p q : Parser Expr) (v w : Parser Stmt) → Lawful (suc n) (AnExpression 13) p q → Lawful n (AStatement false) v w
+lawful_form : (n : ℕ) (p q : Parser Expr) (v w : Parser Stmt) → Lawful (suc n) (AnExpression 13) p q →
+    Lawful n (AStatement false) v w
     → Lawful (suc n) AForm (r.form p v (suc n)) (r.form q w (suc (suc n)))
 unfolding r.form
 lawful_form n p q v w l h = lawful_equal (suc n) AForm _ _ _ _
@@ -132,7 +134,8 @@ statement_node_goes_on first at = record {
   starts = λ e x o. subst (λ z. z ≢ s.Else) (sym semicolon.sort_is) semicolon.no_else;
 }
 
-lawful_whole : (n : ℕ) (p q : Parser Expr) (v w : Parser Stmt) → Lawful (suc n) (AnExpression 13) p q → Lawful n (AStatement false) v w
+lawful_whole : (n : ℕ) (p q : Parser Expr) (v w : Parser Stmt) → Lawful (suc n) (AnExpression 13) p q →
+    Lawful n (AStatement false) v w
     → Lawful (suc n) (AStatement false) (r.whole p v (suc n)) (r.whole q w (suc (suc n)))
 unfolding r.whole
 lawful_whole n p q v w l h = within whole_is (lawful_from (suc n) _ _ _ (λ first. lawful_line (suc n) (λ line. StatementNode first line) _ _

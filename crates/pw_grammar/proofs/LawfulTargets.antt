@@ -3,7 +3,7 @@ use Rattle.std.proofs.Common.{◌≡◌, refl, sym, ◌∙◌, ap, ℕ, suc, ◌
 use Rattle.std.proofs.lemmas.Bool.{ne_eqb, eq-eqb}
 use Rattle.std.specs.Bool.{⊤}
 use Rattle.pw_grammar.specs.Expressions.{ExpressionDerivation, identifier, constant, bracketed, input, output, call, index, prefixed, binary, choice, spelled, expression_tree, name_in}
-use Rattle.pw_grammar.specs.Reading.Statements.{target, target_of, word_of, word_at, with_index}
+use Rattle.pw_grammar.specs.Reading.Statements.{target, target_of, word_of, unbracketed_word, with_index}
 use Rattle.pw_tree.specs.declared.expr.Expr.{Expr, out-Expr}
 use Rattle.pw_tree.specs.declared.expr.ExprKind.{ExprKind, out-ExprKind, out-roll-ExprKind}
 use Rattle.pw_tree.specs.declared.expr.ExprKind.TheOpen.{ExprKind-F}
@@ -62,7 +62,7 @@ begins_after at (choice c q a n b) = omega arith
 
 -- ---- what is no name
 
-no_word_at : (first at : ℕ) (k : ExprKind-F ExprKind Expr) → first < at → word_at first at k ≡ None
+no_word_at : (first at : ℕ) (k : ExprKind-F ExprKind Expr) → first < at → unbracketed_word first at k ≡ None
 no_word_at first at (ExprKind-F.Word x) later = ap (λ b. if b then Some x else None) (ne_eqb at first (λ e. omega arith))
 no_word_at first at _ later = refl
 
@@ -72,15 +72,16 @@ IsOther (ExprKind-F.Word x) = ⊥
 IsOther (ExprKind-F.Index a i) = ⊥
 IsOther _ = ⊤
 
-other_word : (first at : ℕ) (k : ExprKind-F ExprKind Expr) → IsOther k → word_at first at k ≡ None
+other_word : (first at : ℕ) (k : ExprKind-F ExprKind Expr) → IsOther k → unbracketed_word first at k ≡ None
 other_word first at (ExprKind-F.Word x) o = absurd o
 other_word first at (ExprKind-F.Index a i) o = refl
 other_word first at _ o = refl
 
 no_word : (first : ℕ) (a : Expr) (k : ExprKind-F ExprKind Expr) → form a ≡ k → IsOther k → word_of first a ≡ None
-no_word first a k e o = ap (λ k. word_at first (first_of a) k) e ∙ other_word first (first_of a) k o
+no_word first a k e o = ap (λ k. unbracketed_word first (first_of a) k) e ∙ other_word first (first_of a) k o
 
-other_target : (first : ℕ) (a : Expr) (k : ExprKind-F ExprKind Expr) → IsOther k → target_of first a k ≡ with_index None (word_of first a)
+other_target : (first : ℕ) (a : Expr) (k : ExprKind-F ExprKind Expr) → IsOther k →
+    target_of first a k ≡ with_index None (word_of first a)
 other_target first a (ExprKind-F.Word x) o = absurd o
 other_target first a (ExprKind-F.Index b i) o = absurd o
 other_target first a _ o = refl
@@ -90,7 +91,8 @@ unfolding target
 no_target first a k e o = ap (λ k. target_of first a k) e ∙ (other_target first a k o ∙ ap (with_index None) (no_word first a k e o))
 
 -- a tree that begins behind the token
-later_target_of : (first : ℕ) (a : Expr) (k : ExprKind-F ExprKind Expr) → first < first_of a → word_of first a ≡ None → target_of first a k ≡ None
+later_target_of : (first : ℕ) (a : Expr) (k : ExprKind-F ExprKind Expr) → first < first_of a → word_of first a ≡ None →
+    target_of first a k ≡ None
 later_target_of first a (ExprKind-F.Index b i) later w =
     ap (λ t. if t then with_index (Some i) (word_of first b) else None) (ne_eqb (first_of a) first (λ e. omega arith))
 later_target_of first a _ later w = ap (with_index None) w
@@ -108,7 +110,7 @@ record IsIdentifier (c : ExpressionDerivation) (x : List ℕ) : Type 0 where
 
 word_is : (at : ℕ) (t : Token) → word_of at (expression_tree at (identifier t)) ≡ Some (name_in t.kind)
 unfolding expression_tree
-word_is at t = ap (λ k. word_at at at k) (form_of_word (name_in t.kind)) ∙ ap (λ b. if b then Some (name_in t.kind) else None) (eq-eqb at at refl)
+word_is at t = ap (λ k. unbracketed_word at at k) (form_of_word (name_in t.kind)) ∙ ap (λ b. if b then Some (name_in t.kind) else None) (eq-eqb at at refl)
 
 no_some : {A : Type 0} (x : Option A) (a : A) → x ≡ None → x ≡ Some a → ⊥
 no_some x a e f = cc
@@ -121,7 +123,7 @@ word_phrase at (bracketed o a c) x e = absurd (no_some _ x (no_word_at at (first
 word_phrase at (input k o c) x e = absurd (no_some _ x (no_word at (expression_tree at (input k o c)) _ form_of_input tt) e)
 word_phrase at (output k o a c) x e = absurd (no_some _ x (no_word at (expression_tree at (output k o a c)) _ (form_of_output _) tt) e)
 word_phrase at (call f o xs c) x e = absurd (no_some _ x (no_word at (expression_tree at (call f o xs c)) _ (form_of_call _ _) tt) e)
-word_phrase at (index a o i c) x e = absurd (no_some _ x (ap (λ k. word_at at at k) (form_of_index _ _)) e)
+word_phrase at (index a o i c) x e = absurd (no_some _ x (ap (λ k. unbracketed_word at at k) (form_of_index _ _)) e)
 word_phrase at (prefixed t a) x e = absurd (no_some _ x (no_word at (expression_tree at (prefixed t a)) _ (form_of_unary _ _) tt) e)
 word_phrase at (binary a t b) x e = absurd (no_some _ x (no_word at (expression_tree at (binary a t b)) _ (form_of_binary _ _ _) tt) e)
 word_phrase at (choice c q a n b) x e = absurd (no_some _ x (no_word at (expression_tree at (choice c q a n b)) _ (form_of_cond _ _ _) tt) e)
@@ -158,7 +160,8 @@ element_number : (at : ℕ) (t : Token) → suc (at + length (spelled (identifie
 unfolding spelled
 element_number at t = omega arith
 
-element_phrase : (at : ℕ) (a i : ExpressionDerivation) (o c : Token) (to : List ℕ × Option Expr) (w : Option (List ℕ)) → word_of at (expression_tree at a) ≡ w
+element_phrase : (at : ℕ) (a i : ExpressionDerivation) (o c : Token) (to : List ℕ × Option Expr) (w : Option (List ℕ)) →
+    word_of at (expression_tree at a) ≡ w
     → with_index (Some (expression_tree (suc (at + length (spelled a))) i)) w ≡ Some to → IsTarget at (index a o i c) to
 element_phrase at a i o c to None w e = absurd cc
 element_phrase at a i o c to (Some x) w e =
@@ -177,7 +180,8 @@ element_phrase at a i o c to (Some x) w e =
     some_is : {A : Type 0} (a b : A) → Some a ≡ Some b → a ≡ b
     some_is a b e = cc
 
-pub target_phrase : (at : ℕ) (c : ExpressionDerivation) (to : List ℕ × Option Expr) → target at (expression_tree at c) ≡ Some to → IsTarget at c to
+pub target_phrase : (at : ℕ) (c : ExpressionDerivation) (to : List ℕ × Option Expr) →
+    target at (expression_tree at c) ≡ Some to → IsTarget at c to
 unfolding expression_tree
 target_phrase at (identifier t) to e = inl (record { token = t; is = refl; to_is = let w = word_target at t in cc })
 target_phrase at (constant t) to e = absurd (no_some _ to (no_target at (expression_tree at (constant t)) _ (form_of_num _ _) tt) e)

@@ -102,7 +102,8 @@ word_is ty at a u x y = record {
 end_is_no_type : (ty : Ty) → type_of_keyword s.End ≡ Some ty → ⊥
 end_is_no_type ty e = cc
 
-lawful_word : (n : ℕ) → Lawful n AType (λ i. r.type_by (type_of_keyword (next_sort i)) i) (λ i. r.type_by (type_of_keyword (next_sort i)) i)
+lawful_word : (n : ℕ) →
+    Lawful n AType (λ i. r.type_by (type_of_keyword (next_sort i)) i) (λ i. r.type_by (type_of_keyword (next_sort i)) i)
 lawful_word n = lawful_option type_of_keyword n AType r.type_by r.type_by
     (keeps_refuse (λ x. type_of_keyword x ≡ None) n AType long_is)
     (λ ty. keeps_fewer (λ x. type_of_keyword x ≡ Some ty) n AType _ _ (keeps_within (λ x. type_of_keyword x ≡ Some ty) (suc n) _ _ _ _ (word_is ty)

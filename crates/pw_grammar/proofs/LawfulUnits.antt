@@ -7,7 +7,7 @@ use Rattle.pw_grammar.specs.declared.sort.Sort.{Sort}
 use Rattle.pw_grammar.specs.declared.sort.Sort.TheVariants as s
 use Rattle.pw_grammar.specs.Terminals.{keyword_symbols, punctuator_symbols, sort, sort_of, first_sort, is_same}
 use Rattle.pw_grammar.specs.Declarations as g
-use Rattle.pw_grammar.specs.Reading.Steps.{Position, ReadResult, Parser, and_then, pure, refuse, sees, either}
+use Rattle.pw_grammar.specs.Reading.Steps.{Position, ReadResult, Parser, read_then, pure, refuse, sees, either}
 use Rattle.pw_grammar.specs.Reading.Expressions.{expression}
 use Rattle.pw_grammar.specs.Reading.Statements.{statement}
 use Rattle.pw_grammar.specs.Reading.Declarations as r
@@ -48,7 +48,8 @@ no_more : (found : List Decl) → Within (Pure found) (Declarations found)
 unfolding g.spelled_unit g.IsUnit g.trees_of_declarations
 no_more found at a u x y = record { phrase = []; is = tt; spells = y.empty; value_is = y.is ∙ sym (append-nil found) }
 
-one_more : (found : List Decl) → Within (WithPhrase g.IsDeclaration g.spelled_declaration g.tree_of_declaration (λ c. Declarations (found ++ c ∷ []))) (Declarations found)
+one_more : (found : List Decl) →
+    Within (WithPhrase g.IsDeclaration g.spelled_declaration g.tree_of_declaration (λ c. Declarations (found ++ c ∷ []))) (Declarations found)
 unfolding g.spelled_unit g.IsUnit g.trees_of_declarations
 one_more found at a u x y = record {
   phrase = y.phrase ∷ y.second.phrase;
@@ -104,7 +105,8 @@ lawful_at_end n cs = lawful_test (λ x. is_same x s.End) n (Pure cs) _ _ _ _
     (keeps_refuse (λ x. is_same x s.End ≡ false) n (Pure cs) (pure_goes_on cs))
     (pure_goes_on cs)
 
-lawful_all : (m n : ℕ) → n ≤ m → (p q : Parser Decl) → Lawful n ADeclaration p q → Lawful n AUnit (r.all_declarations p m) (r.all_declarations q (suc m))
+lawful_all : (m n : ℕ) → n ≤ m → (p q : Parser Decl) → Lawful n ADeclaration p q →
+    Lawful n AUnit (r.all_declarations p m) (r.all_declarations q (suc m))
 unfolding r.all_declarations
 lawful_all m n small p q l = within unit_is (lawful_with_phrase n g.IsUnit g.spelled_unit (λ at cs. [] ++ g.trees_of_declarations at cs) _ _ _ _ _
     (lawful_declarations m n small p q l []) (λ cs. lawful_at_end n cs))
@@ -151,14 +153,15 @@ place_or (Err e) i = i
 same_place : {A : Type 0} (a b : A) (i j : Position) → IsAt (Ok (a, i)) b j → i ≡ j
 same_place a b i j e = ap (λ o. place_or o i) e
 
-ended_by : (cs ds : List Decl) (i j : Position) (b : Bool) → sees s.End i ≡ b → (if b then pure cs i else refuse i) ≡ Ok (ds, j) → j.rest ≡ []
+ended_by : (cs ds : List Decl) (i j : Position) (b : Bool) → sees s.End i ≡ b →
+    (if b then pure cs i else refuse i) ≡ Ok (ds, j) → j.rest ≡ []
 unfolding sees
 ended_by cs ds i j true at_it e =
     ap (λ j. j.rest) (sym (same_place cs ds i j e)) ∙ at_end i.rest (same_sorts (first_sort i.rest) s.End at_it)
 ended_by cs ds i j false at_it e = absurd cc
 
 ended_both : (o : ReadResult (List Decl)) (ds : List Decl) (j : Position)
-    → and_then o (λ cs. either s.End (pure cs) refuse) ≡ Ok (ds, j) → j.rest ≡ []
+    → read_then o (λ cs. either s.End (pure cs) refuse) ≡ Ok (ds, j) → j.rest ≡ []
 ended_both (Ok p) ds j e = ended_by p.0 ds p.1 j (sees s.End p.1) refl e
 ended_both (Err f) ds j e = absurd cc
 

@@ -116,7 +116,8 @@ may_have_is linkage x e =
     let p = and_parts (is_same x s.Assign) (not (r.is_extern linkage)) e in
     (same_sorts x s.Assign p.0, not-true (r.is_extern linkage) p.1)
 
-single_is : (linkage : Linkage) → Within (Then (λ x. may_have linkage x ≡ true) (λ q. WithPhrase g.IsElement g.spelled_element g.element_of (λ x. Pure (Some (x ∷ [])))))
+single_is : (linkage : Linkage) →
+    Within (Then (λ x. may_have linkage x ≡ true) (λ q. WithPhrase g.IsElement g.spelled_element g.element_of (λ x. Pure (Some (x ∷ [])))))
     (AnInitial linkage None)
 single_is linkage at a u x q =
     let y = q.second in
@@ -128,7 +129,8 @@ single_is linkage at a u x q =
       value_is = y.second.is;
     }
 
-listed_is : (linkage : Linkage) (count : ℕ) → Within (Then (λ x. may_have linkage x ≡ true) (λ q. Then (λ x. x ≡ s.LeftBrace) (λ b.
+listed_is : (linkage : Linkage) (count : ℕ) →
+    Within (Then (λ x. may_have linkage x ≡ true) (λ q. Then (λ x. x ≡ s.LeftBrace) (λ b.
     WithPhrase g.IsElement g.spelled_element g.element_of (λ x. WithPhrase g.AreMoreElements g.spelled_more_elements (λ at xs. (x ∷ []) ++ g.more_elements_of at xs) (λ xs.
     Then (λ x. x ≡ s.RightBrace) (λ e. Pure (Some xs))))))) (AnInitial linkage (Some count))
 listed_is linkage count at a u x q =
@@ -230,7 +232,8 @@ variable_is linkage ty at a u x n =
     (n.splits ∙ ap (λ v. spelled_size n.phrase ++ v) (y.splits ∙ ap (λ v. spelled_initial y.phrase ++ v) (e.splits ∙ ap (λ v. e.token ∷ v) e.second.empty)))
     e.second.is
 
-pub lawful_variable : (m n : ℕ) → n ≤ m → (linkage : Linkage) (ty : Ty) → Lawful n (AVariable linkage ty) (r.variable m linkage ty) (r.variable (suc m) linkage ty)
+pub lawful_variable : (m n : ℕ) → n ≤ m → (linkage : Linkage) (ty : Ty) →
+    Lawful n (AVariable linkage ty) (r.variable m linkage ty) (r.variable (suc m) linkage ty)
 unfolding r.variable r.last_taken
 lawful_variable m n small linkage ty = within (variable_is linkage ty) (lawful_with_phrase n IsSize spelled_size count_at _ _ _ _ _ (lawful_size n)
     (λ count. lawful_from n _ _ _

@@ -1,3 +1,4 @@
+-- The modules of the proofs of this crate.
 pub mod Lawful
 pub mod Branches
 pub mod Tokens

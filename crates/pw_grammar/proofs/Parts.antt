@@ -61,7 +61,8 @@ pub record IsNode (first line : ℕ) (kind : ExprKind) (at : ℕ) (a : Expr) (u 
 abbrev pub ANode : ℕ → ℕ → ExprKind → Language Expr
 ANode first line kind = λ at a u x. IsNode first line kind at a u
 
-pub lawful_finish : (n first line : ℕ) (kind : ExprKind) → Lawful n (ANode first line kind) (finish first line kind) (finish first line kind)
+pub lawful_finish : (n first line : ℕ) (kind : ExprKind) →
+    Lawful n (ANode first line kind) (finish first line kind) (finish first line kind)
 lawful_finish n first line kind = record {
   settled = λ i short. refl;
   says = λ i. record { tokens = []; leads = leads_nowhere i; reads = record { is = refl; empty = refl } };

@@ -85,7 +85,8 @@ fewer_than m n {L} {p} {q} small l = record {
   can = l.can;
 }
 
-pub keeps_fewer : {A : Type 0} (c : Sort → Type 0) (n : ℕ) (L : Language A) (p q : Parser A) → Keeps c (suc n) L p q → Keeps c n L p q
+pub keeps_fewer : {A : Type 0} (c : Sort → Type 0) (n : ℕ) (L : Language A) (p q : Parser A) → Keeps c (suc n) L p q →
+    Keeps c n L p q
 keeps_fewer c n L p q l = record {
   settled = λ i h short. l.settled i h (let e : length i.rest < suc n = omega arith in e);
   says = l.says;
@@ -127,7 +128,8 @@ goes_on_lined M at (t ∷ u) ts more e can g = record {
   starts = g.starts;
 }
 
-says_lined : {B : Type 0} (M : ℕ → Language B) (i : Position) (o : ReadResult B) → Full (M (first_line i.rest)) → GoesOn (Lined M) i.at []
+says_lined : {B : Type 0} (M : ℕ → Language B) (i : Position) (o : ReadResult B) → Full (M (first_line i.rest)) →
+    GoesOn (Lined M) i.at []
     → Says (M (first_line i.rest)) i o → Says (Lined M) i o
 says_lined M i (Ok p) full can r = record {
   tokens = r.tokens;
@@ -150,7 +152,8 @@ lines_agree k i j same near = first_agrees same.shared i.rest j.rest same.more s
     first_agrees [] x y w z e f long = absurd (omega arith)
     first_agrees (t ∷ v) x y w z e f long = ap first_line f ∙ sym (ap first_line e)
 
-pub lawful_line : {B : Type 0} (n : ℕ) (M : ℕ → Language B) (f g : ℕ → Parser B) → ((line : ℕ) → Lawful n (M line) (f line) (g line))
+pub lawful_line : {B : Type 0} (n : ℕ) (M : ℕ → Language B) (f g : ℕ → Parser B) →
+    ((line : ℕ) → Lawful n (M line) (f line) (g line))
     → ((line : ℕ) → Full (M line)) → ((at : ℕ) → GoesOn (Lined M) at []) → Lawful n (Lined M) (line_here >>= f) (line_here >>= g)
 lawful_line n M f g l full can = record {
   settled = λ i short. (l (first_line i.rest)).settled i short;
@@ -162,7 +165,8 @@ lawful_line n M f g l full can = record {
     tells : (i : Position) → Says (Lined M) i (f (first_line i.rest) i)
     tells i = says_lined M i (f (first_line i.rest) i) (full (first_line i.rest)) (can i.at) ((l (first_line i.rest)).says i)
 
-    stays : (k : ℕ) (i j : Position) → Agree k i j → (i.at ≤ k) ⊎ (k < i.at) → Same k (f (first_line i.rest) i) (f (first_line j.rest) j)
+    stays : (k : ℕ) (i j : Position) → Agree k i j → (i.at ≤ k) ⊎ (k < i.at) →
+        Same k (f (first_line i.rest) i) (f (first_line j.rest) j)
     stays k i j same (inl near) =
         subst (λ line. Same k (f (first_line i.rest) i) (f line j)) (sym (lines_agree k i j same near)) ((l (first_line i.rest)).steady k i j same)
     stays k i j same (inr far) = same_passed (Lined M) i k _ _ (tells i) far
@@ -174,7 +178,8 @@ fewer_left n [] a b full e short = absurd (full refl)
 fewer_left n (t ∷ u) a b full e short = omega arith
 
 -- a reader of phrases that have tokens leaves fewer of them
-pub full_shrinks : {A : Type 0} (n : ℕ) (L : Language A) (p : Parser A) → Full L → ((i : Position) → Says L i (p i)) → Shrinks n (n - 1) p
+pub full_shrinks : {A : Type 0} (n : ℕ) (L : Language A) (p : Parser A) → Full L → ((i : Position) → Says L i (p i)) →
+    Shrinks n (n - 1) p
 full_shrinks {A} n L p full says = λ i short. leaves i (p i) (says i) short
   where
     leaves : (i : Position) (o : ReadResult A) → Says L i o → length i.rest < n → Leaves (n - 1) o
@@ -205,7 +210,8 @@ keeps_then_fewer c (suc n) M f g ends l = keeps_then c n M f g ends (λ line. fe
 abbrev pub OneOf : {A : Type 0} → (Sort → Type 0) → (Token → A) → Language A
 OneOf C f = APhrase (λ (t : Token). C (sort t)) (λ t. t ∷ []) (λ at t. f t)
 
-one_of_is : {A : Type 0} (c C : Sort → Type 0) (f : Token → A) → ((x : Sort) → c x → C x) → Within (Seq (AToken c) (λ t. Pure (f t))) (OneOf C f)
+one_of_is : {A : Type 0} (c C : Sort → Type 0) (f : Token → A) → ((x : Sort) → c x → C x) →
+    Within (Seq (AToken c) (λ t. Pure (f t))) (OneOf C f)
 one_of_is c C f implies at a u x r = record {
   phrase = r.value;
   is = implies (sort r.value) r.first.sort_is;
@@ -217,7 +223,8 @@ shrunk : (n : ℕ) (i : Position) → length i.rest < n → Leaves n (take i)
 unfolding take
 shrunk n i short = take_leaves n i.at i.rest short
 
-pub lawful_one_of : {A : Type 0} (n : ℕ) (t : Sort → Bool) (C : Sort → Type 0) (f : Token → A) → ((x : Sort) → t x ≡ true → C x) → (t s.End ≡ true → ⊥)
+pub lawful_one_of : {A : Type 0} (n : ℕ) (t : Sort → Bool) (C : Sort → Type 0) (f : Token → A) →
+    ((x : Sort) → t x ≡ true → C x) → (t s.End ≡ true → ⊥)
     → ((at : ℕ) → GoesOn (OneOf C f) at [])
     → Lawful n (OneOf C f) (λ i. if t (next_sort i) then (take >>= (λ t. pure (f t))) i else refuse i) (λ i. if t (next_sort i) then (take >>= (λ t. pure (f t))) i else refuse i)
 lawful_one_of n t C f implies ends can = lawful_test t n (OneOf C f) _ _ _ _

@@ -10,7 +10,8 @@ use Rattle.pw_tree.specs.Declarations.{declaration_of}
 use Rattle.pw_tree.specs.Placed.{IsDeclarationPlaced, AreDeclarationsPlaced}
 
 -- a declaration ends with its last token
-declaration_ends : (at : ℕ) (c : DeclarationDerivation) → suc (tree_of_declaration at c).last ≡ at + length (spelled_declaration c)
+declaration_ends : (at : ℕ) (c : DeclarationDerivation) →
+    suc (tree_of_declaration at c).last ≡ at + length (spelled_declaration c)
 declaration_ends at (prototype g r x o ps c e) = omega (arith, prototype_length g r x o ps c e)
 declaration_ends at (function g r x o ps c b body e) = omega (arith, function_length g r x o ps c b body e)
 declaration_ends at (variable g ty x v e) = omega (arith, variable_length g ty x v e)

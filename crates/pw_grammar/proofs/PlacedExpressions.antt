@@ -27,7 +27,8 @@ by_form {at} {count} e s = subst (λ x. Stands at count x) (sym e) s
 
 -- ---- each form, over the trees of its parts
 
-within : (at count : ℕ) (t : Token) (low high : ℕ) → 1 ≤ count → low ≤ at → at + count ≤ suc high → IsWithin low high (place at count t)
+within : (at count : ℕ) (t : Token) (low high : ℕ) → 1 ≤ count → low ≤ at → at + count ≤ suc high →
+    IsWithin low high (place at count t)
 within at count t low high full l h = record { from = l; some = omega arith; to = omega arith }
 
 -- a node stands among its tokens if its parts do
@@ -91,7 +92,8 @@ stands_index at m n count t a i e s r = stands_by at count t _ refl (omega (arit
       r.placed (suc (token_after a)) (at + count - 1) (omega (arith, s.to)) (omega (arith, e)),
     ))
 
-stands_call : (at m n count : ℕ) (t : Token) (f : tree.Expression) (xs : tree.Expressions) → count ≡ m + suc (n + 1) → Stands at m f
+stands_call : (at m n count : ℕ) (t : Token) (f : tree.Expression) (xs : tree.Expressions) → count ≡ m + suc (n + 1) →
+    Stands at m f
     → AllStand (suc (at + m)) n xs → Stands at count (tree.call (place at count t) f xs)
 unfolding IsPlaced
 stands_call at m n count t f xs e s r = stands_by at count t _ refl (omega (arith, e))
@@ -106,7 +108,8 @@ stand_none : (at : ℕ) → AllStand at 0 tree.nil
 unfolding ArePlaced
 stand_none at = record { placed = λ low high l h. tt }
 
-stand_both : (at m n count : ℕ) (a : tree.Expression) (xs : tree.Expressions) → count ≡ m + n → Stands at m a → AllStand (at + m) n xs
+stand_both : (at m n count : ℕ) (a : tree.Expression) (xs : tree.Expressions) → count ≡ m + n → Stands at m a →
+    AllStand (at + m) n xs
     → AllStand at count (tree.cons a xs)
 unfolding ArePlaced
 stand_both at m n count a xs e s r = record {

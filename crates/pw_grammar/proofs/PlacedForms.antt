@@ -49,11 +49,13 @@ a_maybe in_head at m count y e s = record {
   after = λ low l. omega (arith, s.last);
 }
 
-pub by_form : {in_head : Bool} {at count : ℕ} {x y : tree.Statement} → x ≡ y → StatementStands in_head at count y → StatementStands in_head at count x
+pub by_form : {in_head : Bool} {at count : ℕ} {x y : tree.Statement} → x ≡ y → StatementStands in_head at count y →
+    StatementStands in_head at count x
 by_form {in_head} {at} {count} e s = subst (λ y. StatementStands in_head at count y) (sym e) s
 
 -- what may be left out behind a token
-pub maybe_behind : {in_head : Bool} (at m : ℕ) (y : tree.Statement) → StatementStands in_head (suc at) m y → MaybeStands in_head at (suc m) (tree.present y)
+pub maybe_behind : {in_head : Bool} (at m : ℕ) (y : tree.Statement) → StatementStands in_head (suc at) m y →
+    MaybeStands in_head at (suc m) (tree.present y)
 unfolding IsMaybePlaced
 maybe_behind at m y s = record {
   placed = λ low high l h. s.placed low high (omega arith) (omega arith);
@@ -62,11 +64,13 @@ maybe_behind at m y s = record {
 
 -- ---- each form, over the trees of its parts
 
-within : (at : ℕ) (ts : List Token) (low high : ℕ) → 1 ≤ length ts → low ≤ at → at + length ts ≤ suc high → IsWithin low high (statement_place at ts)
+within : (at : ℕ) (ts : List Token) (low high : ℕ) → 1 ≤ length ts → low ≤ at → at + length ts ≤ suc high →
+    IsWithin low high (statement_place at ts)
 within at ts low high full l h = record { from = l; some = omega arith; to = omega arith }
 
 -- a node stands among its tokens if its parts do
-pub stands_by : (in_head : Bool) (at : ℕ) (ts : List Token) (y : tree.Statement) → placed.statement_span y ≡ statement_place at ts → 1 ≤ length ts
+pub stands_by : (in_head : Bool) (at : ℕ) (ts : List Token) (y : tree.Statement) →
+    placed.statement_span y ≡ statement_place at ts → 1 ≤ length ts
     → ((low high : ℕ) → IsWithin low high (statement_place at ts) → IsStatementPlaced in_head low high y) → StatementStands in_head at (length ts) y
 stands_by in_head at ts y is full parts = record {
   last = subst (λ p. suc p.last ≡ at + length ts) (sym is) (let e : suc (at + length ts - 1) ≡ at + length ts = omega arith in e);
@@ -116,13 +120,15 @@ unfolding IsStatementPlaced
 stands_local in_head at m n ts ty x a name e s = stands_by in_head at ts _ refl (omega arith)
     (λ low high w. (w, omega (arith, name), s.placed (suc (local_name_at (statement_place at ts) ty)) (at + length ts - 1) (omega (arith, name)) (omega arith)))
 
-pub stands_block : (in_head : Bool) (at m : ℕ) (ts : List Token) (ys : tree.Statements) → suc (m + 1) ≤ length ts → StatementsStand (suc at) m ys
+pub stands_block : (in_head : Bool) (at m : ℕ) (ts : List Token) (ys : tree.Statements) → suc (m + 1) ≤ length ts →
+    StatementsStand (suc at) m ys
     → StatementStands in_head at (length ts) (tree.block (statement_place at ts) ys)
 unfolding IsStatementPlaced
 stands_block in_head at m ts ys e s = stands_by in_head at ts _ refl (omega arith)
     (λ low high w. (w, s.placed (suc at) (at + length ts - 1) (omega arith) (omega arith)))
 
-pub stands_returns : (in_head : Bool) (at m : ℕ) (ts : List Token) (a : Option expression.Expression) → suc (m + 1) ≤ length ts → OptionStands (suc at) m a
+pub stands_returns : (in_head : Bool) (at m : ℕ) (ts : List Token) (a : Option expression.Expression) →
+    suc (m + 1) ≤ length ts → OptionStands (suc at) m a
     → StatementStands in_head at (length ts) (tree.returns (statement_place at ts) a)
 unfolding IsStatementPlaced
 stands_returns in_head at m ts a e s = stands_by in_head at ts _ refl (omega arith)
@@ -187,7 +193,8 @@ pub none_stand : (at : ℕ) → StatementsStand at 0 tree.nil
 unfolding AreStatementsPlaced
 none_stand at = record { placed = λ low high l h. tt }
 
-pub both_stand : (at m n count : ℕ) (y : tree.Statement) (ys : tree.Statements) → count ≡ m + n → StatementStands false at m y → StatementsStand (at + m) n ys
+pub both_stand : (at m n count : ℕ) (y : tree.Statement) (ys : tree.Statements) → count ≡ m + n → StatementStands false at m y →
+    StatementsStand (at + m) n ys
     → StatementsStand at count (tree.cons y ys)
 unfolding AreStatementsPlaced
 both_stand at m n count y ys e s r = record {

@@ -8,7 +8,8 @@ use Rattle.pw_tree.specs.Placed.{AreParametersPlaced, AreElementsPlaced, IsIniti
 
 -- ---- parameters
 
-more_parameters_stand : (at low high : ℕ) (ps : MoreParameters) → low ≤ suc at → at + length (spelled_more_parameters ps) ≤ suc high
+more_parameters_stand : (at low high : ℕ) (ps : MoreParameters) → low ≤ suc at →
+    at + length (spelled_more_parameters ps) ≤ suc high
     → AreParametersPlaced low high (more_parameters_of at ps)
 unfolding spelled_more_parameters more_parameters_of AreParametersPlaced
 more_parameters_stand at low high phrase.end l h = tt

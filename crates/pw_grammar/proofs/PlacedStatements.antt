@@ -40,7 +40,8 @@ local_stands in_head at (phrase.set ty x q a e) = by_form (statement-Local at (s
     (an_option _ (length (spelled a)) _ _ (omega arith) (stands (suc (suc (at + length (spelled_type ty)))) a)))
 
 -- with its `;`, or without one as a part of a `for`
-simple_stands : (in_head : Bool) (at : ℕ) (ts : List Token) (a : SimpleDerivation) → suc (set_end in_head (statement_place at ts)) ≡ at + length (spelled_simple a)
+simple_stands : (in_head : Bool) (at : ℕ) (ts : List Token) (a : SimpleDerivation) →
+    suc (set_end in_head (statement_place at ts)) ≡ at + length (spelled_simple a)
     → length (spelled_simple a) ≤ length ts
     → StatementStands in_head at (length ts) (statement_of (statement_node at ts (kind_of_simple at a)))
 simple_stands in_head at ts (assign x q a) e h = by_form (statement-Set at ts _ None _)
@@ -56,16 +57,19 @@ part_stands : (at : ℕ) (a : SimpleDerivation)
     → StatementStands true at (length (spelled_simple a)) (statement_of (statement_node at (spelled_simple a) (kind_of_simple at a)))
 part_stands at a = simple_stands true at (spelled_simple a) a (omega (arith, simple_length a)) (omega arith)
 
-start_stands : (at : ℕ) (a : ForStartDerivation) → MaybeStands true at (length (spelled_start a)) (optional_statement (option_map statement_of (tree_of_start at a)))
+start_stands : (at : ℕ) (a : ForStartDerivation) →
+    MaybeStands true at (length (spelled_start a)) (optional_statement (option_map statement_of (tree_of_start at a)))
 start_stands at (no_start e) = no_maybe true at 1
 start_stands at (local_start l) = a_maybe true at _ _ _ (omega arith) (local_stands true at l)
 start_stands at (simple_start a e) = a_maybe true at (length (spelled_simple a)) _ _ (omega (arith, length-append (spelled_simple a) (e ∷ []))) (part_stands at a)
 
-step_stands : (at : ℕ) (a : Option SimpleDerivation) → MaybeStands true at (length (spelled_step a)) (optional_statement (option_map statement_of (tree_of_step at a)))
+step_stands : (at : ℕ) (a : Option SimpleDerivation) →
+    MaybeStands true at (length (spelled_step a)) (optional_statement (option_map statement_of (tree_of_step at a)))
 step_stands at None = no_maybe true at 0
 step_stands at (Some a) = a_maybe true at _ _ _ (omega arith) (part_stands at a)
 
-maybe_stands : (at : ℕ) (a : Option ExpressionDerivation) → OptionStands at (length (spelled_maybe a)) (option_map expression_of (tree_of_maybe at a))
+maybe_stands : (at : ℕ) (a : Option ExpressionDerivation) →
+    OptionStands at (length (spelled_maybe a)) (option_map expression_of (tree_of_maybe at a))
 maybe_stands at None = no_option at
 maybe_stands at (Some a) = an_option at _ _ _ (omega arith) (stands at a)
 
@@ -123,7 +127,8 @@ mutual
       (omega (arith, length-append (spelled_maybe a) (e ∷ []))) (maybe_stands (suc at) a))
   statement_stands at (jump t e) = jump_stands at (t ∷ e ∷ []) (sort t) (omega arith)
 
-  pub statements_stand : (at : ℕ) (ys : StatementDerivations) → StatementsStand at (length (spelled_statements ys)) (statements_of (trees_of_statements at ys))
+  pub statements_stand : (at : ℕ) (ys : StatementDerivations) →
+      StatementsStand at (length (spelled_statements ys)) (statements_of (trees_of_statements at ys))
   statements_stand at phrase.nil = none_stand at
   statements_stand at (phrase.cons y ys) = both_stand at (length (spelled_statement y)) (length (spelled_statements ys)) _ _ _
       (length-append (spelled_statement y) (spelled_statements ys)) (statement_stands at y) (statements_stand (at + length (spelled_statement y)) ys)

@@ -24,7 +24,8 @@ use Rattle.pw_tree.specs.declared.stmt.StmtKind.TheVariants as k
 abbrev pub place : ℕ → ℕ → Token → Span
 place first count t = record { first = first; last = first + count - 1; line = t.line }
 
-phrase_of-node : (first count : ℕ) (t : Token) (kind : ExprKind) → expression_of (node first count t kind) ≡ expression_form_of kind (place first count t)
+phrase_of-node : (first count : ℕ) (t : Token) (kind : ExprKind) →
+    expression_of (node first count t kind) ≡ expression_form_of kind (place first count t)
 phrase_of-node first count t kind =
     fold-roll-Expr (Span → Expression) Expression expression_form expression_step (record { first = first; last = first + count - 1; line = t.line; kind = kind })
 

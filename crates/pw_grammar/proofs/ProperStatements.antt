@@ -6,8 +6,8 @@ use Rattle.std.specs.Option.{option_map}
 use Rattle.pw_grammar.specs.declared.sort.Sort.{Sort}
 use Rattle.pw_grammar.specs.declared.sort.Sort.TheVariants as s
 use Rattle.pw_grammar.specs.Terminals.{sort}
-use Rattle.pw_grammar.specs.Expressions.{ExpressionDerivation, spelled, expression_tree}
-use Rattle.pw_grammar.specs.Statements.{spelled_type, type_in, LocalDerivation, plain, IsLocal, spelled_local, kind_of_local, SimpleDerivation, assign, assign_element, IsSimple, spelled_simple, kind_of_simple, ForStartDerivation, no_start, local_start, simple_start, IsStart, spelled_start, tree_of_start, spelled_maybe, tree_of_maybe, spelled_step, IsStep, tree_of_step, StatementDerivation, block, declare, simple, if_only, while_do, do_while, for_do, leave, jump, StatementDerivations, spelled_statement, spelled_statements, IsStatement, AreStatements, statement_node, jump_of, after_test, after_head, after_part, kind_of, trees_of_statements}
+use Rattle.pw_grammar.specs.Expressions.{spelled}
+use Rattle.pw_grammar.specs.Statements.{spelled_type, LocalDerivation, plain, IsLocal, spelled_local, kind_of_local, SimpleDerivation, assign, assign_element, spelled_simple, kind_of_simple, ForStartDerivation, no_start, local_start, simple_start, IsStart, spelled_start, tree_of_start, spelled_maybe, spelled_step, tree_of_step, StatementDerivation, block, declare, simple, if_only, while_do, do_while, for_do, leave, jump, StatementDerivations, spelled_statement, spelled_statements, IsStatement, AreStatements, statement_node, jump_of, after_test, after_head, after_part, kind_of, trees_of_statements}
 use Rattle.pw_grammar.specs.Statements as phrase
 use Rattle.pw_grammar.proofs.PlainNodes.{statement-Empty, statement-Block, statement-Local, statement-Set, statement-Eval, statement-If, statement-While, statement-Do, statement-For, statement-Return, statement-Break, statement-Continue}
 use Rattle.pw_grammar.proofs.SmallTokens.{AreSmall, small_left, small_right, numbers, maybe_numbers}
@@ -92,7 +92,8 @@ first_of_simple (tree.returns at e) h = h
 first_of_simple (tree.breaks at) h = h
 first_of_simple (tree.continues at) h = h
 
-local_first : (at : ℕ) (ts : List Token) (l : LocalDerivation) → proper.IsSimpleOrDeclaration (statement_of (statement_node at ts (kind_of_local at l)))
+local_first : (at : ℕ) (ts : List Token) (l : LocalDerivation) →
+    proper.IsSimpleOrDeclaration (statement_of (statement_node at ts (kind_of_local at l)))
 local_first at ts (plain ty x e) = subst proper.IsSimpleOrDeclaration (sym (statement-Local at ts _ _ None)) tt
 local_first at ts (phrase.set ty x q a e) = subst proper.IsSimpleOrDeclaration (sym (statement-Local at ts _ _ (Some _))) tt
 
@@ -106,7 +107,8 @@ start_fine at (simple_start a e) is h =
     let f = simple_fine at (spelled_simple a) a (small_left (spelled_simple a) (e ∷ []) h) in
     record { first = first_of_simple _ f.simple; proper = f.fine.proper; numbers = f.fine.numbers }
 
-step_fine : (at : ℕ) (a : Option SimpleDerivation) → AreSmall (spelled_step a) → FineLast (optional_statement (option_map statement_of (tree_of_step at a)))
+step_fine : (at : ℕ) (a : Option SimpleDerivation) → AreSmall (spelled_step a) →
+    FineLast (optional_statement (option_map statement_of (tree_of_step at a)))
 unfolding IsProper HasStatementNumbers
 step_fine at None h = record { last = tt; numbers = tt }
 step_fine at (Some a) h =
@@ -114,7 +116,8 @@ step_fine at (Some a) h =
 
 -- ---- every statement
 
-jump_fine : (at : ℕ) (ts : List Token) (x : Sort) (declares : Bool) → Fine declares (statement_of (statement_node at ts (jump_of x)))
+jump_fine : (at : ℕ) (ts : List Token) (x : Sort) (declares : Bool) →
+    Fine declares (statement_of (statement_node at ts (jump_of x)))
 unfolding IsProper HasStatementNumbers
 jump_fine at ts s.Break declares = by_form (statement-Break at ts) (record { proper = tt; plain = λ _. tt; numbers = tt })
 jump_fine at ts _ declares = by_form (statement-Continue at ts) (record { proper = tt; plain = λ _. tt; numbers = tt })
@@ -128,7 +131,8 @@ as_plain declares x f = record { proper = f.proper; plain = λ _. f.plain refl; 
 mutual
   unfolding spelled_statement kind_of IsStatement IsProper HasStatementNumbers
 
-  pub statement_fine : (declares : Bool) (at : ℕ) (y : StatementDerivation) → IsStatement declares y → AreSmall (spelled_statement y) →
+  pub statement_fine : (declares : Bool) (at : ℕ) (y : StatementDerivation) → IsStatement declares y →
+      AreSmall (spelled_statement y) →
       Fine declares (statement_of (statement_node at (spelled_statement y) (kind_of at y)))
   statement_fine declares at (phrase.empty e) is h = by_form (statement-Empty at (e ∷ [])) (record { proper = tt; plain = λ _. tt; numbers = tt })
   statement_fine declares at (block o body c) is h =

@@ -1,5 +1,5 @@
 -- The trees of a unit are those of one that was read: proper, short and with small numbers.
-use Rattle.std.proofs.Common.{◌≡◌, refl, sym, ap, subst, ◌∙◌, ℕ, zero, suc, ◌+◌, ◌-◌, ◌^◌, ◌%◌, ◌≤◌, ◌<◌, List, [], ◌∷◌, ◌++◌, length, map, take, drop, Option, Some, None, inl, inr, arith, length-append, append-nil}
+use Rattle.std.proofs.Common.{◌≡◌, refl, sym, ap, subst, ◌∙◌, ℕ, suc, ◌+◌, ◌-◌, ◌^◌, ◌%◌, ◌≤◌, ◌<◌, List, [], ◌∷◌, ◌++◌, length, map, take, drop, Option, Some, None, inl, inr, arith, length-append}
 use Rattle.std.specs.Prelude.{⊤}
 use Rattle.std.specs.List.{AllByRecursion}
 use Rattle.std.proofs.lemmas.Bool.{cases_lt}
@@ -9,20 +9,20 @@ use Rattle.pw_grammar.specs.Terminals.{sort}
 use Rattle.pw_grammar.specs.Statements.{spelled_type, type_in, StatementDerivations, spelled_statements}
 use Rattle.pw_grammar.specs.Declarations.{spelled_storage, spelled_result, spelled_parameters, ResultDerivation, ParametersDerivation, ElementDerivation, word, positive, negative, spelled_element, negated, element_of, MoreElements, comma, spelled_more_elements, more_elements_of, VariableDerivation, scalar, scalar_set, array, array_set, spelled_variable, count_in, elements_of, HasNoValue, MayHave, linkage_by, linkage_of, DeclarationDerivation, prototype, function, variable, spelled_declaration, IsDeclaration, name_at, after_parameters, tree_of_declaration, UnitDerivation, spelled_unit, IsUnit, trees_of_declarations, lines_of, Derives}
 use Rattle.pw_grammar.specs.Declarations as phrase
-use Rattle.pw_grammar.specs.Faults.{before_body, IsLate, StandsLate, GoesOnTooLong, IsFault, IsFaultless}
-use Rattle.pw_grammar.specs.Laws.{IsSmallToken, TreesAreRead}
+use Rattle.pw_grammar.specs.Faults.{before_body, IsLate, StandsLate, IsFaultless}
+use Rattle.pw_grammar.specs.Laws.{TreesAreRead}
 use Rattle.pw_grammar.specs.declared.error.SyntaxError.TheVariants.{TooLong}
 use Rattle.pw_grammar.proofs.Lengths.{function_length}
 use Rattle.pw_grammar.proofs.SmallTokens.{AreSmall, small_left, small_right}
 use Rattle.pw_grammar.proofs.ProperStatements.{statements_fine}
 use Rattle.pw_grammar.proofs.Written.{trees_are_written}
 use Rattle.pw_lex.specs.declared.token.Token.{Token}
-use Rattle.pw_tree.specs.Declarations.{declaration_of, untyped_unit_of}
+use Rattle.pw_tree.specs.Declarations.{declaration_of}
 use Rattle.pw_tree.specs.Declarations as tree
 use Rattle.pw_tree.specs.declared.ty.Ty.{Ty}
 use Rattle.pw_tree.specs.declared.decl.Linkage.{Linkage}
 use Rattle.pw_tree.specs.declared.decl.Linkage.TheVariants.{Plain, Extern, Static}
-use Rattle.pw_tree.specs.Proper.{HasNoInitialiser, MayBeInitialised, IsProperDeclaration, HasElementNumber, HaveElementNumbers, IsRead}
+use Rattle.pw_tree.specs.Proper.{HasNoInitialiser, MayBeInitialised, IsProperDeclaration, HasElementNumber, HaveElementNumbers}
 use Rattle.pw_tree.specs.declared.decl.Unit.{Unit}
 use Rattle.pw_tree.specs.declared.decl.InitItem.{InitItem}
 
@@ -56,7 +56,8 @@ elements_small at (array_set o n c q b x xs e) h =
       more_elements_small (at + 5 + length (spelled_element x)) xs (small_left (spelled_more_elements xs) (e ∷ []) later),
     )
 
-no_elements : (at : ℕ) (ty : Ty) (size : Option ℕ) (v : VariableDerivation) → HasNoValue v → HasNoInitialiser (tree.variable ty size (elements_of at v))
+no_elements : (at : ℕ) (ty : Ty) (size : Option ℕ) (v : VariableDerivation) → HasNoValue v →
+    HasNoInitialiser (tree.variable ty size (elements_of at v))
 no_elements at ty size scalar h = tt
 no_elements at ty size (scalar_set q x) h = absurd h
 no_elements at ty size (array o n c) h = tt
@@ -94,7 +95,8 @@ module _ (g : Option Token) (r : ResultDerivation) (x o : Token) (ps : Parameter
     | inr few ↦ few
   ]
 
-  body_short : (at : ℕ) → IsTimely definition → (tree_of_declaration at definition).last - (tree_of_declaration at definition).declarator ≤ function_tokens
+  body_short : (at : ℕ) → IsTimely definition →
+      (tree_of_declaration at definition).last - (tree_of_declaration at definition).declarator ≤ function_tokens
   body_short at timely =
       let few : length (spelled_declaration definition) ≤ function_tokens = function_short timely in
       let n = function_length g r x o ps c b body e in

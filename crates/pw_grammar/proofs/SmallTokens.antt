@@ -61,7 +61,8 @@ mutual
         numbers (suc (suc (at + length (spelled c)) + length (spelled a))) b last.1,
       )
 
-  argument_numbers : (at : ℕ) (xs : Arguments) → AreSmall (spelled_arguments xs) → HaveNumbers (expressions_of (argument_trees at xs))
+  argument_numbers : (at : ℕ) (xs : Arguments) → AreSmall (spelled_arguments xs) →
+      HaveNumbers (expressions_of (argument_trees at xs))
   argument_numbers at nothing h = tt
   argument_numbers at (arguments a xs) h =
       (numbers at a (small_left (spelled a) (spelled_more xs) h), more_numbers (at + length (spelled a)) xs (small_right (spelled a) (spelled_more xs) h))
@@ -73,6 +74,7 @@ mutual
     more_numbers (suc at + length (spelled a)) xs (small_right (spelled a) (spelled_more xs) h.1),
   )
 
-pub maybe_numbers : (at : ℕ) (a : Option ExpressionDerivation) → AreSmall (spelled_maybe a) → HasOptionNumbers (option_map expression_of (tree_of_maybe at a))
+pub maybe_numbers : (at : ℕ) (a : Option ExpressionDerivation) → AreSmall (spelled_maybe a) →
+    HasOptionNumbers (option_map expression_of (tree_of_maybe at a))
 maybe_numbers at None h = tt
 maybe_numbers at (Some a) h = numbers at a h

@@ -51,7 +51,8 @@ limit_small Hexadecimal has_u = omega arith
 plain_small : (byte : ℕ) → is_plain byte ≡ true → byte ≤ 126
 plain_small byte h = grind (arith, nat_tests)
 
-chosen_small : (b : Bool) (x value : ℕ) (o : Option ℕ) → (if b then Some x else o) ≡ Some value → (b ≡ true → x < 256) → (o ≡ Some value → value < 256) → value < 256
+chosen_small : (b : Bool) (x value : ℕ) (o : Option ℕ) → (if b then Some x else o) ≡ Some value → (b ≡ true → x < 256) →
+    (o ≡ Some value → value < 256) → value < 256
 chosen_small true x value o h small other = let e : x ≡ value = cc in let s : x < 256 = small refl in omega arith
 chosen_small false x value o h small other = other h
 
@@ -77,7 +78,8 @@ value_small bytes (Punct number) is = omega arith
 
 -- ---- tokens
 
-tokens_small : (before : Text) (pieces : List Piece) (rest : Text) → Stand pieces rest → length before + length (spelled pieces) < 2 ^ 32 →
+tokens_small : (before : Text) (pieces : List Piece) (rest : Text) → Stand pieces rest →
+    length before + length (spelled pieces) < 2 ^ 32 →
     AllByRecursion IsSmallToken (tokens_after before pieces)
 tokens_small before [] rest stand short = tt
 tokens_small before (white byte ∷ pieces) rest stand short =

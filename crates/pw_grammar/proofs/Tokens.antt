@@ -6,7 +6,7 @@ use Rattle.pw_grammar.specs.declared.sort.Sort.TheVariants as s
 use Rattle.pw_grammar.specs.Terminals.{sort, sort_of, first_sort, is_same}
 use Rattle.pw_lex.specs.declared.token.TokenKind.{TokenKind}
 use Rattle.pw_grammar.specs.Expressions.{name_in}
-use Rattle.pw_grammar.specs.Reading.Steps.{Position, ReadResult, and_then, ◌>>=◌, pure, refuse, next_sort, sees, take, take_from, skip, expect, name}
+use Rattle.pw_grammar.specs.Reading.Steps.{Position, ReadResult, read_then, ◌>>=◌, pure, refuse, next_sort, sees, take, take_from, skip, expect, name}
 use Rattle.pw_grammar.proofs.Lawful.{Language, Leads, Agree, GoesOn, Says, Same, Lawful, Within, Lax, Seq, Leaves, Shrinks, Pure, lawful_pure, same_passed, near_or_far}
 use Rattle.pw_grammar.proofs.Branches.{Keeps, keeps_refuse, lawful_test, keeps_within, keeps_bind_from, same_sorts}
 use Rattle.pw_lex.specs.declared.token.Token.{Token}
@@ -25,7 +25,8 @@ AToken c = λ at a u x. Given c a u
 take_settled : (at : ℕ) (ts : List Token) → take_from at ts ≡ take_from at ts
 take_settled at ts = refl
 
-leads_past : (at : ℕ) (t : Token) (ts : List Token) → Leads (record { at = at; rest = t ∷ ts }) (t ∷ []) (record { at = suc at; rest = ts })
+leads_past : (at : ℕ) (t : Token) (ts : List Token) →
+    Leads (record { at = at; rest = t ∷ ts }) (t ∷ []) (record { at = suc at; rest = ts })
 leads_past at t ts = record { rest = refl; at = omega arith }
 
 take_says : (c : Sort → Type 0) → (c s.End → ⊥) → (at : ℕ) (ts : List Token) → c (first_sort ts)
@@ -53,7 +54,8 @@ keeps_take c ends n = record {
   steady = λ k i j h same. stays k i j h same (near_or_far i.at k);
 }
   where
-    stays : (k : ℕ) (i j : Position) → c (next_sort i) → Agree k i j → (i.at ≤ k) ⊎ (k < i.at) → Same k (take_from i.at i.rest) (take_from j.at j.rest)
+    stays : (k : ℕ) (i j : Position) → c (next_sort i) → Agree k i j → (i.at ≤ k) ⊎ (k < i.at) →
+        Same k (take_from i.at i.rest) (take_from j.at j.rest)
     stays k i j h same (inl near) =
         subst (λ n. Same k (take_from i.at i.rest) (take_from n j.rest)) same.at
         (subst (λ ts. Same k (take_from i.at ts) (take_from i.at j.rest)) (sym same.left)
@@ -106,7 +108,7 @@ keeps_skip c ends n = keeps_within c n _ _ _ _ (line_of_a_token c)
     (keeps_bind_from c n n (AToken c) (λ t. Pure t.line) take take (λ t. pure t.line) (λ t. pure t.line) (a_token_is_lax c)
     (keeps_take c ends n) (λ t. lawful_pure n t.line) (λ i short. take_leaves n i.at i.rest short))
 
-skip_leaves : (n : ℕ) (o : ReadResult Token) → Leaves n o → Leaves n (and_then o (λ t. pure t.line))
+skip_leaves : (n : ℕ) (o : ReadResult Token) → Leaves n o → Leaves n (read_then o (λ t. pure t.line))
 skip_leaves n (Ok p) l = l
 skip_leaves n (Err e) l = tt
 

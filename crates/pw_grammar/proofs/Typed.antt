@@ -65,7 +65,8 @@ unfolding placed.HaveNames
 parameter_names at (none t) is = tt
 parameter_names at (some p ps) is = (has_a_name p.name is.0, more_parameter_names _ ps is.1)
 
-declaration_types : (at : ℕ) (c : DeclarationDerivation) → IsDeclaration c → HasTypes (declaration_of (tree_of_declaration at c)).form
+declaration_types : (at : ℕ) (c : DeclarationDerivation) → IsDeclaration c →
+    HasTypes (declaration_of (tree_of_declaration at c)).form
 declaration_types at (prototype g r x o ps c e) is = (result_type r is.1, parameter_types _ ps is.4)
 declaration_types at (function g r x o ps c b body e) is = (result_type r is.1, parameter_types _ ps is.4, parameter_names _ ps is.5)
 declaration_types at (variable g ty x v e) is = value_type ty is.0

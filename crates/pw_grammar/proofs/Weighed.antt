@@ -10,19 +10,22 @@ use Rattle.pw_grammar.proofs.Lengths.{statement_length, result_length, parameter
 use Rattle.pw_tree.specs.Statements.{statements_of}
 use Rattle.pw_tree.specs.Declarations.{declaration_of}
 
-statements_no_longer : (at : ℕ) (ys : StatementDerivations) → statement_count (statements_of (trees_of_statements at ys)) ≤ length (spelled_statements ys)
+statements_no_longer : (at : ℕ) (ys : StatementDerivations) →
+    statement_count (statements_of (trees_of_statements at ys)) ≤ length (spelled_statements ys)
 unfolding statement_count trees_of_statements spelled_statements
 statements_no_longer at nil = omega arith
 statements_no_longer at (cons y ys) = omega
     (arith, statements_no_longer (at + length (spelled_statement y)) ys, statement_length y, length-append (spelled_statement y) (spelled_statements ys))
 
-declaration_no_longer : (at : ℕ) (c : DeclarationDerivation) → weight (declaration_of (tree_of_declaration at c)) ≤ length (spelled_declaration c)
+declaration_no_longer : (at : ℕ) (c : DeclarationDerivation) →
+    weight (declaration_of (tree_of_declaration at c)) ≤ length (spelled_declaration c)
 declaration_no_longer at (prototype g r x o ps c e) = omega arith
 declaration_no_longer at (function g r x o ps c b body e) = omega
     (arith, function_length g r x o ps c b body e, result_length r, parameters_length ps, statements_no_longer (suc (suc (after_parameters at g r ps))) body)
 declaration_no_longer at (variable g ty x v e) = omega arith
 
-unit_no_longer : (at : ℕ) (cs : UnitDerivation) → sum_by weight (map declaration_of (trees_of_declarations at cs)) ≤ length (spelled_unit cs)
+unit_no_longer : (at : ℕ) (cs : UnitDerivation) →
+    sum_by weight (map declaration_of (trees_of_declarations at cs)) ≤ length (spelled_unit cs)
 unfolding trees_of_declarations spelled_unit
 unit_no_longer at [] = omega arith
 unit_no_longer at (c ∷ cs) = omega (

@@ -55,7 +55,8 @@ ok_is_no_err o p e a b = not_both (sym a ∙ b)
     not_both z = cc
 
 -- no unit goes on with the token that was refused: it would be read, with turns enough for both lists
-stuck_by : (k : Knows) (n m at : ℕ) (u x : List Token) (b : Begins u) → length (u ++ x) < n → length (spelled_unit b.phrase) < m + n
+stuck_by : (k : Knows) (n m at : ℕ) (u x : List Token) (b : Begins u) → length (u ++ x) < n →
+    length (spelled_unit b.phrase) < m + n
     → unit n (from_start (u ++ x)) ≡ Err (At at) → at < length u → ⊥
 stuck_by k n m at u x b short enough is low =
     let p = k.lawful (m + n) in
@@ -100,7 +101,8 @@ abbrev pub TellsOf : List Token → ReadResult (List Decl) → Type 0
 TellsOf us (Ok p) = IsRead us p.0
 TellsOf us (Err fault) = IsRefused us fault
 
-was_read : (k : Knows) (n : ℕ) (us : List Token) (ds : List Decl) (j : Position) → unit n (from_start us) ≡ Ok (ds, j) → HasRead AUnit (from_start us) ds j → IsRead us ds
+was_read : (k : Knows) (n : ℕ) (us : List Token) (ds : List Decl) (j : Position) → unit n (from_start us) ≡ Ok (ds, j) →
+    HasRead AUnit (from_start us) ds j → IsRead us ds
 was_read k n us ds j is r = record {
   phrase = r.reads.phrase;
   is = r.reads.is;
@@ -111,7 +113,8 @@ was_read k n us ds j is r = record {
 front_of : (u x us : List Token) (at : ℕ) → us ≡ u ++ x → at ≡ length u → take at us ≡ u
 front_of u x us at e f = ap (λ n. take n us) f ∙ (ap (λ z. take (length u) z) e ∙ take-append_seam u x)
 
-stuck_or_not_whole : (k : Knows) (n at : ℕ) (us : List Token) → length us < n → unit n (from_start us) ≡ Err (At at) → at ≤ length us
+stuck_or_not_whole : (k : Knows) (n at : ℕ) (us : List Token) → length us < n → unit n (from_start us) ≡ Err (At at) →
+    at ≤ length us
     → (at < length us) ⊎ (at ≡ length us) → IsStuck us at
 stuck_or_not_whole k n at us short is within (inl low) = inl (low, λ b. stuck_at k n at us short is low b)
 stuck_or_not_whole k n at us short is within (inr end) = inr (end, λ w. not_whole k n at us short is w)
@@ -123,7 +126,8 @@ before_or_at a b e = at_least (near_or_far b a)
     at_least (inl z) = inr (omega arith)
     at_least (inr z) = inl z
 
-was_refused : (k : Knows) (n : ℕ) (us : List Token) (e : SyntaxError) → length us < n → unit n (from_start us) ≡ Err e → HasStopped AUnit (from_start us) e → IsRefused us e
+was_refused : (k : Knows) (n : ℕ) (us : List Token) (e : SyntaxError) → length us < n → unit n (from_start us) ≡ Err e →
+    HasStopped AUnit (from_start us) e → IsRefused us e
 was_refused k n us e short is r = record {
   at = r.place.at;
   is = r.is;
@@ -138,7 +142,8 @@ was_refused k n us e short is r = record {
     low : r.place.at ≤ length us
     low = let z : length us ≡ length r.tokens + length r.place.rest = ap length r.leads.rest ∙ length-append r.tokens r.place.rest in omega (arith, z, count)
 
-tells : (k : Knows) (n : ℕ) (us : List Token) → length us < n → (o : ReadResult (List Decl)) → unit n (from_start us) ≡ o → Says AUnit (from_start us) o → TellsOf us o
+tells : (k : Knows) (n : ℕ) (us : List Token) → length us < n → (o : ReadResult (List Decl)) → unit n (from_start us) ≡ o →
+    Says AUnit (from_start us) o → TellsOf us o
 tells k n us short (Ok p) is r = was_read k n us p.0 p.1 is r
 tells k n us short (Err e) is r = was_refused k n us e short is r
 

@@ -10,7 +10,8 @@ use Rattle.pw_tree.specs.Declarations.{declaration_of, untyped_unit_of}
 use Rattle.pw_tree.specs.Placed.{AreDeclarationsPlaced, HaveTypes, IsParsed}
 use Rattle.pw_tree.specs.declared.decl.Unit.{Unit}
 
-written : (cs : UnitDerivation) (unit : Unit) (tokens : List Token) → IsUnit cs → spelled_unit cs ≡ tokens → unit.decls ≡ trees_of_declarations 0 cs
+written : (cs : UnitDerivation) (unit : Unit) (tokens : List Token) → IsUnit cs → spelled_unit cs ≡ tokens →
+    unit.decls ≡ trees_of_declarations 0 cs
     → unit.lines ≡ lines_of tokens → length tokens < 2 ^ 32 → IsParsed (untyped_unit_of unit)
 written cs unit tokens is spells decls lines few =
     let n : length unit.lines ≡ length tokens = ap length lines ∙ length-map tokens (λ t. t.line) in

@@ -3,7 +3,7 @@ use Rattle.std.specs.Prelude.{◌≡◌, ℕ, suc, ◌+◌, ◌-◌, ◌%◌, �
 use Rattle.pw_grammar.specs.declared.sort.Sort.{Sort}
 use Rattle.pw_grammar.specs.declared.sort.Sort.TheVariants as s
 use Rattle.pw_grammar.specs.Terminals.{sort}
-use Rattle.pw_grammar.specs.Expressions.{name_in, value_in, IsConstant}
+use Rattle.pw_grammar.specs.Expressions.{name_in, value_in, IsConstantSymbol}
 use Rattle.pw_grammar.specs.Statements.{TypeDerivation, spelled_type, IsType, type_in, StatementDerivations, spelled_statements, AreStatements, trees_of_statements, first_line}
 use Rattle.pw_lex.specs.declared.token.Token.{Token}
 use Rattle.pw_tree.specs.declared.ty.Ty.{Ty}
@@ -173,8 +173,8 @@ spelled_element (negative m t) = m ∷ t ∷ []
 -- the derivation is one of an element
 abbrev pub IsElement : ElementDerivation → Type 0
 IsElement (word t) = sort t ≡ s.Name
-IsElement (positive t) = IsConstant (sort t)
-IsElement (negative m t) = (sort m ≡ s.Minus) × IsConstant (sort t)
+IsElement (positive t) = IsConstantSymbol (sort t)
+IsElement (negative m t) = (sort m ≡ s.Minus) × IsConstantSymbol (sort t)
 
 -- a number's two's complement
 abbrev pub negated : ℕ → ℕ
@@ -283,7 +283,8 @@ pub data DeclarationDerivation : Type 0 where
   -- result name ( parameters ) ;
   prototype : Option Token → ResultDerivation → Token → Token → ParametersDerivation → Token → Token → DeclarationDerivation
   -- result name ( parameters ) { statements }
-  function : Option Token → ResultDerivation → Token → Token → ParametersDerivation → Token → Token → StatementDerivations → Token → DeclarationDerivation
+  function : Option Token → ResultDerivation → Token → Token → ParametersDerivation → Token → Token → StatementDerivations →
+      Token → DeclarationDerivation
   -- type name variable ;
   variable : Option Token → TypeDerivation → Token → VariableDerivation → Token → DeclarationDerivation
 

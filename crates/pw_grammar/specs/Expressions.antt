@@ -86,14 +86,14 @@ abbrev pub IsPrefixOperator : Sort → Type 0
 IsPrefixOperator x = (op : Un) × (prefix_of x ≡ Some op)
 
 -- the symbol is a constant
-abbrev pub IsConstant : Sort → Type 0
-IsConstant x = (x ≡ s.Number) ⊎ (x ≡ s.Character)
+abbrev pub IsConstantSymbol : Sort → Type 0
+IsConstantSymbol x = (x ≡ s.Number) ⊎ (x ≡ s.Character)
 
 unfoldable mutual
   -- the derivation is one of an expression at this level
   pub IsAt : ℕ → ExpressionDerivation → Type 0
   IsAt n (identifier t) = sort t ≡ s.Name
-  IsAt n (constant t) = IsConstant (sort t)
+  IsAt n (constant t) = IsConstantSymbol (sort t)
   IsAt n (bracketed o a c) = (sort o ≡ s.LeftParen) × IsAt 13 a × (sort c ≡ s.RightParen)
   IsAt n (input k o c) = (sort k ≡ s.Input) × (sort o ≡ s.LeftParen) × (sort c ≡ s.RightParen)
   IsAt n (output k o a c) = (sort k ≡ s.Output) × (sort o ≡ s.LeftParen) × IsAt 13 a × (sort c ≡ s.RightParen)
@@ -145,8 +145,8 @@ prefix_or (Some op) = op
 prefix_or None = Neg
 
 -- the prefix operator that a token is
-abbrev pub prefix_in : Token → Un
-prefix_in token = prefix_or (prefix_of (sort token))
+abbrev pub prefix_operator_in : Token → Un
+prefix_operator_in token = prefix_or (prefix_of (sort token))
 
 -- the operator, or any where there is none
 abbrev pub binary_or : Option Bin → Bin
@@ -175,7 +175,7 @@ unfoldable mutual
       node at (length (spelled (call f o xs c))) o (e.Call (expression_tree at f) (argument_trees (suc (at + length (spelled f))) xs))
   expression_tree at (index a o i c) =
       node at (length (spelled (index a o i c))) o (e.Index (expression_tree at a) (expression_tree (suc (at + length (spelled a))) i))
-  expression_tree at (prefixed t a) = node at (length (spelled (prefixed t a))) t (e.Unary (prefix_in t) (expression_tree (suc at) a))
+  expression_tree at (prefixed t a) = node at (length (spelled (prefixed t a))) t (e.Unary (prefix_operator_in t) (expression_tree (suc at) a))
   expression_tree at (binary a t b) =
       node at (length (spelled (binary a t b))) t
       (e.Binary (binary_in t) (expression_tree at a) (expression_tree (suc (at + length (spelled a))) b))

@@ -41,16 +41,16 @@ closes_by s.RightBrace = true
 closes_by _ = false
 
 -- whether the token opens a bracket
-abbrev pub opens : Token → Bool
-opens t = opens_by (sort t)
+abbrev pub opens_bracket : Token → Bool
+opens_bracket t = opens_by (sort t)
 
 -- whether the token closes a bracket
-abbrev pub closes : Token → Bool
-closes t = closes_by (sort t)
+abbrev pub closes_bracket : Token → Bool
+closes_bracket t = closes_by (sort t)
 
 -- how many brackets are open after a token, where n are open before it
 abbrev pub bracket : ℕ → Token → ℕ
-bracket n t = if opens t then suc n else (if closes t then n - 1 else n)
+bracket n t = if opens_bracket t then suc n else (if closes_bracket t then n - 1 else n)
 
 -- how many brackets are open after these tokens
 unfoldable pub open_after : ℕ → List Token → ℕ

@@ -1,12 +1,12 @@
 -- Laws of the grammar: each list of tokens has one tree or one first fault, and what holds of each tree.
-use Rattle.std.specs.Prelude.{◌≡◌, ℕ, ◌^◌, ◌<◌, ◌≤◌, ◌⊎◌, List, length, take, sum_by}
+use Rattle.std.specs.Prelude.{◌≡◌, ◌^◌, ◌<◌, ◌≤◌, ◌⊎◌, List, length, take, sum_by}
 use Rattle.std.specs.List.{AllByRecursion}
 use Rattle.pw_grammar.specs.declared.error.SyntaxError.{SyntaxError}
 use Rattle.pw_grammar.specs.Declarations.{Derives}
 use Rattle.pw_grammar.specs.Expressions.{value_in}
 use Rattle.pw_grammar.specs.Faults.{IsFaultless, IsFirstFault}
 use Rattle.pw_grammar.specs.Weights.{weight}
-use Rattle.pw_grammar.specs.Terminals.{texts, keyword_words, punctuator_words}
+use Rattle.pw_grammar.specs.Terminals.{word_texts, keyword_words, punctuator_words}
 use Rattle.pw_lex.specs.Spellings as spellings
 use Rattle.pw_lex.specs.Bytes.{Text}
 use Rattle.pw_lex.specs.Text.{HasTokens}
@@ -18,11 +18,11 @@ use Rattle.pw_tree.specs.Proper.{IsRead}
 
 -- each keyword's symbol stands beside the text that has its number
 abbrev pub KeywordsByText : Type 0
-KeywordsByText = texts keyword_words ≡ spellings.keywords
+KeywordsByText = word_texts keyword_words ≡ spellings.keywords
 
 -- and each punctuator's for which the grammar has a place
 abbrev pub PunctuatorsByText : Type 0
-PunctuatorsByText = texts punctuator_words ≡ take (length punctuator_words) spellings.punctuators
+PunctuatorsByText = word_texts punctuator_words ≡ take (length punctuator_words) spellings.punctuators
 
 -- the grammar derives this unit from the tokens, and they have no fault
 pub record HasTree (tokens : List Token) (unit : Unit) : Type 0 where

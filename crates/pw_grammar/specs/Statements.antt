@@ -161,13 +161,15 @@ mutual
     -- if ( e ) s
     if_only : Token → Token → ExpressionDerivation → Token → StatementDerivation → StatementDerivation
     -- if ( e ) s else s
-    if_else : Token → Token → ExpressionDerivation → Token → StatementDerivation → Token → StatementDerivation → StatementDerivation
+    if_else : Token → Token → ExpressionDerivation → Token → StatementDerivation → Token → StatementDerivation →
+        StatementDerivation
     -- while ( e ) s
     while_do : Token → Token → ExpressionDerivation → Token → StatementDerivation → StatementDerivation
     -- do s while ( e ) ;
     do_while : Token → StatementDerivation → Token → Token → ExpressionDerivation → Token → Token → StatementDerivation
     -- for ( start e ; step ) s
-    for_do : Token → Token → ForStartDerivation → Option ExpressionDerivation → Token → Option SimpleDerivation → Token → StatementDerivation → StatementDerivation
+    for_do : Token → Token → ForStartDerivation → Option ExpressionDerivation → Token → Option SimpleDerivation → Token →
+        StatementDerivation → StatementDerivation
     -- return e ;
     leave : Token → Option ExpressionDerivation → Token → StatementDerivation
     -- break ;   continue ;

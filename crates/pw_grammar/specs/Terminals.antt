@@ -81,8 +81,8 @@ punctuator_words =
     []
 
 -- the texts of a list, and its symbols
-abbrev pub texts : Words → List Text
-texts words = map (λ word. word.0) words
+abbrev pub word_texts : Words → List Text
+word_texts words = map (λ word. word.0) words
 
 abbrev pub symbols : Words → List Sort
 symbols words = map (λ word. word.1) words

@@ -33,7 +33,8 @@ escaped_is c d more value len (Some v) is quote found =
       len_is = sym (ap (λ p. p.1) same);
     }
 
-plain_is : (b c : ℕ) (more : Text) (value len : ℕ) → (is_plain b && nat_eq c 39) ≡ true → Some (pair b 3) ≡ Some (pair value len)
+plain_is : (b c : ℕ) (more : Text) (value len : ℕ) → (is_plain b && nat_eq c 39) ≡ true →
+    Some (pair b 3) ≡ Some (pair value len)
     → BeginsCharacter (39 ∷ b ∷ c ∷ more) value len
 plain_is b c more value len is found =
     let parts = and_parts (is_plain b) (nat_eq c 39) is in
@@ -68,7 +69,8 @@ no_end : (x : Bool) (b value len : ℕ) → cond (x && false) (Some (pair b 3)) 
 no_end true b value len found = cc
 no_end false b value len found = cc
 
-pub character_of-Some : (text : Text) (value len : ℕ) → character_of (39 ∷ text) ≡ Some (pair value len) → BeginsCharacter (39 ∷ text) value len
+pub character_of-Some : (text : Text) (value len : ℕ) → character_of (39 ∷ text) ≡ Some (pair value len) →
+    BeginsCharacter (39 ∷ text) value len
 unfolding character_of
 character_of-Some [] value len found = cc
 character_of-Some (b ∷ []) value len found = absurd (no_end (is_plain b) b value len (skipped (nat_eq b 92) _ _ _ found))
@@ -80,7 +82,8 @@ plain_no_backslash byte is =
     let parts = and_parts (is_from 32 126 byte) (not (nat_eq byte 39 || nat_eq byte 92)) is in
     (or_parts (nat_eq byte 39) (nat_eq byte 92) (not-true (nat_eq byte 39 || nat_eq byte 92) parts.1)).1
 
-pub character_of_is : (bytes : Text) (value : ℕ) (rest : Text) → IsCharacter bytes value → character_of (bytes ++ rest) ≡ Some (pair value (length bytes))
+pub character_of_is : (bytes : Text) (value : ℕ) (rest : Text) → IsCharacter bytes value →
+    character_of (bytes ++ rest) ≡ Some (pair value (length bytes))
 unfolding character_of
 character_of_is _ _ rest (plain byte is) =
     let plain_found = Some (pair byte 3) in

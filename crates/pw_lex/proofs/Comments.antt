@@ -76,7 +76,8 @@ close_from_none at (byte ∷ text) open_ =
     let parts = or_parts (nat_eq byte 42 && nat_eq (slice_index text 0) 47) (closes text) open_ in
     rw parts.0 (close_from_none (at + 1) text parts.1)
 
-pub close_from_body : (at : ℕ) (body rest : Text) → closes (body ++ 42 ∷ []) ≡ false → close_from at (body ++ 42 ∷ 47 ∷ rest) ≡ Some (at + (length body + 2))
+pub close_from_body : (at : ℕ) (body rest : Text) → closes (body ++ 42 ∷ []) ≡ false →
+    close_from at (body ++ 42 ∷ 47 ∷ rest) ≡ Some (at + (length body + 2))
 close_from_body at [] rest first = ap (λ n. Some n) (omega arith)
 close_from_body at (byte ∷ body) rest first =
     let parts = or_parts (nat_eq byte 42 && nat_eq (slice_index (body ++ 42 ∷ []) 0) 47) (closes (body ++ 42 ∷ [])) first in

@@ -32,7 +32,8 @@ mark_cases a b more true is =
       | inr large ↦ inr (let second = eqb-true b 88 large in cc)
     ]
 
-no_mark : (a : ℕ) (test : Bool) → IsMark (cond (test && false) Hexadecimal Decimal) (take (mark_len (cond (test && false) Hexadecimal Decimal)) (a ∷ []))
+no_mark : (a : ℕ) (test : Bool) →
+    IsMark (cond (test && false) Hexadecimal Decimal) (take (mark_len (cond (test && false) Hexadecimal Decimal)) (a ∷ []))
 no_mark a true = refl
 no_mark a false = refl
 
@@ -49,7 +50,8 @@ pub record ConstantIs (bytes : Text) (constant : Constant) : Type 0 where
 some_digits : (digits : Text) (len : ℕ) → length digits ≡ len → nat_eq len 0 ≡ false → digits ≢ []
 some_digits digits len is none empty = eqb-false len 0 none (sym is ∙ ap length empty)
 
-found_constant : (radix : Radix) (mark after : Text) → IsMark radix mark → (len : ℕ) (test : Bool) (u : Option Bool) (constant : Constant)
+found_constant : (radix : Radix) (mark after : Text) → IsMark radix mark →
+    (len : ℕ) (test : Bool) (u : Option Bool) (constant : Constant)
     → list_all (is_digit_in radix) (take len after) ≡ true → length (take len after) ≡ len
     → (nat_eq len 0 || has_leading_zero radix (take len after)) ≡ test → suffix_has_u (drop len after) ≡ u
     → cond test None (option_map (constant_with radix (take len after)) u) ≡ Some constant → ConstantIs (mark ++ after) constant
@@ -76,7 +78,8 @@ found_constant radix mark after marked len false (Some u) constant all long test
     some_constant : (a b : Constant) → Some a ≡ Some b → a ≡ b
     some_constant a b same = cc
 
-constant_in-Some : (radix : Radix) (mark after : Text) → IsMark radix mark → (constant : Constant) → constant_in radix after ≡ Some constant → ConstantIs (mark ++ after) constant
+constant_in-Some : (radix : Radix) (mark after : Text) → IsMark radix mark → (constant : Constant) →
+    constant_in radix after ≡ Some constant → ConstantIs (mark ++ after) constant
 unfolding constant_in
 constant_in-Some radix mark after marked constant found =
     let len = prefix_len (is_digit_in radix) after in
@@ -91,7 +94,8 @@ constant_of-Some bytes constant found =
 
 -- ---- a constant is read
 
-suffix_stops : (radix : Radix) (suffix : Text) → list_all is_suffix_byte suffix ≡ true → prefix_len (is_digit_in radix) suffix ≡ 0
+suffix_stops : (radix : Radix) (suffix : Text) → list_all is_suffix_byte suffix ≡ true →
+    prefix_len (is_digit_in radix) suffix ≡ 0
 suffix_stops radix [] all = refl
 suffix_stops Decimal (byte ∷ suffix) all =
     let parts = and_parts (is_suffix_byte byte) (list_all is_suffix_byte suffix) all in
@@ -102,13 +106,15 @@ suffix_stops Hexadecimal (byte ∷ suffix) all =
     let stops : is_digit_in Hexadecimal byte ≡ false = at_suffix_byte (λ b. is_digit_in Hexadecimal b ≡ false) byte parts.0 refl refl refl refl in
     rw stops refl
 
-suffix_no_x : (suffix : Text) → list_all is_suffix_byte suffix ≡ true → (nat_eq (slice_index suffix 0) 120 || nat_eq (slice_index suffix 0) 88) ≡ false
+suffix_no_x : (suffix : Text) → list_all is_suffix_byte suffix ≡ true →
+    (nat_eq (slice_index suffix 0) 120 || nat_eq (slice_index suffix 0) 88) ≡ false
 suffix_no_x [] all = refl
 suffix_no_x (byte ∷ suffix) all =
     let parts = and_parts (is_suffix_byte byte) (list_all is_suffix_byte suffix) all in
     at_suffix_byte (λ b. (nat_eq b 120 || nat_eq b 88) ≡ false) byte parts.0 refl refl refl refl
 
-decimal_radix : (digits suffix : Text) → digits ≢ [] → has_leading_zero Decimal digits ≡ false → list_all is_suffix_byte suffix ≡ true → radix_of (digits ++ suffix) ≡ Decimal
+decimal_radix : (digits suffix : Text) → digits ≢ [] → has_leading_zero Decimal digits ≡ false →
+    list_all is_suffix_byte suffix ≡ true → radix_of (digits ++ suffix) ≡ Decimal
 decimal_radix [] suffix some no_octal all = absurd (some refl)
 decimal_radix (d ∷ []) suffix some no_octal all =
     let x = nat_eq (slice_index suffix 0) 120 || nat_eq (slice_index suffix 0) 88 in
@@ -117,7 +123,8 @@ decimal_radix (d ∷ e ∷ more) suffix some no_octal all =
     let x = nat_eq e 120 || nat_eq e 88 in
     cond-false (nat_eq d 48 && x) Hexadecimal Decimal (and_left (nat_eq d 48) x no_octal)
 
-read_radix : (radix : Radix) (mark digits suffix : Text) → IsMark radix mark → digits ≢ [] → has_leading_zero radix digits ≡ false
+read_radix : (radix : Radix) (mark digits suffix : Text) → IsMark radix mark → digits ≢ [] →
+    has_leading_zero radix digits ≡ false
     → list_all is_suffix_byte suffix ≡ true → radix_of (mark ++ (digits ++ suffix)) ≡ radix
 read_radix Decimal mark digits suffix marked some no_octal all = rw marked (decimal_radix digits suffix some no_octal all)
 read_radix Hexadecimal mark digits suffix (inl small) some no_octal all = rw small refl
@@ -132,7 +139,8 @@ not_empty : (digits : Text) → digits ≢ [] → nat_eq (length digits) 0 ≡ f
 not_empty [] some = absurd (some refl)
 not_empty (d ∷ digits) some = ne_eqb (length (d ∷ digits)) 0 (λ e. omega arith)
 
-constant_in_is : (radix : Radix) (digits suffix : Text) (has_u : Bool) → digits ≢ [] → list_all (is_digit_in radix) digits ≡ true
+constant_in_is : (radix : Radix) (digits suffix : Text) (has_u : Bool) → digits ≢ [] →
+    list_all (is_digit_in radix) digits ≡ true
     → has_leading_zero radix digits ≡ false → suffix_has_u suffix ≡ Some has_u → constant_in radix (digits ++ suffix) ≡ Some (constant_with radix digits has_u)
 unfolding constant_in
 constant_in_is radix digits suffix has_u some all no_octal suffixed =
@@ -217,7 +225,8 @@ kind_of_constant at bytes radix digits has_u (Some n) kind is found_is read =
       | inr fails ↦ (let e = rw fails at read in cc)
     ]
 
-pub number-Ok : (at : ℕ) (bytes : Text) (found : Option Constant) (kind : TokenKind) → constant_of bytes ≡ found → number at found ≡ Ok kind → IsNumberToken bytes kind
+pub number-Ok : (at : ℕ) (bytes : Text) (found : Option Constant) (kind : TokenKind) → constant_of bytes ≡ found →
+    number at found ≡ Ok kind → IsNumberToken bytes kind
 number-Ok at bytes None kind found_is read = cc
 number-Ok at bytes (Some constant) kind found_is read =
     let c = constant_of-Some bytes constant found_is in
@@ -251,7 +260,8 @@ fault_of_constant at bytes radix digits has_u (Some n) fault is found_is read =
           subst (NumberFault at bytes) (err_same _ _ (rw fails at read)) ((radix, digits, has_u, is, omega arith), refl))
     ]
 
-pub number-Err : (at : ℕ) (bytes : Text) (found : Option Constant) (fault : LexError) → constant_of bytes ≡ found → number at found ≡ Err fault → NumberFault at bytes fault
+pub number-Err : (at : ℕ) (bytes : Text) (found : Option Constant) (fault : LexError) → constant_of bytes ≡ found →
+    number at found ≡ Err fault → NumberFault at bytes fault
 number-Err at bytes None fault found_is read =
     subst (NumberFault at bytes) (err_same _ _ read)
     ((λ radix digits has_u is. (let e = sym found_is ∙ constant_of_is bytes radix digits has_u is in cc)), refl)

@@ -1,6 +1,6 @@
 -- Lists of spellings: what a look-up says, and which punctuator a text begins with.
-use Rattle.std.proofs.Common.{◌≡◌, ℕ, zero, suc, ◌+◌, ◌-◌, ◌<◌, ◌≤◌, Bool, true, false, not, ◌&&◌, inl, inr, List, [], ◌∷◌, ◌++◌, length, take, drop, Option, Some, None, nat_eq, nat_le, bytes_eq, refl, sym, ap, ◌∙◌, subst, arith, take-append-drop, take_at, length-append, length-take-le}
-use Rattle.std.specs.List.{list_all, slice_get}
+use Rattle.std.proofs.Common.{◌≡◌, ℕ, zero, suc, ◌+◌, ◌-◌, ◌<◌, ◌≤◌, Bool, true, false, not, ◌&&◌, inl, inr, List, [], ◌∷◌, ◌++◌, length, take, drop, Option, Some, None, nat_le, bytes_eq, refl, sym, ap, ◌∙◌, subst, arith, take-append-drop, take_at, length-append, length-take-le}
+use Rattle.std.specs.List.{list_all}
 use Rattle.std.proofs.lemmas.Bool.{and_parts, cases_Bool, not-true, both_ways, leb-true, leb-false}
 use Rattle.std.proofs.lemmas.Slice.Eq.{bytes_eq-Decides}
 use Rattle.pw_lex.specs.Bytes.{Text}
@@ -8,7 +8,8 @@ use Rattle.pw_lex.specs.Spellings.{punctuators, IsListed}
 use Rattle.pw_lex.specs.Reading.{number_from, punctuator_of, with_length, longest_punctuator}
 
 -- what all pass, each entry passes
-pub listed_passes : (p : Text → Bool) (list : List Text) (text : Text) (number : ℕ) → list_all p list ≡ true → IsListed list text number → p text ≡ true
+pub listed_passes : (p : Text → Bool) (list : List Text) (text : Text) (number : ℕ) → list_all p list ≡ true →
+    IsListed list text number → p text ≡ true
 listed_passes p [] text number passes listed = cc
 listed_passes p (entry ∷ list) text zero passes listed =
     let parts = and_parts (p entry) (list_all p list) passes in
@@ -37,7 +38,8 @@ pub record IsFound (first : ℕ) (list : List Text) (text : Text) (number : ℕ)
   pub number_is : number ≡ first + position
   pub listed : IsListed list text position
 
-found_from : (first : ℕ) (list : List Text) (text : Text) (number : ℕ) → number_from first list text ≡ Some number → IsFound first list text number
+found_from : (first : ℕ) (list : List Text) (text : Text) (number : ℕ) → number_from first list text ≡ Some number →
+    IsFound first list text number
 found_from first [] text number found = cc
 found_from first (entry ∷ list) text number found =
     elim (cases_Bool (bytes_eq entry text)) [
@@ -51,14 +53,16 @@ found_from first (entry ∷ list) text number found =
           record { position = suc later.position; number_is = (let e = later.number_is in omega arith); listed = later.listed })
     ]
 
-pub number_from-Some : (list : List Text) (text : Text) (number : ℕ) → number_from 0 list text ≡ Some number → IsListed list text number
+pub number_from-Some : (list : List Text) (text : Text) (number : ℕ) → number_from 0 list text ≡ Some number →
+    IsListed list text number
 number_from-Some list text number found =
     let f = found_from 0 list text number found in
     let same : f.position ≡ number = (let e = f.number_is in omega arith) in
     subst (IsListed list text) same f.listed
 
 -- where none is found, the list does not have the text
-pub number_from-None : (first : ℕ) (list : List Text) (text : Text) → number_from first list text ≡ None → (number : ℕ) → IsListed list text number → ⊥
+pub number_from-None : (first : ℕ) (list : List Text) (text : Text) → number_from first list text ≡ None → (number : ℕ) →
+    IsListed list text number → ⊥
 number_from-None first [] text missing number listed = cc
 number_from-None first (entry ∷ list) text missing zero listed =
     elim (cases_Bool (bytes_eq entry text)) [
@@ -78,11 +82,13 @@ abbrev pub all_differ : List Text → Bool
 all_differ [] = true
 all_differ (entry ∷ list) = list_all (λ other. not (bytes_eq entry other)) list && all_differ list
 
-apart_from : (list : List Text) (entry text : Text) (number : ℕ) → list_all (λ other. not (bytes_eq entry other)) list ≡ true → entry ≡ text → IsListed list text number → ⊥
+apart_from : (list : List Text) (entry text : Text) (number : ℕ) → list_all (λ other. not (bytes_eq entry other)) list ≡ true →
+    entry ≡ text → IsListed list text number → ⊥
 apart_from list entry text number apart same later =
     alike entry text (not-true (bytes_eq entry text) (listed_passes (λ other. not (bytes_eq entry other)) list text number apart later)) same
 
-pub one_number : (list : List Text) (text : Text) (j k : ℕ) → all_differ list ≡ true → IsListed list text j → IsListed list text k → j ≡ k
+pub one_number : (list : List Text) (text : Text) (j k : ℕ) → all_differ list ≡ true → IsListed list text j →
+    IsListed list text k → j ≡ k
 one_number [] text j k apart first second = cc
 one_number (entry ∷ list) text zero zero apart first second = refl
 one_number (entry ∷ list) text zero (suc k) apart first second =
@@ -113,7 +119,8 @@ pub record BeginsPunctuator (text : Text) (number len : ℕ) : Type 0 where
   pub len_is : len ≡ length spelling
   pub longest : (v t : Text) (j : ℕ) → text ≡ v ++ t → IsListed punctuators v j → length v ≤ length spelling
 
-punctuator_of-Some : (len : ℕ) (text : Text) (number : ℕ) → punctuator_of len text ≡ Some number → (len ≤ length text) × IsListed punctuators (take len text) number
+punctuator_of-Some : (len : ℕ) (text : Text) (number : ℕ) → punctuator_of len text ≡ Some number →
+    (len ≤ length text) × IsListed punctuators (take len text) number
 punctuator_of-Some len text number found =
     elim (cases_Bool (nat_le len (length text))) [
       | inl holds ↦ (leb-true len (length text) holds, number_from-Some punctuators (take len text) number (rw holds at found))
@@ -121,7 +128,8 @@ punctuator_of-Some len text number found =
     ]
 
 -- where no punctuator of a length is found, the text begins with none
-punctuator_of-None : (len : ℕ) (text : Text) → punctuator_of len text ≡ None → (v t : Text) (j : ℕ) → text ≡ v ++ t → IsListed punctuators v j → length v ≡ len → ⊥
+punctuator_of-None : (len : ℕ) (text : Text) → punctuator_of len text ≡ None → (v t : Text) (j : ℕ) → text ≡ v ++ t →
+    IsListed punctuators v j → length v ≡ len → ⊥
 punctuator_of-None len text missing v t j is listed long =
     let whole = ap length is ∙ length-append v t in
     let taken : take len text ≡ v = ap (take len) is ∙ take_at v t len long in
@@ -160,7 +168,8 @@ below text len missing bound v t j is listed =
 at_most : (text v t : Text) (j : ℕ) → text ≡ v ++ t → IsListed punctuators v j → length v ≤ 3
 at_most text v t j is listed = (few_bytes v j listed).1
 
-by_lengths : (text : Text) (a b c : Option ℕ) (number len : ℕ) → punctuator_of 3 text ≡ a → punctuator_of 2 text ≡ b → punctuator_of 1 text ≡ c
+by_lengths : (text : Text) (a b c : Option ℕ) (number len : ℕ) → punctuator_of 3 text ≡ a → punctuator_of 2 text ≡ b →
+    punctuator_of 1 text ≡ c
     → with_length a 3 (with_length b 2 (with_length c 1 None)) ≡ Some (number, len) → BeginsPunctuator text number len
 by_lengths text (Some n) b c number len three two one found =
     let same : ◌≡◌ {A = ℕ × ℕ} (n, 3) (number, len) = some_pair _ _ found in
@@ -173,11 +182,13 @@ by_lengths text None None (Some n) number len three two one found =
     subst (λ p. BeginsPunctuator text p.0 p.1) same (begins_with text 1 n one (below text 1 two (below text 2 three (at_most text))))
 by_lengths text None None None number len three two one found = cc
 
-pub longest_punctuator-Some : (text : Text) (number len : ℕ) → longest_punctuator text ≡ Some (number, len) → BeginsPunctuator text number len
+pub longest_punctuator-Some : (text : Text) (number len : ℕ) → longest_punctuator text ≡ Some (number, len) →
+    BeginsPunctuator text number len
 unfolding longest_punctuator
 longest_punctuator-Some text number len found = by_lengths text (punctuator_of 3 text) (punctuator_of 2 text) (punctuator_of 1 text) number len refl refl refl found
 
-none_by_lengths : (text : Text) (a b c : Option ℕ) → punctuator_of 3 text ≡ a → punctuator_of 2 text ≡ b → punctuator_of 1 text ≡ c
+none_by_lengths : (text : Text) (a b c : Option ℕ) → punctuator_of 3 text ≡ a → punctuator_of 2 text ≡ b →
+    punctuator_of 1 text ≡ c
     → with_length a 3 (with_length b 2 (with_length c 1 None)) ≡ None → (v t : Text) (j : ℕ) → text ≡ v ++ t → IsListed punctuators v j → ⊥
 none_by_lengths text (Some n) b c three two one missing v t j is listed = cc
 none_by_lengths text None (Some n) c three two one missing v t j is listed = cc
@@ -188,7 +199,8 @@ none_by_lengths text None None None three two one missing v t j is listed =
     absurd (omega arith)
 
 -- where none is found, the text begins with no punctuator
-pub longest_punctuator-None : (text : Text) → longest_punctuator text ≡ None → (v t : Text) (j : ℕ) → text ≡ v ++ t → IsListed punctuators v j → ⊥
+pub longest_punctuator-None : (text : Text) → longest_punctuator text ≡ None → (v t : Text) (j : ℕ) → text ≡ v ++ t →
+    IsListed punctuators v j → ⊥
 unfolding longest_punctuator
 longest_punctuator-None text missing v t j is listed =
     none_by_lengths text (punctuator_of 3 text) (punctuator_of 2 text) (punctuator_of 1 text) refl refl refl missing v t j is listed

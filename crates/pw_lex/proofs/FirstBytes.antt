@@ -197,7 +197,8 @@ suffix_bytes (a ∷ []) has_u found = suffix_one (is_u a) (is_l a) has_u found
     suffix_one false false has_u found = cc
 suffix_bytes (a ∷ b ∷ []) has_u found = suffix_two (is_u a) (is_l a) (is_u b) (is_l b) has_u found
   where
-    suffix_two : (u l v m has_u : Bool) → cond ((u && m) || (l && v)) (Some true) None ≡ Some has_u → ((u || l) && ((v || m) && true)) ≡ true
+    suffix_two : (u l v m has_u : Bool) → cond ((u && m) || (l && v)) (Some true) None ≡ Some has_u →
+        ((u || l) && ((v || m) && true)) ≡ true
     suffix_two true l true m has_u found = refl
     suffix_two true l false true has_u found = refl
     suffix_two true true false false has_u found = cc
@@ -225,24 +226,28 @@ mark_runs Hexadecimal mark (inr large) = rw large refl
 all_append : (v w : Text) → list_all is_run_byte v ≡ true → list_all is_run_byte w ≡ true → list_all is_run_byte (v ++ w) ≡ true
 all_append v w first second = list_all-append is_run_byte v w ∙ and_from (list_all is_run_byte v) (list_all is_run_byte w) first second
 
-pub constant_runs : (bytes : Text) (radix : Radix) (digits : Text) (has_u : Bool) → IsConstant bytes radix digits has_u → list_all is_run_byte bytes ≡ true
+pub constant_runs : (bytes : Text) (radix : Radix) (digits : Text) (has_u : Bool) → IsConstant bytes radix digits has_u →
+    list_all is_run_byte bytes ≡ true
 constant_runs bytes radix digits has_u c =
     rw c.spelled (all_append c.mark (digits ++ c.suffix) (mark_runs radix c.mark c.marked)
     (all_append digits c.suffix (digits_run radix digits c.all_digits) (suffix_runs c.suffix (suffix_bytes c.suffix has_u c.suffixed))))
 
-digits_begin : (digits more : Text) → digits ≢ [] → list_all (is_digit_in Decimal) digits ≡ true → BeginsWith Digit (digits ++ more)
+digits_begin : (digits more : Text) → digits ≢ [] → list_all (is_digit_in Decimal) digits ≡ true →
+    BeginsWith Digit (digits ++ more)
 digits_begin [] more some passes = absurd (some refl)
 digits_begin (byte ∷ digits) more some passes =
     let parts = and_parts (is_digit_in Decimal byte) (list_all (is_digit_in Decimal) digits) passes in
     let both = and_parts (nat_le 48 byte) (nat_le byte 57) parts.0 in
     class_digit byte (leb-true 48 byte both.0) (leb-true byte 57 both.1)
 
-marked_begins : (radix : Radix) (mark digits suffix : Text) → IsMark radix mark → digits ≢ [] → list_all (is_digit_in radix) digits ≡ true → BeginsWith Digit (mark ++ (digits ++ suffix))
+marked_begins : (radix : Radix) (mark digits suffix : Text) → IsMark radix mark → digits ≢ [] →
+    list_all (is_digit_in radix) digits ≡ true → BeginsWith Digit (mark ++ (digits ++ suffix))
 marked_begins Decimal mark digits suffix marked some passes = rw marked (digits_begin digits suffix some passes)
 marked_begins Hexadecimal mark digits suffix (inl small) some passes = rw small class_zero
 marked_begins Hexadecimal mark digits suffix (inr large) some passes = rw large class_zero
 
-pub constant_begins : (bytes : Text) (radix : Radix) (digits : Text) (has_u : Bool) → IsConstant bytes radix digits has_u → BeginsWith Digit bytes
+pub constant_begins : (bytes : Text) (radix : Radix) (digits : Text) (has_u : Bool) → IsConstant bytes radix digits has_u →
+    BeginsWith Digit bytes
 constant_begins bytes radix digits has_u c = rw c.spelled (marked_begins radix c.mark digits c.suffix c.marked c.some c.all_digits)
 
 character_begins : (bytes : Text) (value : ℕ) → IsCharacter bytes value → BeginsWith Quote bytes
@@ -265,7 +270,8 @@ token_begins bytes (Char value) is = character_begins bytes value is
 token_begins bytes (Keyword number) is = keyword_begins bytes number is
 token_begins bytes (Punct number) is = punctuator_begins bytes number is
 
-pub token_runs : (bytes : Text) (kind : TokenKind) → IsToken bytes kind → runs_on (kind_class kind) ≡ true → list_all is_run_byte bytes ≡ true
+pub token_runs : (bytes : Text) (kind : TokenKind) → IsToken bytes kind → runs_on (kind_class kind) ≡ true →
+    list_all is_run_byte bytes ≡ true
 token_runs bytes (Word name) is on = is.0.goes_on
 token_runs bytes (Number value unsigned) is on = constant_runs bytes is.radix is.digits is.has_u is.constant
 token_runs bytes (Char value) is on = cc

@@ -1,3 +1,4 @@
+-- The modules of the proofs of this crate.
 pub mod Lists
 pub mod Value
 pub mod Entries

@@ -5,7 +5,8 @@ use Rattle.std.specs.List.{prefix_len, list_all}
 use Rattle.std.proofs.lemmas.Bool.{and_parts, cases_Bool}
 
 -- a prefix that passes counts whole
-pub prefix_len-append : {X : Type 0} (p : X → Bool) (v t : List X) → list_all p v ≡ true → prefix_len p (v ++ t) ≡ length v + prefix_len p t
+pub prefix_len-append : {X : Type 0} (p : X → Bool) (v t : List X) → list_all p v ≡ true →
+    prefix_len p (v ++ t) ≡ length v + prefix_len p t
 prefix_len-append p [] t passes = omega arith
 prefix_len-append p (x ∷ v) t passes =
     let parts = and_parts (p x) (list_all p v) passes in

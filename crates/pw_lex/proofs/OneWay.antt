@@ -18,7 +18,7 @@ use Rattle.pw_lex.specs.Spellings.{keywords, punctuators}
 use Rattle.pw_lex.specs.Number.{IsConstant, value, limit}
 use Rattle.pw_lex.specs.Token.{IsToken}
 use Rattle.pw_lex.specs.Fault as piece
-use Rattle.pw_lex.specs.Fault.{Piece, bytes_of, not_newline, EndsLine, closes, OpensComment, IsOpenComment, IsBadNumber, IsTooWide, IsLongName, BeginsToken, StandsBefore, IsBadByte}
+use Rattle.pw_lex.specs.Fault.{Piece, bytes_of, not_newline, EndsLine, closes, BeginsToken, StandsBefore, IsBadByte}
 use Rattle.pw_lex.specs.Text.{spelled, Stand, tokens_of_piece, tokens_after, line_after, HasTokens, FaultStands, HasFault}
 use Rattle.pw_lex.specs.Laws.{HasReading, NotBoth, OneList, OneFault}
 use Rattle.pw_lex.specs.Reading as reading
@@ -45,7 +45,8 @@ punctuators_differ = refl
 some_pair : (a b : ℕ × ℕ) → Some a ≡ Some b → a ≡ b
 some_pair a b same = cc
 
-same_class : (bytes : Text) (kind other : TokenKind) → IsToken bytes kind → IsToken bytes other → kind_class kind ≡ kind_class other
+same_class : (bytes : Text) (kind other : TokenKind) → IsToken bytes kind → IsToken bytes other →
+    kind_class kind ≡ kind_class other
 same_class bytes kind other is too = one_class bytes (kind_class kind) (kind_class other) (token_begins bytes kind is) (token_begins bytes other too)
 
 one_kind : (bytes : Text) (kind other : TokenKind) → IsToken bytes kind → IsToken bytes other → kind ≡ other
@@ -93,7 +94,8 @@ kind_not_white (Keyword k) is = cc
 kind_not_white (Punct k) is = cc
 
 -- where a token begins, each piece that stands there is this token
-same_token : (bytes rest more : Text) (kind : TokenKind) (stands : Piece) → BeginsToken (bytes ++ rest) bytes kind → bytes ++ rest ≡ bytes_of stands ++ more
+same_token : (bytes rest more : Text) (kind : TokenKind) (stands : Piece) → BeginsToken (bytes ++ rest) bytes kind →
+    bytes ++ rest ≡ bytes_of stands ++ more
     → StandsBefore stands more → prefix_of stands ≡ Token kind (length bytes)
 same_token bytes rest more kind (piece.white byte) begins is right =
     absurd (kind_not_white kind (prefix_kind (byte ∷ more) bytes rest kind White (sym is) begins.token right))
@@ -107,7 +109,8 @@ same_token bytes rest more kind (piece.token found other) begins is right =
     let kinds : other ≡ kind = one_kind bytes other kind (subst (λ b. IsToken b other) same.0 right.token) begins.token in
     ap₂ Token kinds long
 
-no_fault_at_token : (at : ℕ) (bytes rest : Text) (kind : TokenKind) (fault : LexError) → BeginsToken (bytes ++ rest) bytes kind → FaultStands at (bytes ++ rest) fault → ⊥
+no_fault_at_token : (at : ℕ) (bytes rest : Text) (kind : TokenKind) (fault : LexError) →
+    BeginsToken (bytes ++ rest) bytes kind → FaultStands at (bytes ++ rest) fault → ⊥
 no_fault_at_token at bytes rest kind (BadByte place) begins stands = stands.0.no_piece (piece.token bytes kind) rest refl begins
 no_fault_at_token at bytes rest kind (OpenComment place) begins stands = begins.no_comment (stands.0.0, inr stands.0.1)
 no_fault_at_token at bytes rest kind (BadNumber place) begins stands = begins.no_bad_number stands.0
@@ -115,7 +118,8 @@ no_fault_at_token at bytes rest kind (TooWide place) begins stands = begins.no_w
 no_fault_at_token at bytes rest kind (LongName place) begins stands = begins.no_long_name stands.0
 no_fault_at_token at bytes rest kind NoMemory begins stands = absurd stands
 
-token_read : (at : ℕ) (bytes rest : Text) (kind : TokenKind) (read : Result Prefix LexError) → 0 < length (bytes ++ rest) → BeginsToken (bytes ++ rest) bytes kind
+token_read : (at : ℕ) (bytes rest : Text) (kind : TokenKind) (read : Result Prefix LexError) → 0 < length (bytes ++ rest) →
+    BeginsToken (bytes ++ rest) bytes kind
     → prefix at (bytes ++ rest) ≡ read → prefix at (bytes ++ rest) ≡ Ok (Token kind (length bytes))
 token_read at bytes rest kind (Ok found) some begins is =
     let e = explained at (bytes ++ rest) found some is in
@@ -131,21 +135,24 @@ slash_read : (at : ℕ) (rest : Text) → prefix at (47 ∷ rest) ≡ other at (
 unfolding prefix class_of
 slash_read at rest = refl
 
-line_read : (at : ℕ) (body rest : Text) → list_all not_newline body ≡ true → EndsLine rest → other at (47 ∷ 47 ∷ (body ++ rest)) ≡ Ok (Gap (length body + 2))
+line_read : (at : ℕ) (body rest : Text) → list_all not_newline body ≡ true → EndsLine rest →
+    other at (47 ∷ 47 ∷ (body ++ rest)) ≡ Ok (Gap (length body + 2))
 unfolding other
 line_read at body rest passes ends =
     let len = prefix_len-append not_newline body rest passes in
     let stop = prefix_len_ends rest ends in
     ap (λ n. Ok (Gap n)) (omega arith)
 
-block_read : (at : ℕ) (body rest : Text) → closes (body ++ 42 ∷ []) ≡ false → other at (47 ∷ 42 ∷ ((body ++ 42 ∷ 47 ∷ []) ++ rest)) ≡ Ok (Gap (length body + 4))
+block_read : (at : ℕ) (body rest : Text) → closes (body ++ 42 ∷ []) ≡ false →
+    other at (47 ∷ 42 ∷ ((body ++ 42 ∷ 47 ∷ []) ++ rest)) ≡ Ok (Gap (length body + 4))
 unfolding other
 block_read at body rest first =
     ap (λ t. reading.block_comment at (close_from 0 t)) (append_assoc body (42 ∷ 47 ∷ []) rest)
     ∙ ap (reading.block_comment at) (close_from_body 0 body rest first)
     ∙ ap (λ n. Ok (Gap n)) (omega arith)
 
-pub stands_read : (at : ℕ) (stands : Piece) (rest : Text) → StandsBefore stands rest → prefix at (bytes_of stands ++ rest) ≡ Ok (prefix_of stands)
+pub stands_read : (at : ℕ) (stands : Piece) (rest : Text) → StandsBefore stands rest →
+    prefix at (bytes_of stands ++ rest) ≡ Ok (prefix_of stands)
 stands_read at (piece.white byte) rest right = white_read at byte rest right
 stands_read at (piece.line_comment body) rest right = slash_read at (47 ∷ (body ++ rest)) ∙ line_read at body rest right.0 right.1
 stands_read at (piece.block_comment body) rest right = slash_read at (42 ∷ ((body ++ 42 ∷ 47 ∷ []) ++ rest)) ∙ block_read at body rest right
@@ -160,12 +167,14 @@ open_read : (at : ℕ) (body : Text) → closes body ≡ false → other at (47 
 unfolding other
 open_read at body open_ = ap (reading.block_comment at) (close_from_none 0 body open_)
 
-letter_read : (at : ℕ) (text : Text) → BeginsWith Letter text → prefix at text ≡ run_token (length (run text)) (word_in at (run text))
+letter_read : (at : ℕ) (text : Text) → BeginsWith Letter text →
+    prefix at text ≡ run_token (length (run text)) (word_in at (run text))
 unfolding prefix
 letter_read at [] begins = absurd begins
 letter_read at (byte ∷ text) begins = ap (λ class. prefix_in class at (byte ∷ text)) begins
 
-digit_read : (at : ℕ) (text : Text) → BeginsWith Digit text → prefix at text ≡ run_token (length (run text)) (reading.number at (constant_of (run text)))
+digit_read : (at : ℕ) (text : Text) → BeginsWith Digit text →
+    prefix at text ≡ run_token (length (run text)) (reading.number at (constant_of (run text)))
 unfolding prefix
 digit_read at [] begins = absurd begins
 digit_read at (byte ∷ text) begins = ap (λ class. prefix_in class at (byte ∷ text)) begins
@@ -174,18 +183,21 @@ long_read : (at : ℕ) (bytes : Text) → name_bytes < length bytes → word_in 
 unfolding word_in
 long_read at bytes long = rw (lt-ltb name_bytes (length bytes) long) refl
 
-bad_read : (at : ℕ) (bytes : Text) (found : Option Constant) → constant_of bytes ≡ found → ((radix : Radix) (digits : Text) (has_u : Bool) → ¬ (IsConstant bytes radix digits has_u))
+bad_read : (at : ℕ) (bytes : Text) (found : Option Constant) → constant_of bytes ≡ found →
+    ((radix : Radix) (digits : Text) (has_u : Bool) → ¬ (IsConstant bytes radix digits has_u))
     → reading.number at found ≡ Err (BadNumber at)
 bad_read at bytes None is none = refl
 bad_read at bytes (Some constant) is none = (let c = constant_of-Some bytes constant is in absurd (none constant.radix c.digits constant.has_u c.is))
 
-wide_read : (at : ℕ) (radix : Radix) (has_u : Bool) (number : ℕ) (found : Option ℕ) → word_value number ≡ found → limit radix has_u < number → number_kind at radix has_u found ≡ Err (TooWide at)
+wide_read : (at : ℕ) (radix : Radix) (has_u : Bool) (number : ℕ) (found : Option ℕ) → word_value number ≡ found →
+    limit radix has_u < number → number_kind at radix has_u found ≡ Err (TooWide at)
 wide_read at radix has_u number None is above = refl
 wide_read at radix has_u number (Some n) is above =
     let same = word_value-Some number n is in
     rw (lt-leb n (limit radix has_u) (omega arith)) refl
 
-bad_byte_read : (at : ℕ) (text : Text) (read : Result Prefix LexError) → IsBadByte text → 0 < length text → prefix at text ≡ read → prefix at text ≡ Err (BadByte at)
+bad_byte_read : (at : ℕ) (text : Text) (read : Result Prefix LexError) → IsBadByte text → 0 < length text →
+    prefix at text ≡ read → prefix at text ≡ Err (BadByte at)
 bad_byte_read at text (Ok found) bad some is =
     let e = explained at text found some is in
     absurd (bad.no_piece e.stands e.rest e.text_is e.right)
@@ -294,7 +306,8 @@ abbrev Outcome : Text → Type 0
 Outcome text = ((tokens : List a_token.Token) × HasTokens text tokens) ⊎ ((fault : LexError) × HasFault text fault)
 
 -- the outcome of a text from its next piece on, where what is left after it has one
-next_outcome : (left : ℕ) (text rest : Text) (tokens : List a_token.Token) (line : ℕ) → 0 < length rest → length rest ≤ suc left → IsRead text rest tokens line
+next_outcome : (left : ℕ) (text rest : Text) (tokens : List a_token.Token) (line : ℕ) → 0 < length rest →
+    length rest ≤ suc left → IsRead text rest tokens line
     → ((more : Text) (others : List a_token.Token) (later : ℕ) → length more ≤ left → IsRead text more others later → Outcome text)
     → (found : Result Prefix LexError) → prefix (length text - length rest) rest ≡ found → Outcome text
 next_outcome left text rest tokens line some short read go (Ok found) is =
@@ -303,7 +316,8 @@ next_outcome left text rest tokens line some short read go (Ok found) is =
     go (drop (len_of found) rest) _ _ (omega arith) (read_more text rest tokens line found read some is)
 next_outcome left text rest tokens line some short read go (Err fault) is = inr (fault, read_fault text rest tokens line fault read some is)
 
-outcome : (left : ℕ) (text rest : Text) (tokens : List a_token.Token) (line : ℕ) → length rest ≤ left → IsRead text rest tokens line → Outcome text
+outcome : (left : ℕ) (text rest : Text) (tokens : List a_token.Token) (line : ℕ) → length rest ≤ left →
+    IsRead text rest tokens line → Outcome text
 outcome left text [] tokens line short read = inl (tokens, read_end text tokens line read)
 outcome zero text (byte ∷ rest) tokens line short read = absurd (omega arith)
 outcome (suc left) text (byte ∷ rest) tokens line short read =

@@ -14,7 +14,8 @@ use Rattle.pw_lex.proofs.FirstBytes.{token_some}
 token_at : (before bytes : Text) (kind : TokenKind) → Token
 token_at before bytes kind = record { kind = kind; first = length before; end = length before + length bytes; line = line_after before }
 
-stands_in : (text before bytes rest : Text) (kind : TokenKind) → text ≡ before ++ (bytes ++ rest) → IsToken bytes kind → StandsIn text (token_at before bytes kind)
+stands_in : (text before bytes rest : Text) (kind : TokenKind) → text ≡ before ++ (bytes ++ rest) → IsToken bytes kind →
+    StandsIn text (token_at before bytes kind)
 unfolding token_at
 stands_in text before bytes rest kind is token =
     let some = token_some bytes kind token in
@@ -32,7 +33,8 @@ stands_in text before bytes rest kind is token =
       line_is = ap line_after (sym prefix);
     }
 
-all_stand : (text before : Text) (pieces : List Piece) → text ≡ before ++ spelled pieces → Stand pieces [] → All (StandsIn text) (tokens_after before pieces)
+all_stand : (text before : Text) (pieces : List Piece) → text ≡ before ++ spelled pieces → Stand pieces [] →
+    All (StandsIn text) (tokens_after before pieces)
 unfolding token_at
 all_stand text before [] is stand = λ k d within. absurd (omega arith)
 all_stand text before (piece.white byte ∷ pieces) is stand =

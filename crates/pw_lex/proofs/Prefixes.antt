@@ -13,12 +13,12 @@ use Rattle.pw_lex.specs.declared.token.TokenKind.{TokenKind}
 use Rattle.pw_lex.specs.declared.token.TokenKind.TheVariants.{Word, Number, Char, Keyword, Punct}
 use Rattle.pw_lex.specs.Bytes.{Text, class_of, BeginsWith, runs_on, is_run_byte, run}
 use Rattle.pw_base.specs.Limits.{name_bytes}
-use Rattle.pw_lex.specs.Spellings.{keywords, punctuators}
+use Rattle.pw_lex.specs.Spellings.{keywords}
 use Rattle.pw_lex.specs.Number.{IsConstant, value, limit}
 use Rattle.pw_lex.specs.Character.{IsCharacter}
 use Rattle.pw_lex.specs.Token.{IsToken}
 use Rattle.pw_lex.specs.Fault as piece
-use Rattle.pw_lex.specs.Fault.{Piece, bytes_of, not_newline, closes, OpensComment, IsOpenComment, IsBadNumber, IsTooWide, IsLongName, BeginsToken, StandsBefore, IsBadByte}
+use Rattle.pw_lex.specs.Fault.{Piece, bytes_of, not_newline, OpensComment, IsOpenComment, BeginsToken, StandsBefore, IsBadByte}
 use Rattle.pw_lex.specs.Text.{tokens_of_piece, line_after, FaultStands, place_of}
 use Rattle.pw_lex.specs.Reading as reading
 use Rattle.pw_lex.specs.Reading.{number_from, longest_punctuator, close_from, character_of, constant_of, word_in, run_token, prefix_in, prefix, other, len_of, tokens_of_prefix}
@@ -40,7 +40,8 @@ begins_prefix class [] rest begins = absurd begins
 begins_prefix class (byte ∷ prefix) rest begins = begins
 
 -- a token at the beginning of a text has the class of the text's first byte
-pub prefix_kind : (text bytes rest : Text) (kind : TokenKind) (class : Class) → text ≡ bytes ++ rest → IsToken bytes kind → BeginsWith class text → kind_class kind ≡ class
+pub prefix_kind : (text bytes rest : Text) (kind : TokenKind) (class : Class) → text ≡ bytes ++ rest → IsToken bytes kind →
+    BeginsWith class text → kind_class kind ≡ class
 prefix_kind text bytes rest kind class is token begins =
     one_class text (kind_class kind) class
     (subst (BeginsWith (kind_class kind)) (sym is) (begins_prefix (kind_class kind) bytes rest (token_begins bytes kind token))) begins
@@ -75,7 +76,8 @@ run_begins (byte ∷ text) class begins on =
 
 -- ---- names and keywords
 
-word_token : (text : Text) (found : Option ℕ) → BeginsWith Letter text → length (run text) ≤ name_bytes → number_from 0 keywords (run text) ≡ found → IsToken (run text) (reading.word (run text) found)
+word_token : (text : Text) (found : Option ℕ) → BeginsWith Letter text → length (run text) ≤ name_bytes →
+    number_from 0 keywords (run text) ≡ found → IsToken (run text) (reading.word (run text) found)
 word_token text None begins short found_is = (
   record {
     begins = run_begins text Letter begins refl;
@@ -99,7 +101,8 @@ err_kind a b same = cc
 err_prefix : (a b : LexError) → ◌≡◌ {A = Result Prefix LexError} (Err a) (Err b) → a ≡ b
 err_prefix a b same = cc
 
-letter_kind : (at : ℕ) (text : Text) (kind : TokenKind) → BeginsWith Letter text → word_in at (run text) ≡ Ok kind → IsToken (run text) kind × (length (run text) ≤ name_bytes)
+letter_kind : (at : ℕ) (text : Text) (kind : TokenKind) → BeginsWith Letter text → word_in at (run text) ≡ Ok kind →
+    IsToken (run text) kind × (length (run text) ≤ name_bytes)
 unfolding word_in
 letter_kind at text kind begins read =
     elim (cases_Bool (nat_lt name_bytes (length (run text)))) [
@@ -109,7 +112,8 @@ letter_kind at text kind begins read =
           (subst (IsToken (run text)) (ok_kind _ _ (rw fails at read)) (word_token text (number_from 0 keywords (run text)) begins short refl), short))
     ]
 
-letter_token : (at : ℕ) (text : Text) (kind : TokenKind) → BeginsWith Letter text → word_in at (run text) ≡ Ok kind → BeginsToken text (run text) kind
+letter_token : (at : ℕ) (text : Text) (kind : TokenKind) → BeginsWith Letter text → word_in at (run text) ≡ Ok kind →
+    BeginsToken text (run text) kind
 letter_token at text kind begins read =
     let is = letter_kind at text kind begins read in
     record {
@@ -121,7 +125,8 @@ letter_token at text kind begins read =
       no_long_name = λ long. (let above = long.1 in let below = is.1 in omega arith);
     }
 
-letter_fault : (at : ℕ) (text : Text) (fault : LexError) → BeginsWith Letter text → word_in at (run text) ≡ Err fault → FaultStands at text fault
+letter_fault : (at : ℕ) (text : Text) (fault : LexError) → BeginsWith Letter text → word_in at (run text) ≡ Err fault →
+    FaultStands at text fault
 unfolding word_in
 letter_fault at text fault begins read =
     elim (cases_Bool (nat_lt name_bytes (length (run text)))) [
@@ -144,7 +149,8 @@ fits_not_wide bytes kind radix digits has_u token wide above =
     let limits : limit number.radix number.has_u ≡ limit radix has_u = (let r = same.radix_is in let h = same.has_u_is in cc) in
     omega arith
 
-digit_token : (at : ℕ) (text : Text) (kind : TokenKind) → BeginsWith Digit text → reading.number at (constant_of (run text)) ≡ Ok kind → BeginsToken text (run text) kind
+digit_token : (at : ℕ) (text : Text) (kind : TokenKind) → BeginsWith Digit text →
+    reading.number at (constant_of (run text)) ≡ Ok kind → BeginsToken text (run text) kind
 digit_token at text kind begins read =
     let is = number-Ok at (run text) (constant_of (run text)) kind refl read in
     record {
@@ -156,7 +162,8 @@ digit_token at text kind begins read =
       no_long_name = λ long. (let e = one_class text Digit Letter begins long.0 in cc);
     }
 
-number_fault : (at : ℕ) (text : Text) (fault : LexError) → BeginsWith Digit text → NumberFault at (run text) fault → FaultStands at text fault
+number_fault : (at : ℕ) (text : Text) (fault : LexError) → BeginsWith Digit text → NumberFault at (run text) fault →
+    FaultStands at text fault
 number_fault at text (BadNumber place) begins is = ((begins, is.0), is.1)
 number_fault at text (TooWide place) begins is = ((begins, is.0), is.1)
 number_fault at text (BadByte place) begins is = absurd is
@@ -166,7 +173,8 @@ number_fault at text NoMemory begins is = absurd is
 
 -- ---- characters
 
-quote_test : (white letter digit quote : Bool) → cond white White (cond letter Letter (cond digit Digit (cond quote Quote Other))) ≡ Quote → quote ≡ true
+quote_test : (white letter digit quote : Bool) →
+    cond white White (cond letter Letter (cond digit Digit (cond quote Quote Other))) ≡ Quote → quote ≡ true
 quote_test true letter digit quote is = cc
 quote_test false true digit quote is = cc
 quote_test false false true quote is = cc
@@ -182,7 +190,8 @@ quote_text [] begins = absurd begins
 quote_text (byte ∷ rest) begins = (rest, ap (λ b. b ∷ rest) (quote_byte byte begins))
 
 -- a token at the beginning of a text that begins with a quote is a character that the code reads
-pub quote_prefix : (text bytes rest : Text) (kind : TokenKind) → BeginsWith Quote text → text ≡ bytes ++ rest → IsToken bytes kind
+pub quote_prefix : (text bytes rest : Text) (kind : TokenKind) → BeginsWith Quote text → text ≡ bytes ++ rest →
+    IsToken bytes kind
     → (character : ℕ) × (kind ≡ Char character) × (character_of text ≡ Some (pair character (length bytes)))
 quote_prefix text bytes rest (Char character) begins is token = (character, refl, ap character_of is ∙ character_of_is bytes character rest token)
 quote_prefix text bytes rest (Word name) begins is token = (let e = prefix_kind text bytes rest (Word name) Quote is token begins in cc)
@@ -193,7 +202,8 @@ quote_prefix text bytes rest (Punct k) begins is token = (let e = prefix_kind te
 some_pair : (a b : ℕ × ℕ) → Some a ≡ Some b → a ≡ b
 some_pair a b same = cc
 
-quote_token : (text bytes rest : Text) (character : ℕ) → BeginsWith Quote text → text ≡ bytes ++ rest → IsCharacter bytes character → BeginsToken text bytes (Char character)
+quote_token : (text bytes rest : Text) (character : ℕ) → BeginsWith Quote text → text ≡ bytes ++ rest →
+    IsCharacter bytes character → BeginsToken text bytes (Char character)
 quote_token text bytes rest character begins is token = record {
   token = token;
   longest = λ longer more other text_is other_token. (
@@ -210,20 +220,23 @@ quote_token text bytes rest character begins is token = record {
 
 -- ---- what begins with another byte
 
-pub other_prefix : (text bytes rest : Text) (kind : TokenKind) → BeginsWith Other text → text ≡ bytes ++ rest → IsToken bytes kind → (number : ℕ) × (kind ≡ Punct number)
+pub other_prefix : (text bytes rest : Text) (kind : TokenKind) → BeginsWith Other text → text ≡ bytes ++ rest →
+    IsToken bytes kind → (number : ℕ) × (kind ≡ Punct number)
 other_prefix text bytes rest (Punct number) begins is token = (number, refl)
 other_prefix text bytes rest (Char character) begins is token = (let e = prefix_kind text bytes rest (Char character) Other is token begins in cc)
 other_prefix text bytes rest (Word name) begins is token = (let e = prefix_kind text bytes rest (Word name) Other is token begins in cc)
 other_prefix text bytes rest (Number n u) begins is token = (let e = prefix_kind text bytes rest (Number n u) Other is token begins in cc)
 other_prefix text bytes rest (Keyword k) begins is token = (let e = prefix_kind text bytes rest (Keyword k) Other is token begins in cc)
 
-punct_longest : (text longer more : Text) (kind : TokenKind) (number len : ℕ) (fits : BeginsPunctuator text number len) → BeginsWith Other text
+punct_longest : (text longer more : Text) (kind : TokenKind) (number len : ℕ) (fits : BeginsPunctuator text number len) →
+    BeginsWith Other text
     → text ≡ longer ++ more → IsToken longer kind → length longer ≤ length fits.spelling
 punct_longest text longer more kind number len fits begins text_is token =
     let found = other_prefix text longer more kind begins text_is token in
     fits.longest longer more found.0 text_is (subst (IsToken longer) found.1 token)
 
-punct_token : (text : Text) (number len : ℕ) → BeginsWith Other text → ¬ (OpensComment text) → (fits : BeginsPunctuator text number len) → BeginsToken text fits.spelling (Punct number)
+punct_token : (text : Text) (number len : ℕ) → BeginsWith Other text → ¬ (OpensComment text) →
+    (fits : BeginsPunctuator text number len) → BeginsToken text fits.spelling (Punct number)
 punct_token text number len begins no_comment fits = record {
   token = fits.listed;
   longest = λ longer more kind text_is token. punct_longest text longer more kind number len fits begins text_is token;
@@ -248,7 +261,8 @@ len-prefix_of (piece.line_comment body) = omega arith
 len-prefix_of (piece.block_comment body) = (let long = length-append body (42 ∷ 47 ∷ []) in omega arith)
 len-prefix_of (piece.token bytes kind) = refl
 
-pub tokens-prefix_of : (before : Text) (stands : Piece) → tokens_of_piece before stands ≡ tokens_of_prefix (length before) (line_after before) (prefix_of stands)
+pub tokens-prefix_of : (before : Text) (stands : Piece) →
+    tokens_of_piece before stands ≡ tokens_of_prefix (length before) (line_after before) (prefix_of stands)
 tokens-prefix_of before (piece.white byte) = refl
 tokens-prefix_of before (piece.line_comment body) = refl
 tokens-prefix_of before (piece.block_comment body) = refl
@@ -271,7 +285,8 @@ white_explains byte text is = record {
   found_is = refl;
 }
 
-token_explains : (text bytes rest : Text) (kind : TokenKind) (len : ℕ) → text ≡ bytes ++ rest → BeginsToken text bytes kind → len ≡ length bytes → Explains text (Token kind len)
+token_explains : (text bytes rest : Text) (kind : TokenKind) (len : ℕ) → text ≡ bytes ++ rest → BeginsToken text bytes kind →
+    len ≡ length bytes → Explains text (Token kind len)
 token_explains text bytes rest kind len is begins len_is = record {
   stands = piece.token bytes kind;
   rest = rest;
@@ -298,25 +313,29 @@ block_explains text len closed = record {
   found_is = (let is = closed.len_is in ap (λ n. Gap n) (omega arith));
 }
 
-letter_explains : (at : ℕ) (text : Text) (read : Result TokenKind LexError) (found : Prefix) → BeginsWith Letter text → word_in at (run text) ≡ read
+letter_explains : (at : ℕ) (text : Text) (read : Result TokenKind LexError) (found : Prefix) → BeginsWith Letter text →
+    word_in at (run text) ≡ read
     → run_token (length (run text)) read ≡ Ok found → Explains text found
 letter_explains at text (Err fault) found begins read ran = cc
 letter_explains at text (Ok kind) found begins read ran =
     subst (Explains text) (ok_prefix _ _ ran)
     (token_explains text (run text) (drop (prefix_len is_run_byte text) text) kind (length (run text)) (run_rest text) (letter_token at text kind begins read) refl)
 
-digit_explains : (at : ℕ) (text : Text) (read : Result TokenKind LexError) (found : Prefix) → BeginsWith Digit text → reading.number at (constant_of (run text)) ≡ read
+digit_explains : (at : ℕ) (text : Text) (read : Result TokenKind LexError) (found : Prefix) → BeginsWith Digit text →
+    reading.number at (constant_of (run text)) ≡ read
     → run_token (length (run text)) read ≡ Ok found → Explains text found
 digit_explains at text (Err fault) found begins read ran = cc
 digit_explains at text (Ok kind) found begins read ran =
     subst (Explains text) (ok_prefix _ _ ran)
     (token_explains text (run text) (drop (prefix_len is_run_byte text) text) kind (length (run text)) (run_rest text) (digit_token at text kind begins read) refl)
 
-character_explains : (text : Text) (character len : ℕ) → BeginsWith Quote text → BeginsCharacter text character len → Explains text (Token (Char character) len)
+character_explains : (text : Text) (character len : ℕ) → BeginsWith Quote text → BeginsCharacter text character len →
+    Explains text (Token (Char character) len)
 character_explains text character len begins is =
     token_explains text is.bytes is.rest (Char character) len is.text_is (quote_token text is.bytes is.rest character begins is.text_is is.is) is.len_is
 
-quote_explains : (at : ℕ) (text : Text) (read : Option (ℕ × ℕ)) (found : Prefix) → BeginsWith Quote text → character_of text ≡ read
+quote_explains : (at : ℕ) (text : Text) (read : Option (ℕ × ℕ)) (found : Prefix) → BeginsWith Quote text →
+    character_of text ≡ read
     → reading.character at read ≡ Ok found → Explains text found
 quote_explains at text None found begins read ran = cc
 quote_explains at text (Some (character, len)) found begins read ran =
@@ -324,7 +343,8 @@ quote_explains at text (Some (character, len)) found begins read ran =
     let is : BeginsCharacter text character len = subst (λ t. BeginsCharacter t character len) (sym quote.1) (character_of-Some quote.0 character len (sym (ap character_of quote.1) ∙ read)) in
     subst (Explains text) (ok_prefix _ _ ran) (character_explains text character len begins is)
 
-punct_explains : (at : ℕ) (text : Text) (read : Option (ℕ × ℕ)) (found : Prefix) → BeginsWith Other text → ¬ (OpensComment text) → longest_punctuator text ≡ read
+punct_explains : (at : ℕ) (text : Text) (read : Option (ℕ × ℕ)) (found : Prefix) → BeginsWith Other text →
+    ¬ (OpensComment text) → longest_punctuator text ≡ read
     → reading.punctuator at read ≡ Ok found → Explains text found
 punct_explains at text None found begins no_comment read ran = cc
 punct_explains at text (Some (number, len)) found begins no_comment read ran =
@@ -332,12 +352,14 @@ punct_explains at text (Some (number, len)) found begins no_comment read ran =
     subst (Explains text) (ok_prefix _ _ ran)
     (token_explains text fits.spelling fits.rest (Punct number) len fits.text_is (punct_token text number len begins no_comment fits) fits.len_is)
 
-block_read : (at : ℕ) (text : Text) (read : Option ℕ) (found : Prefix) → close_from 0 text ≡ read → reading.block_comment at read ≡ Ok found → Explains (47 ∷ 42 ∷ text) found
+block_read : (at : ℕ) (text : Text) (read : Option ℕ) (found : Prefix) → close_from 0 text ≡ read →
+    reading.block_comment at read ≡ Ok found → Explains (47 ∷ 42 ∷ text) found
 block_read at text None found read ran = cc
 block_read at text (Some len) found read ran = subst (Explains (47 ∷ 42 ∷ text)) (ok_prefix _ _ ran) (block_explains text len (close_from-Some 0 text len read))
 
 -- the first two bytes, where their tests hold
-two_bytes : (text : Text) (second : ℕ) → 0 < second → (nat_eq (slice_index text 0) 47 && nat_eq (slice_index text 1) second) ≡ true → (rest : Text) × (text ≡ 47 ∷ second ∷ rest)
+two_bytes : (text : Text) (second : ℕ) → 0 < second →
+    (nat_eq (slice_index text 0) 47 && nat_eq (slice_index text 1) second) ≡ true → (rest : Text) × (text ≡ 47 ∷ second ∷ rest)
 two_bytes [] second some holds = cc
 two_bytes (a ∷ []) second some holds =
     let parts = and_parts (nat_eq a 47) (nat_eq 0 second) holds in
@@ -355,7 +377,8 @@ no_comment_tests : (text : Text) → (nat_eq (slice_index text 0) 47 && nat_eq (
 no_comment_tests text line block (rest, inl is) = both_ways _ line (ap (λ t. nat_eq (slice_index t 0) 47 && nat_eq (slice_index t 1) 47) is)
 no_comment_tests text line block (rest, inr is) = both_ways _ block (ap (λ t. nat_eq (slice_index t 0) 47 && nat_eq (slice_index t 1) 42) is)
 
-other_explains : (at : ℕ) (text : Text) (found : Prefix) → BeginsWith Other text → other at text ≡ Ok found → Explains text found
+other_explains : (at : ℕ) (text : Text) (found : Prefix) → BeginsWith Other text → other at text ≡ Ok found →
+    Explains text found
 unfolding other
 other_explains at text found begins read =
     elim (cases_Bool (nat_eq (slice_index text 0) 47 && nat_eq (slice_index text 1) 47)) [
@@ -375,7 +398,8 @@ other_explains at text found begins read =
       ]
     ]
 
-by_class : (class : Class) (at byte : ℕ) (text : Text) (found : Prefix) → class_of byte ≡ class → prefix_in class at (byte ∷ text) ≡ Ok found → Explains (byte ∷ text) found
+by_class : (class : Class) (at byte : ℕ) (text : Text) (found : Prefix) → class_of byte ≡ class →
+    prefix_in class at (byte ∷ text) ≡ Ok found → Explains (byte ∷ text) found
 by_class White at byte text found is read = subst (Explains (byte ∷ text)) (ok_prefix _ _ read) (white_explains byte text is)
 by_class Letter at byte text found is read = letter_explains at (byte ∷ text) (word_in at (run (byte ∷ text))) found is refl read
 by_class Digit at byte text found is read = digit_explains at (byte ∷ text) (reading.number at (constant_of (run (byte ∷ text)))) found is refl read
@@ -405,7 +429,8 @@ bad_quote at text begins missing = record {
     no_quote (piece.block_comment body) rest is right = (let e = one_class text Quote Other begins (subst (BeginsWith Other) (sym is) class_slash) in cc)
     no_quote (piece.token bytes kind) rest is right = (let found = quote_prefix text bytes rest kind begins is right.token in let e = sym missing ∙ found.2 in cc)
 
-bad_other : (at : ℕ) (text : Text) → BeginsWith Other text → ¬ (OpensComment text) → longest_punctuator text ≡ None → IsBadByte text
+bad_other : (at : ℕ) (text : Text) → BeginsWith Other text → ¬ (OpensComment text) → longest_punctuator text ≡ None →
+    IsBadByte text
 bad_other at text begins no_comment missing = record {
   some = λ empty. (let e = subst (BeginsWith Other) empty begins in absurd e);
   no_piece = λ stands rest is right. no_other stands rest is right;
@@ -423,20 +448,24 @@ bad_other at text begins no_comment missing = record {
         let found = other_prefix text bytes rest kind begins is right.token in
         longest_punctuator-None text missing bytes rest found.0 is (subst (IsToken bytes) found.1 right.token)
 
-quote_fault : (at : ℕ) (text : Text) (read : Option (ℕ × ℕ)) (fault : LexError) → BeginsWith Quote text → character_of text ≡ read → reading.character at read ≡ Err fault → FaultStands at text fault
+quote_fault : (at : ℕ) (text : Text) (read : Option (ℕ × ℕ)) (fault : LexError) → BeginsWith Quote text →
+    character_of text ≡ read → reading.character at read ≡ Err fault → FaultStands at text fault
 quote_fault at text None fault begins read ran = subst (FaultStands at text) (err_prefix _ _ ran) (bad_quote at text begins read, refl)
 quote_fault at text (Some found) fault begins read ran = cc
 
-punct_fault : (at : ℕ) (text : Text) (read : Option (ℕ × ℕ)) (fault : LexError) → BeginsWith Other text → ¬ (OpensComment text) → longest_punctuator text ≡ read
+punct_fault : (at : ℕ) (text : Text) (read : Option (ℕ × ℕ)) (fault : LexError) → BeginsWith Other text →
+    ¬ (OpensComment text) → longest_punctuator text ≡ read
     → reading.punctuator at read ≡ Err fault → FaultStands at text fault
 punct_fault at text None fault begins no_comment read ran = subst (FaultStands at text) (err_prefix _ _ ran) (bad_other at text begins no_comment read, refl)
 punct_fault at text (Some found) fault begins no_comment read ran = cc
 
-block_fault : (at : ℕ) (text : Text) (read : Option ℕ) (fault : LexError) → close_from 0 text ≡ read → reading.block_comment at read ≡ Err fault → FaultStands at (47 ∷ 42 ∷ text) fault
+block_fault : (at : ℕ) (text : Text) (read : Option ℕ) (fault : LexError) → close_from 0 text ≡ read →
+    reading.block_comment at read ≡ Err fault → FaultStands at (47 ∷ 42 ∷ text) fault
 block_fault at text None fault read ran = subst (FaultStands at (47 ∷ 42 ∷ text)) (err_prefix _ _ ran) ((text, refl, close_from-None 0 text read), refl)
 block_fault at text (Some len) fault read ran = cc
 
-other_fault : (at : ℕ) (text : Text) (fault : LexError) → BeginsWith Other text → other at text ≡ Err fault → FaultStands at text fault
+other_fault : (at : ℕ) (text : Text) (fault : LexError) → BeginsWith Other text → other at text ≡ Err fault →
+    FaultStands at text fault
 unfolding other
 other_fault at text fault begins read =
     elim (cases_Bool (nat_eq (slice_index text 0) 47 && nat_eq (slice_index text 1) 47)) [
@@ -457,7 +486,8 @@ run_fault : (len : ℕ) (read : Result TokenKind LexError) (fault : LexError) �
 run_fault len (Err other) fault ran = ap Err (err_prefix _ _ ran)
 run_fault len (Ok kind) fault ran = cc
 
-fault_by_class : (class : Class) (at byte : ℕ) (text : Text) (fault : LexError) → class_of byte ≡ class → prefix_in class at (byte ∷ text) ≡ Err fault → FaultStands at (byte ∷ text) fault
+fault_by_class : (class : Class) (at byte : ℕ) (text : Text) (fault : LexError) → class_of byte ≡ class →
+    prefix_in class at (byte ∷ text) ≡ Err fault → FaultStands at (byte ∷ text) fault
 fault_by_class White at byte text fault is read = cc
 fault_by_class Letter at byte text fault is read = letter_fault at (byte ∷ text) fault is (run_fault _ _ _ read)
 fault_by_class Digit at byte text fault is read =
@@ -465,7 +495,8 @@ fault_by_class Digit at byte text fault is read =
 fault_by_class Quote at byte text fault is read = quote_fault at (byte ∷ text) (character_of (byte ∷ text)) fault is refl read
 fault_by_class Other at byte text fault is read = other_fault at (byte ∷ text) fault is read
 
-pub fault_explained : (at : ℕ) (text : Text) (fault : LexError) → 0 < length text → prefix at text ≡ Err fault → FaultStands at text fault
+pub fault_explained : (at : ℕ) (text : Text) (fault : LexError) → 0 < length text → prefix at text ≡ Err fault →
+    FaultStands at text fault
 unfolding prefix
 fault_explained at [] fault some read = absurd (omega arith)
 fault_explained at (byte ∷ text) fault some read = fault_by_class (class_of byte) at byte text fault refl read

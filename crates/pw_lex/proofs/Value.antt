@@ -20,12 +20,14 @@ le-value_after radix above (digit ∷ digits) =
 pub word_value_none : (number : ℕ) → 2 ^ 64 ≤ number → word_value number ≡ None
 word_value_none number large = grind (arith, nat_tests)
 
-scaled : (radix : Radix) (above digit : ℕ) → digit < 256 → (2 ^ 64 - 1 - digit) / base radix < above → 2 ^ 64 ≤ base radix * above + digit
+scaled : (radix : Radix) (above digit : ℕ) → digit < 256 → (2 ^ 64 - 1 - digit) / base radix < above →
+    2 ^ 64 ≤ base radix * above + digit
 scaled Decimal above digit small large = omega arith
 scaled Hexadecimal above digit small large = omega arith
 
 -- where the next digit makes a value too large, the whole value is
-pub word_value_none_after : (radix : Radix) (digits : Text) (at above digit : ℕ) → at < length digits → digit ≡ digit_value (get_or digits at 0)
+pub word_value_none_after : (radix : Radix) (digits : Text) (at above digit : ℕ) → at < length digits →
+    digit ≡ digit_value (get_or digits at 0)
     → value_after radix above (drop at digits) ≡ value radix digits → digit < 256 → (2 ^ 64 - 1 - digit) / base radix < above
     → None ≡ word_value (value radix digits)
 word_value_none_after radix digits at above digit within digit_is value_is small large =

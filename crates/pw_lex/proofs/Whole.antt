@@ -16,7 +16,8 @@ spelled_push [] piece = append-nil (bytes_of piece)
 spelled_push (first ∷ pieces) piece =
     ap (λ t. bytes_of first ++ t) (spelled_push pieces piece) ∙ sym (append_assoc (bytes_of first) (spelled pieces) (bytes_of piece))
 
-Stand_push : (pieces : List Piece) (piece : Piece) (rest : Text) → Stand pieces (bytes_of piece ++ rest) → StandsBefore piece rest → Stand (pieces ++ piece ∷ []) rest
+Stand_push : (pieces : List Piece) (piece : Piece) (rest : Text) → Stand pieces (bytes_of piece ++ rest) →
+    StandsBefore piece rest → Stand (pieces ++ piece ∷ []) rest
 Stand_push [] piece rest stand right = (right, tt)
 Stand_push (first ∷ pieces) piece rest stand right =
     let same : spelled pieces ++ (bytes_of piece ++ rest) ≡ spelled (pieces ++ piece ∷ []) ++ rest =
@@ -44,11 +45,13 @@ pub read_start : (text : Text) → IsRead text text [] 1
 read_start text = record { pieces = []; stand = tt; text_is = refl; tokens_are = refl; line_is = refl }
 
 -- where the next piece begins
-pub place_is : (text rest : Text) (tokens : List Token) (line : ℕ) (read : IsRead text rest tokens line) → length text - length rest ≡ length (spelled read.pieces)
+pub place_is : (text rest : Text) (tokens : List Token) (line : ℕ) (read : IsRead text rest tokens line) →
+    length text - length rest ≡ length (spelled read.pieces)
 place_is text rest tokens line read = let long = ap length read.text_is ∙ length-append (spelled read.pieces) rest in omega arith
 
 -- the line is at most one more than the bytes before it
-pub line_within : (text rest : Text) (tokens : List Token) (line : ℕ) → IsRead text rest tokens line → line + length rest ≤ length text + 1
+pub line_within : (text rest : Text) (tokens : List Token) (line : ℕ) → IsRead text rest tokens line →
+    line + length rest ≤ length text + 1
 line_within text rest tokens line read =
     let long = ap length read.text_is ∙ length-append (spelled read.pieces) rest in
     let few = count_by-le-length is_newline (spelled read.pieces) in
@@ -56,14 +59,16 @@ line_within text rest tokens line read =
     omega arith
 
 -- the piece's length is within the text, and not 0
-pub prefix_within : (at : ℕ) (rest : Text) (found : Prefix) → 0 < length rest → prefix at rest ≡ Ok found → (0 < len_of found) × (len_of found ≤ length rest)
+pub prefix_within : (at : ℕ) (rest : Text) (found : Prefix) → 0 < length rest → prefix at rest ≡ Ok found →
+    (0 < len_of found) × (len_of found ≤ length rest)
 prefix_within at rest found some is =
     let e = explained at rest found some is in
     let long = ap length e.text_is ∙ length-append (bytes_of e.stands) e.rest in
     let len = ap len_of e.found_is ∙ len-prefix_of e.stands in
     (omega (arith, piece_some e.stands e.rest e.right), omega arith)
 
-pub read_more : (text rest : Text) (tokens : List Token) (line : ℕ) (found : Prefix) → IsRead text rest tokens line → 0 < length rest → prefix (length text - length rest) rest ≡ Ok found
+pub read_more : (text rest : Text) (tokens : List Token) (line : ℕ) (found : Prefix) → IsRead text rest tokens line →
+    0 < length rest → prefix (length text - length rest) rest ≡ Ok found
     → IsRead text (drop (len_of found) rest) (tokens ++ tokens_of_prefix (length text - length rest) line found) (line + count_by is_newline (take (len_of found) rest))
 read_more text rest tokens line found read some is =
     let e = explained (length text - length rest) rest found some is in
@@ -98,7 +103,8 @@ read_end text tokens line read = record {
   tokens_are = read.tokens_are;
 }
 
-pub read_fault : (text rest : Text) (tokens : List Token) (line : ℕ) (fault : LexError) → IsRead text rest tokens line → 0 < length rest
+pub read_fault : (text rest : Text) (tokens : List Token) (line : ℕ) (fault : LexError) → IsRead text rest tokens line →
+    0 < length rest
     → prefix (length text - length rest) rest ≡ Err fault → HasFault text fault
 read_fault text rest tokens line fault read some is = record {
   pieces = read.pieces;
@@ -110,14 +116,16 @@ read_fault text rest tokens line fault read some is = record {
 
 -- ---- the place of a fault is within the text
 
-pub place_within : (text : Text) (fault : LexError) → HasFault text fault → IfSome (place_of fault) (λ place. place < length text)
+pub place_within : (text : Text) (fault : LexError) → HasFault text fault →
+    IfSome (place_of fault) (λ place. place < length text)
 place_within text fault has =
     let long = ap length has.text_is ∙ length-append (spelled has.pieces) has.rest in
     let some = fault_some (length (spelled has.pieces)) has.rest fault has.stands in
     let within : length (spelled has.pieces) < length text = omega arith in
     subst (λ place. IfSome place (λ p. p < length text)) (sym (fault_place (length (spelled has.pieces)) has.rest fault has.stands)) within
 
-pub place_within_unless : (text : Text) (fault : LexError) → (fault ≢ NoMemory → HasFault text fault) → IfSome (place_of fault) (λ place. place < length text)
+pub place_within_unless : (text : Text) (fault : LexError) → (fault ≢ NoMemory → HasFault text fault) →
+    IfSome (place_of fault) (λ place. place < length text)
 place_within_unless text (BadByte place) has = place_within text (BadByte place) (has (λ e. cc))
 place_within_unless text (OpenComment place) has = place_within text (OpenComment place) (has (λ e. cc))
 place_within_unless text (BadNumber place) has = place_within text (BadNumber place) (has (λ e. cc))

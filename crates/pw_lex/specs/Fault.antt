@@ -64,7 +64,8 @@ IsLongName text = BeginsWith Letter text × (name_bytes < length (run text))
 -- (C, 6.4, "the longest sequence of characters that could constitute" one).
 pub record BeginsToken (text bytes : Text) (kind : TokenKind) : Type 0 where
   pub token : IsToken bytes kind
-  pub longest : (longer rest : Text) (other : TokenKind) → text ≡ longer ++ rest → IsToken longer other → length longer ≤ length bytes
+  pub longest : (longer rest : Text) (other : TokenKind) → text ≡ longer ++ rest → IsToken longer other →
+      length longer ≤ length bytes
   pub no_comment : ¬ (OpensComment text)
   pub no_bad_number : ¬ (IsBadNumber text)
   pub no_wide_number : ¬ (IsTooWide text)

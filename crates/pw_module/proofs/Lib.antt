@@ -1,3 +1,4 @@
+-- The modules of the proofs of this crate.
 pub mod Steps
 pub mod Fields
 pub mod Repeats

@@ -1,5 +1,5 @@
 -- What a step that has no fault says of its parts, and what it takes from the bytes.
-use Rattle.std.proofs.Common.{◌≡◌, ℕ, zero, suc, Bool, true, false, cond, List, [], ◌∷◌, ◌++◌, drop, Option, Some, None, Result, Ok, Err, refl, sym, ap, ◌∙◌, append_assoc}
+use Rattle.std.proofs.Common.{◌≡◌, ℕ, Bool, true, false, cond, List, [], ◌∷◌, ◌++◌, Option, Some, None, Result, Ok, Err, refl, sym, ap, ◌∙◌, append_assoc}
 use Rattle.pw_module.specs.declared.dep_error.DepError.{DepError}
 use Rattle.pw_module.specs.Reading.{◌>>=◌, fine, index_or}
 use Rattle.pw_base.specs.Bytes.{AreBytes}

@@ -3,7 +3,7 @@ use Rattle.std.proofs.Common.{◌≡◌, refl, ◌∙◌, ℕ, suc, Bool, true, 
 use Rattle.pw_grammar.specs.declared.sort.Sort.{Sort}
 use Rattle.pw_grammar.specs.declared.sort.Sort.TheVariants as s
 use Rattle.pw_grammar.specs.Statements.{first_line}
-use Rattle.pw_grammar.specs.Reading.Steps.{Position, ReadResult, Parser, and_then, pure, sees, next_sort, skip, expect, finish_statement}
+use Rattle.pw_grammar.specs.Reading.Steps.{Position, ReadResult, Parser, read_then, pure, sees, next_sort, skip, expect, finish_statement}
 use Rattle.pw_grammar.specs.Reading.Expressions.{expression}
 use Rattle.pw_grammar.specs.Reading.Statements as r
 use Rattle.pw_parse.specs.Steps.Heads as p
@@ -20,11 +20,12 @@ use Rattle.pw_tree.specs.declared.stmt.StmtKind.TheVariants as k
 -- ---- one reader after another
 
 pub then_then : {A B C : Type 0} (o : ReadResult A) (g : A → Parser B) (e : B → Parser C)
-    → and_then (and_then o g) e ≡ and_then o (λ a i. and_then (g a i) e)
+    → read_then (read_then o g) e ≡ read_then o (λ a i. read_then (g a i) e)
 then_then (Ok q) g e = refl
 then_then (Err x) g e = refl
 
-pub same_then : {A B : Type 0} (o : ReadResult A) (g e : A → Parser B) → ((a : A) (i : Position) → g a i ≡ e a i) → and_then o g ≡ and_then o e
+pub same_then : {A B : Type 0} (o : ReadResult A) (g e : A → Parser B) → ((a : A) (i : Position) → g a i ≡ e a i) →
+    read_then o g ≡ read_then o e
 same_then (Ok q) g e same = same q.0 q.1
 same_then (Err x) g e same = refl
 
@@ -33,18 +34,18 @@ same_then (Err x) g e same = refl
 -- the statement of which this is the front, where statements in it nest as deep as `stmt` reads
 abbrev pub follow : Parser Expr → Parser Stmt → Front → Parser Stmt
 follow expr stmt (f.Whole y) = pure y
-follow expr stmt (f.Head head) = λ i. and_then (stmt i) (p.close expr stmt head)
+follow expr stmt (f.Head head) = λ i. read_then (stmt i) (p.close expr stmt head)
 
 -- ---- a statement that begins with a head
 
 abbrev some_of : ReadResult HeadForm → ReadResult (Option HeadForm)
-some_of q = and_then q (λ form. pure (Some form))
+some_of q = read_then q (λ form. pure (Some form))
 
 record Begins (expr : Parser Expr) (stmt : Parser Stmt) (n first line : ℕ) (x : Sort) (o : ReadResult StmtKind) (q : ReadResult HeadForm) : Type 0 where
-  is : and_then o (finish_statement first line) ≡ and_then (and_then (some_of q) (p.fronted expr stmt n first line x)) (follow expr stmt)
+  is : read_then o (finish_statement first line) ≡ read_then (read_then (some_of q) (p.fronted expr stmt n first line x)) (follow expr stmt)
 
 begins : {A : Type 0} (expr : Parser Expr) (stmt : Parser Stmt) (n first line : ℕ) (x : Sort) (o : ReadResult A) (g : A → Parser StmtKind) (e : A → Parser HeadForm)
-    → ((a : A) (i : Position) → Begins expr stmt n first line x (g a i) (e a i)) → Begins expr stmt n first line x (and_then o g) (and_then o e)
+    → ((a : A) (i : Position) → Begins expr stmt n first line x (g a i) (e a i)) → Begins expr stmt n first line x (read_then o g) (read_then o e)
 begins expr stmt n first line x (Ok q) g e same = same q.0 q.1
 begins expr stmt n first line x (Err _) g e same = record { is = refl }
 
@@ -92,12 +93,12 @@ for_begins expr stmt n first line x i =
 -- ---- every statement
 
 headless : (expr : Parser Expr) (stmt : Parser Stmt) (first line : ℕ) (o : ReadResult StmtKind)
-    → and_then o (finish_statement first line) ≡ and_then (and_then o (p.whole first line)) (follow expr stmt)
+    → read_then o (finish_statement first line) ≡ read_then (read_then o (p.whole first line)) (follow expr stmt)
 headless expr stmt first line (Ok q) = refl
 headless expr stmt first line (Err e) = refl
 
 front_of_form : (expr : Parser Expr) (stmt : Parser Stmt) (n first line : ℕ) (x : Sort) (i : Position)
-    → and_then (r.form_by expr stmt n x i) (finish_statement first line) ≡ and_then (p.front_by expr stmt n first line x i) (follow expr stmt)
+    → read_then (r.form_by expr stmt n x i) (finish_statement first line) ≡ read_then (p.front_by expr stmt n first line x i) (follow expr stmt)
 unfolding r.some
 front_of_form expr stmt n first line s.If i = (if_begins expr stmt n first line s.If i).is
 front_of_form expr stmt n first line s.While i = (while_begins expr stmt n first line s.While i).is
@@ -112,32 +113,32 @@ front_of_form expr stmt n first line _ i = headless expr stmt first line (r.eval
 
 -- a statement is its front and what follows
 pub statement_front : (n : ℕ) (i : Position) → r.statement (suc n) i
-    ≡ and_then (p.front (expression (suc n)) (r.statement n) (suc n) i) (follow (expression (suc n)) (r.statement n))
+    ≡ read_then (p.front (expression (suc n)) (r.statement n) (suc n) i) (follow (expression (suc n)) (r.statement n))
 unfolding r.statement r.whole r.form p.front
 statement_front n i = front_of_form (expression (suc n)) (r.statement n) (suc n) i.at (first_line i.rest) (next_sort i) i
 
 -- ---- what follows the statement of a head
 
 behind_else : (expr : Parser Expr) (stmt : Parser Stmt) (first line : ℕ) (a : Expr) (y : Stmt) (o : ReadResult ℕ)
-    → and_then (and_then o (λ _ j. and_then (stmt j) (λ z. pure (Some z)))) (λ z. finish_statement first line (k.If a y z))
-    ≡ and_then (and_then o (λ _. pure (f.Head (record { first = first; line = line; form = h.Else a y })))) (follow expr stmt)
+    → read_then (read_then o (λ _ j. read_then (stmt j) (λ z. pure (Some z)))) (λ z. finish_statement first line (k.If a y z))
+    ≡ read_then (read_then o (λ _. pure (f.Head (record { first = first; line = line; form = h.Else a y })))) (follow expr stmt)
 unfolding p.close
 behind_else expr stmt first line a y (Ok q) = then_then (stmt q.1) _ _
 behind_else expr stmt first line a y (Err e) = refl
 
 maybe_behind : (expr : Parser Expr) (stmt : Parser Stmt) (first line : ℕ) (a : Expr) (y : Stmt) (i : Position) (b : Bool)
-    → and_then (if b then r.alternative stmt i else Ok (None, i)) (λ z. finish_statement first line (k.If a y z))
-    ≡ and_then (if b then p.else_head first line a y i else p.whole first line (k.If a y None) i) (follow expr stmt)
+    → read_then (if b then r.alternative stmt i else Ok (None, i)) (λ z. finish_statement first line (k.If a y z))
+    ≡ read_then (if b then p.else_head first line a y i else p.whole first line (k.If a y None) i) (follow expr stmt)
 unfolding r.alternative p.else_head
 maybe_behind expr stmt first line a y i true = behind_else expr stmt first line a y (skip i)
 maybe_behind expr stmt first line a y i false = refl
 
 -- a statement that ends with its head's statement and more
 record Ends (expr : Parser Expr) (stmt : Parser Stmt) (first line : ℕ) (o : ReadResult Stmt) (q : ReadResult StmtKind) : Type 0 where
-  is : o ≡ and_then (and_then q (p.whole first line)) (follow expr stmt)
+  is : o ≡ read_then (read_then q (p.whole first line)) (follow expr stmt)
 
 ends : {A : Type 0} (expr : Parser Expr) (stmt : Parser Stmt) (first line : ℕ) (o : ReadResult A) (g : A → Parser Stmt) (e : A → Parser StmtKind)
-    → ((a : A) (i : Position) → Ends expr stmt first line (g a i) (e a i)) → Ends expr stmt first line (and_then o g) (and_then o e)
+    → ((a : A) (i : Position) → Ends expr stmt first line (g a i) (e a i)) → Ends expr stmt first line (read_then o g) (read_then o e)
 ends expr stmt first line (Ok q) g e same = same q.0 q.1
 ends expr stmt first line (Err _) g e same = record { is = refl }
 
@@ -150,7 +151,7 @@ behind_do expr stmt first line y i =
     ends expr stmt first line (expect s.Semicolon l) _ _ (λ e m. record { is = refl })))
 
 closes_by : (expr : Parser Expr) (stmt : Parser Stmt) (first line : ℕ) (form : HeadForm) (y : Stmt) (i : Position)
-    → p.close_by expr stmt first line form y i ≡ and_then (p.closed_by expr first line form y i) (follow expr stmt)
+    → p.close_by expr stmt first line form y i ≡ read_then (p.closed_by expr first line form y i) (follow expr stmt)
 unfolding r.maybe_else
 closes_by expr stmt first line (h.If a) y i = maybe_behind expr stmt first line a y i (sees s.Else i)
 closes_by expr stmt first line (h.Else a b) y i = refl
@@ -159,6 +160,6 @@ closes_by expr stmt first line h.Do y i = (behind_do expr stmt first line y i).i
 closes_by expr stmt first line (h.For x a z) y i = refl
 
 pub closes : (expr : Parser Expr) (stmt : Parser Stmt) (head : Head) (y : Stmt) (i : Position)
-    → p.close expr stmt head y i ≡ and_then (p.closed expr head y i) (follow expr stmt)
+    → p.close expr stmt head y i ≡ read_then (p.closed expr head y i) (follow expr stmt)
 unfolding p.close p.closed
 closes expr stmt head y i = closes_by expr stmt head.first head.line head.form y i

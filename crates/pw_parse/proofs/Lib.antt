@@ -1,3 +1,4 @@
+-- The modules of the proofs of this crate.
 pub mod Iterations
 pub mod Wrapping
 pub mod Leaves

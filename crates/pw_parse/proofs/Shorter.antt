@@ -4,7 +4,7 @@ use Rattle.std.specs.Bool.{⊤}
 use Rattle.pw_grammar.specs.declared.sort.Sort.{Sort}
 use Rattle.pw_grammar.specs.declared.sort.Sort.TheVariants as s
 use Rattle.pw_grammar.specs.Statements.{first_line}
-use Rattle.pw_grammar.specs.Reading.Steps.{Position, ReadResult, Parser, and_then, pure, sees, next_sort, skip, expect}
+use Rattle.pw_grammar.specs.Reading.Steps.{Position, ReadResult, Parser, read_then, pure, sees, next_sort, skip, expect}
 use Rattle.pw_grammar.specs.Reading.Expressions.{expression}
 use Rattle.pw_grammar.specs.Reading.Statements as r
 use Rattle.pw_grammar.proofs.Lawful.{Leaves, leaves_fewer}
@@ -31,7 +31,7 @@ use Rattle.pw_tree.specs.declared.stmt.StmtKind.TheVariants as k
 -- ---- steps leave fewer than m tokens of fewer than m
 
 then_leaves : {A B : Type 0} (m : ℕ) (o : ReadResult A) (g : A → Parser B) → Leaves m o
-    → ((a : A) (j : Position) → length j.rest < m → Leaves m (g a j)) → Leaves m (and_then o g)
+    → ((a : A) (j : Position) → length j.rest < m → Leaves m (g a j)) → Leaves m (read_then o g)
 then_leaves m (Ok q) g left rest = rest q.0 q.1 left
 then_leaves m (Err e) g left rest = tt
 
@@ -55,7 +55,8 @@ condition_leaves : (m n : ℕ) (i : Position) → length i.rest < m → Leaves m
 condition_leaves m n i short = leaves_fewer AMaybe i m (r.maybe_before s.Semicolon (expression n) i)
     ((lawful_maybe n s.Semicolon (expression n) (expression (suc n)) (lawful_expression n)).says i) short
 
-step_leaves : (m n : ℕ) (i : Position) → length i.rest < m → Leaves m (r.maybe_before s.RightParen (r.simple_statement (expression n)) i)
+step_leaves : (m n : ℕ) (i : Position) → length i.rest < m →
+    Leaves m (r.maybe_before s.RightParen (r.simple_statement (expression n)) i)
 step_leaves m n i short = leaves_fewer AStep i m (r.maybe_before s.RightParen (r.simple_statement (expression n)) i)
     ((lawful_step n (expression n) (expression (suc n)) (lawful_expression n)).says i) short
 
@@ -102,15 +103,16 @@ HeadsLeave m (Ok q) = HeadLeaves m q.0 q.1
 HeadsLeave m (Err e) = ⊤
 
 headed_leaves : (expr : Parser Expr) (stmt : Parser Stmt) (m n first line : ℕ) (x : Sort) (o : ReadResult HeadForm) → Leaves m o
-    → HeadsLeave m (and_then (and_then o (λ form. pure (Some form))) (λ form. p.fronted expr stmt n first line x form))
+    → HeadsLeave m (read_then (read_then o (λ form. pure (Some form))) (λ form. p.fronted expr stmt n first line x form))
 headed_leaves expr stmt m n first line x (Ok q) left = left
 headed_leaves expr stmt m n first line x (Err e) left = tt
 
-headless_leaves : (m first line : ℕ) (o : ReadResult StmtKind) → HeadsLeave m (and_then o (p.whole first line))
+headless_leaves : (m first line : ℕ) (o : ReadResult StmtKind) → HeadsLeave m (read_then o (p.whole first line))
 headless_leaves m first line (Ok q) = tt
 headless_leaves m first line (Err e) = tt
 
-front_leaves : (stmt : Parser Stmt) (n d first line : ℕ) (x : Sort) (i : Position) → HeadsLeave (length i.rest) (p.front_by (expression n) stmt d first line x i)
+front_leaves : (stmt : Parser Stmt) (n d first line : ℕ) (x : Sort) (i : Position) →
+    HeadsLeave (length i.rest) (p.front_by (expression n) stmt d first line x i)
 unfolding r.some
 front_leaves stmt n d first line s.If i = headed_leaves (expression n) stmt (length i.rest) d first line s.If (p.if_head (expression n) i) (if_leaves n i)
 front_leaves stmt n d first line s.While i = headed_leaves (expression n) stmt (length i.rest) d first line s.While (p.while_head (expression n) i) (while_leaves n i)
@@ -129,12 +131,13 @@ statement_leaves n i =
     subst (λ m. Leaves m (r.statement n i)) one (full_shrinks (suc (length i.rest)) (AStatement false) (r.statement n) (λ at a x y. full_statement y.phrase y.spells)
     (λ j. (lawful_statement lawful_expression n).says j) i (let e : length i.rest < suc (length i.rest) = omega arith in e))
 
-pub front_shorter : (d : ℕ) (i : Position) (x : Front) (j : Position) → 0 < d → p.front (expression d) (r.statement (d - 1)) d i ≡ Ok (x, j) → length j.rest < length i.rest
+pub front_shorter : (d : ℕ) (i : Position) (x : Front) (j : Position) → 0 < d →
+    p.front (expression d) (r.statement (d - 1)) d i ≡ Ok (x, j) → length j.rest < length i.rest
 unfolding p.front
 front_shorter d i (f.Head g) j some is = subst (λ o. HeadsLeave (length i.rest) o) is
     (front_leaves (r.statement (d - 1)) d d i.at (first_line i.rest) (next_sort i) i)
 front_shorter d i (f.Whole y) j some is = subst (λ o. Leaves (length i.rest) o)
-    (front_at d i some ∙ ap (λ o. and_then o (follow (expression d) (r.statement (d - 1)))) is) (statement_leaves d i)
+    (front_at d i some ∙ ap (λ o. read_then o (follow (expression d) (r.statement (d - 1)))) is) (statement_leaves d i)
 
 -- ---- after a head's statement
 
@@ -148,7 +151,7 @@ Behinds m (Ok q) = Behind m q.0 q.1
 Behinds m (Err e) = ⊤
 
 else_leaves : (m first line : ℕ) (a : Expr) (y : Stmt) (o : ReadResult ℕ) → Leaves m o
-    → Behinds m (and_then o (λ _. pure (f.Head (record { first = first; line = line; form = h.Else a y }))))
+    → Behinds m (read_then o (λ _. pure (f.Head (record { first = first; line = line; form = h.Else a y }))))
 else_leaves m first line a y (Ok q) left = left
 else_leaves m first line a y (Err e) left = tt
 
@@ -164,11 +167,12 @@ do_end_leaves m n y i short = then_leaves m (expect s.While i) _ (expect_leaves 
     then_leaves m (r.test (expression n) j) _ (test_leaves m n j short1) (λ a l short2.
     then_leaves m (expect s.Semicolon l) _ (expect_leaves m s.Semicolon l short2) (λ e q short3. short3)))
 
-done_leaves : (m first line : ℕ) (o : ReadResult StmtKind) → Leaves (suc m) o → Behinds m (and_then o (p.whole first line))
+done_leaves : (m first line : ℕ) (o : ReadResult StmtKind) → Leaves (suc m) o → Behinds m (read_then o (p.whole first line))
 done_leaves m first line (Ok q) left = omega (arith, left)
 done_leaves m first line (Err e) left = tt
 
-closed_leaves : (n first line : ℕ) (form : HeadForm) (y : Stmt) (i : Position) → Behinds (length i.rest) (p.closed_by (expression n) first line form y i)
+closed_leaves : (n first line : ℕ) (form : HeadForm) (y : Stmt) (i : Position) →
+    Behinds (length i.rest) (p.closed_by (expression n) first line form y i)
 closed_leaves n first line (h.If a) y i = if_end_leaves first line a y (k.If a y None) i (sees s.Else i)
 closed_leaves n first line (h.Else a b) y i = omega arith
 closed_leaves n first line (h.While a) y i = omega arith
@@ -176,12 +180,15 @@ closed_leaves n first line h.Do y i = done_leaves (length i.rest) first line (p.
     (do_end_leaves (suc (length i.rest)) n y i (let e : length i.rest < suc (length i.rest) = omega arith in e))
 closed_leaves n first line (h.For x a z) y i = omega arith
 
-closed_at : (n : ℕ) (g : Head) (y : Stmt) (i : Position) (o : ReadResult Front) → p.closed (expression n) g y i ≡ o → Behinds (length i.rest) o
+closed_at : (n : ℕ) (g : Head) (y : Stmt) (i : Position) (o : ReadResult Front) → p.closed (expression n) g y i ≡ o →
+    Behinds (length i.rest) o
 unfolding p.closed
 closed_at n g y i o is = subst (λ o. Behinds (length i.rest) o) is (closed_leaves n g.first g.line g.form y i)
 
-pub whole_no_longer : (n : ℕ) (g : Head) (y : Stmt) (i : Position) (z : Stmt) (j : Position) → p.closed (expression n) g y i ≡ Ok (f.Whole z, j) → length j.rest ≤ length i.rest
+pub whole_no_longer : (n : ℕ) (g : Head) (y : Stmt) (i : Position) (z : Stmt) (j : Position) →
+    p.closed (expression n) g y i ≡ Ok (f.Whole z, j) → length j.rest ≤ length i.rest
 whole_no_longer n g y i z j is = closed_at n g y i (Ok (f.Whole z, j)) is
 
-pub else_shorter : (n : ℕ) (g : Head) (y : Stmt) (i : Position) (h : Head) (j : Position) → p.closed (expression n) g y i ≡ Ok (f.Head h, j) → length j.rest < length i.rest
+pub else_shorter : (n : ℕ) (g : Head) (y : Stmt) (i : Position) (h : Head) (j : Position) →
+    p.closed (expression n) g y i ≡ Ok (f.Head h, j) → length j.rest < length i.rest
 else_shorter n g y i h j is = closed_at n g y i (Ok (f.Head h, j)) is

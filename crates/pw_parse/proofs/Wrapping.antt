@@ -1,7 +1,7 @@
 -- Prefix operators, from the innermost on.
 use Rattle.std.proofs.Common.{◌≡◌, ℕ, zero, suc, ◌+◌, ◌-◌, ◌≤◌, List, [], ◌∷◌, ◌++◌, length, length-append, Option, Some, None, Ok, Err, ap, ◌∙◌, sym, refl, arith}
 use Rattle.pw_lex.specs.declared.token.Token.{Token}
-use Rattle.pw_grammar.specs.Reading.Steps.{Position, ReadResult, take, take_from, skip, and_then, pure, on_option, next_sort}
+use Rattle.pw_grammar.specs.Reading.Steps.{Position, ReadResult, take, take_from, skip, read_then, pure, on_option, next_sort}
 use Rattle.pw_grammar.specs.Terminals.{prefix_of}
 use Rattle.pw_grammar.specs.Reading.Expressions.{under_operators, prefix_by, prefix_operator, operators}
 use Rattle.pw_tree.specs.declared.operator.Un.{Un}
@@ -34,13 +34,15 @@ one_inner at last before ops op a w split form fits h =
     ∙ ap (under_operators (at - 1 - length ops) last ops) (sym form) in
     (turned, omega (arith, count, fits))
 
-pub none_inner : {x : Expr} (at last : ℕ) (ops : List (Un × ℕ)) (a : Expr) → ops ≡ [] → x ≡ under_operators (at - length ops) last ops a → a ≡ x
+pub none_inner : {x : Expr} (at last : ℕ) (ops : List (Un × ℕ)) (a : Expr) → ops ≡ [] →
+    x ≡ under_operators (at - length ops) last ops a → a ≡ x
 unfolding under_operators
 none_inner at last ops a done h = sym (h ∙ ap (λ l. under_operators (at - length l) last l a) done)
 
 -- ---- how far the operators reach
 
-same_pair : {A : Type 0} (a b : A) (i j : Position) → ◌≡◌ {A = ReadResult A} (Ok (a, i)) (Ok (b, j)) → ◌≡◌ {A = A × Position} (a, i) (b, j)
+same_pair : {A : Type 0} (a b : A) (i j : Position) → ◌≡◌ {A = ReadResult A} (Ok (a, i)) (Ok (b, j)) →
+    ◌≡◌ {A = A × Position} (a, i) (b, j)
 same_pair a b i j h = cc
 
 same_value : {A : Type 0} {a b : A} {i j : Position} → ◌≡◌ {A = ReadResult A} (Ok (a, i)) (Ok (b, j)) → a ≡ b
@@ -54,7 +56,7 @@ count None = 0
 count (Some op) = 1
 
 counted_skip : (op : Un) (at : ℕ) (ts : List Token) (x : Option (Un × ℕ)) (j : Position)
-    → and_then (and_then (take_from at ts) (λ t. pure t.line)) (λ line. pure (Some (op, line))) ≡ Ok (x, j) → j.at ≡ at + count x
+    → read_then (read_then (take_from at ts) (λ t. pure t.line)) (λ line. pure (Some (op, line))) ≡ Ok (x, j) → j.at ≡ at + count x
 unfolding take_from
 counted_skip op at [] x j h = cc
 counted_skip op at (t ∷ ts) x j h =
@@ -62,7 +64,8 @@ counted_skip op at (t ∷ ts) x j h =
     let one : 1 ≡ count x = ap count (same_value h) in
     omega (arith, place, one)
 
-counted_by : (o : Option Un) (i : Position) (x : Option (Un × ℕ)) (j : Position) → prefix_by o i ≡ Ok (x, j) → j.at ≡ i.at + count x
+counted_by : (o : Option Un) (i : Position) (x : Option (Un × ℕ)) (j : Position) → prefix_by o i ≡ Ok (x, j) →
+    j.at ≡ i.at + count x
 unfolding skip take
 counted_by None i x j h =
     let place : i.at ≡ j.at = ap (λ k. k.at) (same_place h) in
@@ -70,10 +73,11 @@ counted_by None i x j h =
     omega (arith, place, none)
 counted_by (Some op) i x j h = counted_skip op i.at i.rest x j h
 
-counted_next : (n : ℕ) → ((found : List (Un × ℕ)) (i : Position) (ops : List (Un × ℕ)) (j : Position) → operators n found i ≡ Ok (ops, j) → i.at + length ops ≡ j.at + length found)
+counted_next : (n : ℕ) →
+    ((found : List (Un × ℕ)) (i : Position) (ops : List (Un × ℕ)) (j : Position) → operators n found i ≡ Ok (ops, j) → i.at + length ops ≡ j.at + length found)
     → (found : List (Un × ℕ)) (i : Position) (ops : List (Un × ℕ)) (j : Position) (r : ReadResult (Option (Un × ℕ)))
     → ((x : Option (Un × ℕ)) (k : Position) → r ≡ Ok (x, k) → k.at ≡ i.at + count x)
-    → and_then r (λ x. on_option x (pure found) (λ op. operators n (found ++ op ∷ []))) ≡ Ok (ops, j)
+    → read_then r (λ x. on_option x (pure found) (λ op. operators n (found ++ op ∷ []))) ≡ Ok (ops, j)
     → i.at + length ops ≡ j.at + length found
 counted_next n rest found i ops j (Err e) reach h = cc
 counted_next n rest found i ops j (Ok (None, k)) reach h =

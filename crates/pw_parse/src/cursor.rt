@@ -4,7 +4,7 @@ ghost use Rattle.pw_grammar.specs.Reading.Steps as spec;
 ghost use Rattle.pw_grammar.specs.Reading.Steps.{Reads};
 ghost use Rattle.pw_grammar.specs.Statements.{first_line};
 ghost use Rattle.pw_grammar.specs.Expressions.{value_in, is_unsigned_constant};
-ghost use Rattle.pw_parse.specs.Steps.Values.{value};
+ghost use Rattle.pw_parse.specs.Steps.Values.{take_constant};
 
 use pw_base::Name;
 use pw_grammar::{Sort, SyntaxError, is_same, sort_of, word_of};
@@ -21,11 +21,11 @@ pub(crate) struct Cursor<'a> {
 
 impl<'a> Model for Cursor<'a> {
     ghost use Rattle.pw_grammar.specs.Reading.Steps.{Position};
-    ghost use Rattle.pw_parse.specs.Steps.Cursor.{place_of, IsNumbered};
+    ghost use Rattle.pw_parse.specs.Steps.Cursor.{position_of, IsNumbered};
 
     ghost Value = { Position };
 
-    ghost view = { place_of };
+    ghost view = { position_of };
 
     ghost invariant = { IsNumbered };
 }
@@ -151,7 +151,7 @@ impl<'a> Cursor<'a> {
     /// Takes a token, and answers the value of the constant that it is, and whether it is unsigned.
     #[tactic(auto, unfolding(pw_grammar::specs::Reading::Steps::take, pw_grammar::specs::Reading::Steps::take_from))]
     pub fn value(&mut self) -> Result<(u64, bool), SyntaxError>
-        ensures { Reads (value self.old) result self.new }
+        ensures { Reads (take_constant self.old) result self.new }
     {
         match self.rest {
             [] => Err(self.refuse()),

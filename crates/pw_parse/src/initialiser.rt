@@ -3,7 +3,7 @@ ghost use Rattle.std.specs.Prelude.{◌≡◌};
 ghost use Rattle.pw_grammar.specs.Reading.Steps.{Reads};
 ghost use Rattle.pw_grammar.specs.Declarations as declarations;
 ghost use Rattle.pw_grammar.specs.Reading.Declarations as spec;
-ghost use Rattle.pw_parse.specs.Steps.Values.{number};
+ghost use Rattle.pw_parse.specs.Steps.Values.{take_number};
 
 use crate::cursor::Cursor;
 use pw_grammar::{Sort, SyntaxError};
@@ -13,7 +13,7 @@ use std::alloc::Global;
 
 /// Takes a token, and answers the value of the constant that it is.
 pub(crate) fn number(cursor: &mut Cursor<'_>) -> Result<u64, SyntaxError>
-    ensures { Reads (number cursor.old) result cursor.new }
+    ensures { Reads (take_number cursor.old) result cursor.new }
 {
     let (value, _) = cursor.value()?;
     Ok(value)

@@ -1,7 +1,7 @@
 //! The limits of a token list: how deep brackets nest, and how long functions are.
 ghost use Rattle.std.specs.Prelude.{◌≡◌, ◌<◌, ◌≤◌, ◌+◌, ◌^◌, ◌&&◌, nat_le, length, IfSome};
 ghost use Rattle.pw_grammar.specs.Terminals.{is_same, sort_of};
-ghost use Rattle.pw_grammar.specs.Faults.{opens, closes, bracket, token_of};
+ghost use Rattle.pw_grammar.specs.Faults.{opens_bracket, closes_bracket, bracket, token_of};
 ghost use Rattle.pw_base.specs.Limits.{open_brackets};
 ghost use Rattle.pw_grammar.specs.Reading.Limits as spec;
 ghost use Rattle.pw_grammar.specs.Reading.Whole as reading;
@@ -27,7 +27,7 @@ struct Stand {
 }
 
 fn opens(token: &Token) -> bool
-    ensures { result ≡ opens token.now }
+    ensures { result ≡ opens_bracket token.now }
 {
     match sort_of(&token.kind) {
         Sort::LeftParen | Sort::LeftBracket | Sort::LeftBrace => true,
@@ -36,7 +36,7 @@ fn opens(token: &Token) -> bool
 }
 
 fn closes(token: &Token) -> bool
-    ensures { result ≡ closes token.now }
+    ensures { result ≡ closes_bracket token.now }
 {
     match sort_of(&token.kind) {
         Sort::RightParen | Sort::RightBracket | Sort::RightBrace => true,
@@ -52,7 +52,7 @@ fn bracket(depth: usize, token: &Token) -> usize
 {
     if opens(token) {
         depth + 1
-    } else if closes(token) {
+    } else if closes_bracket(token) {
         depth.saturating_sub(1)
     } else {
         depth
@@ -136,7 +136,7 @@ impl Stand {
 
 /// Whether the token opens a bracket where as many are open as may be.
 fn is_too_deep(depth: usize, token: &Token) -> bool
-    ensures { result ≡ (opens token.now && nat_le open_brackets depth) }
+    ensures { result ≡ (opens_bracket token.now && nat_le open_brackets depth) }
 {
     opens(token) && Limits::OPEN_BRACKETS <= depth
 }

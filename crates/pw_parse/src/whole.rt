@@ -4,7 +4,7 @@ ghost use Rattle.pw_grammar.specs.Declarations.{Derives, lines_of};
 ghost use Rattle.pw_grammar.specs.Faults.{IsFaultless, IsFirstFault, IsFault, token_of};
 ghost use Rattle.pw_grammar.specs.Reading.Whole as spec;
 ghost use Rattle.pw_grammar.specs.Reading.Declarations as declarations;
-ghost use Rattle.pw_parse.specs.Steps.Answers.{Answers};
+ghost use Rattle.pw_parse.specs.Steps.Answers.{GivesAnswer};
 ghost use Rattle.pw_parse.specs.Whole.{fault_line_of};
 
 use crate::cursor::Cursor;
@@ -27,7 +27,7 @@ fn under_limit(
     limit: SyntaxError,
 ) -> Result<Items<Decl>, SyntaxError>
     requires { length tokens.now < 2 ^ 32 }
-    ensures { Answers (spec.judged_by limit (declarations.unit (2 ^ 32) (record { at = 0; rest = tokens.now }))) result }
+    ensures { GivesAnswer (spec.judged_by limit (declarations.unit (2 ^ 32) (record { at = 0; rest = tokens.now }))) result }
 {
     match unit(alloc, &mut Cursor::new(tokens), DEPTH) {
         Ok(_) => Err(limit),
@@ -42,7 +42,7 @@ fn under_limit(
 /// The declarations of a list with no limit.
 fn without_limit(alloc: Global, tokens: &[Token]) -> Result<Items<Decl>, SyntaxError>
     requires { length tokens.now < 2 ^ 32 }
-    ensures { Answers (spec.value_of (declarations.unit (2 ^ 32) (record { at = 0; rest = tokens.now }))) result }
+    ensures { GivesAnswer (spec.value_of (declarations.unit (2 ^ 32) (record { at = 0; rest = tokens.now }))) result }
 {
     unit(alloc, &mut Cursor::new(tokens), DEPTH)
 }
@@ -51,7 +51,7 @@ fn without_limit(alloc: Global, tokens: &[Token]) -> Result<Items<Decl>, SyntaxE
 #[tactic(auto, unfolding(pw_grammar::specs::Reading::Whole::parsed))]
 fn parsed(alloc: Global, tokens: &[Token]) -> Result<Items<Decl>, SyntaxError>
     requires { length tokens.now < 2 ^ 32 }
-    ensures { Answers (spec.parsed (2 ^ 32) tokens.now) result }
+    ensures { GivesAnswer (spec.parsed (2 ^ 32) tokens.now) result }
 {
     match first_limit(tokens) {
         None => without_limit(alloc, tokens),

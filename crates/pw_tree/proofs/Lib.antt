@@ -1,3 +1,4 @@
+-- The modules of the proofs of this crate.
 pub mod PhraseFolds
 pub mod StatementFolds
 pub mod TreeFolds

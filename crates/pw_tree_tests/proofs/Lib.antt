@@ -1,3 +1,4 @@
+-- The modules of the proofs of this crate.
 pub mod Countdown
 pub mod ArithmeticUnits
 pub mod ArrayUnits

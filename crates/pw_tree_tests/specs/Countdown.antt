@@ -1,6 +1,6 @@
 -- A unit with a loop, a local, a static function and a variable.
 use Rattle.std.specs.Prelude.{false, [], ◌∷◌, Some, None}
-use Rattle.pw_tree.specs.TypedExpressions.{Mark, constant, local, variable, binary, unary, element, call, designator, call_pointer}
+use Rattle.pw_tree.specs.TypedExpressions.{constant, local, variable, binary, unary, call_pointer}
 use Rattle.pw_tree.specs.TypedExpressions as tree
 use Rattle.pw_tree.specs.TypedStatements.{set_local, if_else, for_loop, returns, breaks, continues, present}
 use Rattle.pw_tree.specs.Units.{TypedUnit}

@@ -12,7 +12,7 @@ use Rattle.pw_types.specs.Steps.UnitFaults.{faults_in_order}
 use Rattle.pw_types.specs.Steps.UnitFaults.{faults_of_declarations}
 use Rattle.pw_types.specs.Nests.{Nested, walk, unit, faults_of}
 use Rattle.pw_types.specs.Laws.{Precedes, FaultsAscend, FirstEndsFirst, FaultsAreWithin}
-use Rattle.pw_types.proofs.Standing.{Each, nil, cons, Sorted, sorted_pairs, Among, Orderly, walk_orderly, each_also}
+use Rattle.pw_types.proofs.Standing.{Each, nil, cons, Sorted, sorted_pairs, Orderly, walk_orderly, each_also}
 use Rattle.pw_types.proofs.Standing as standing
 use Rattle.pw_types.proofs.Gathering.{walk_is_flat}
 use Rattle.pw_types.proofs.StandingUnits.{unit_faults, unit_stands}
@@ -61,7 +61,8 @@ no_faults : (u : UntypedUnit) → u.declarations ≡ [] → faults_in_order u �
 unfolding faults_of_declarations files_after
 no_faults u e = ap (λ ds. faults_in_order (record u { declarations = ds })) e
 
-within_or_none : (u : UntypedUnit) → IsParsed u → (length u.lines ≡ 0) ⊎ (0 < length u.lines) → All (λ f. f.at < length u.lines) (faults_of u)
+within_or_none : (u : UntypedUnit) → IsParsed u → (length u.lines ≡ 0) ⊎ (0 < length u.lines) →
+    All (λ f. f.at < length u.lines) (faults_of u)
 within_or_none u w (inl e) =
     subst (All (λ f. f.at < length u.lines)) (sym (faults_are u ∙ no_faults u (no_declarations u.declarations (length u.lines) e w.placed))) (All-nil _)
 within_or_none u w (inr some) =

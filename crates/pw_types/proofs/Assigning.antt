@@ -22,7 +22,7 @@ use Rattle.pw_types.specs.declared.statement_set.Array.{Array}
 use Rattle.pw_types.specs.declared.fault.Refusal.{Refusal}
 use Rattle.pw_tree.specs.Types.{is_number}
 use Rattle.pw_types.specs.Faults.{broken, broken_by}
-use Rattle.pw_types.specs.Scopes.{Scope, Meaning, meaning}
+use Rattle.pw_types.specs.Scopes.{Scope, Meaning, name_meaning}
 use Rattle.pw_tree.specs.Held.{held, held_by, held_element}
 use Rattle.pw_types.specs.Steps.Uses.{uses, uses_of_meaning, uses_by}
 use Rattle.pw_types.specs.Typed.{typed, array_of_meaning, array_of_kind, array_named}
@@ -33,7 +33,7 @@ use Rattle.pw_types.specs.Statements.{faults_of_target, faults_of_array, type_of
 use Rattle.pw_types.specs.Steps.StatementFaults.{faults_by}
 use Rattle.pw_types.specs.TypedStatements.{typed_expression, typed_statement, assigned, element_assigned, bracket_line}
 use Rattle.pw_types.specs.Steps.CheckingStatements.{WalkResult, block_of, outcome_at, judged_at, setting_of}
-use Rattle.pw_types.specs.Steps.StatementValues.{Notes, IsValue}
+use Rattle.pw_types.specs.Steps.StatementValues.{Notes, IsJudgedValue}
 use Rattle.pw_types.specs.Steps.StatementTargets.{IsFile, IsLocal, IsArray, IsIndex, IsElementValue, faults_of_index, faults_of_element_value, holds_too_many_beside}
 use Rattle.pw_types.proofs.EnclosingStatements.{same, on_left, tree_is}
 use Rattle.pw_types.proofs.SimpleStatements.{noted}
@@ -71,15 +71,15 @@ faults_at scope ty e end = faults scope (roles.Assigned ty) e ++ broken rules.To
 
 pub sets_local : (x : Given) (old new : Walk) (at : Span) (name : List ℕ) (e : Expression) (n : ℕ) (ty : Ty) (t : TExpr)
     → faults_of_target old.scope name at.first ≡ [] → IsLocal old.scope name n ty
-    → faults_at old.scope (Some ty) e (set_end x.in_head at) ≡ [] → IsValue e old new t
+    → faults_at old.scope (Some ty) e (set_end x.in_head at) ≡ [] → IsJudgedValue e old new t
     → outcome_at x old (set at name None e) ≡ judged_at (tree.typed_statement_of (kinds.SetLocal n (Some t))) new
 unfolding faults_by typed_statement uses_by held_by
 sets_local x old new at name e n ty t free target none value =
     let is = tree_is old.scope e (typed_expression_of t) value.tree in
-    let value_faults : faults_at old.scope (type_of_target (meaning old.scope name)) e (set_end x.in_head at) ≡ [] =
+    let value_faults : faults_at old.scope (type_of_target (name_meaning old.scope name)) e (set_end x.in_head at) ≡ [] =
     ap (λ (m : Meaning). faults_at old.scope (type_of_target m) e (set_end x.in_head at)) target.means
     ∙ (ap (λ (u : Ty). faults_at old.scope (Some u) e (set_end x.in_head at)) (sym target.type_is) ∙ none) in
-    comes_to _ (assigned old.scope (meaning old.scope name) (typed_expression old.scope e)) (tree.set_local n (Some (typed_expression_of t))) _ (uses old.scope e) old new
+    comes_to _ (assigned old.scope (name_meaning old.scope name) (typed_expression old.scope e)) (tree.set_local n (Some (typed_expression_of t))) _ (uses old.scope e) old new
     (on_left free ∙ value_faults)
     (ap (λ (m : Meaning). assigned old.scope m (typed_expression old.scope e)) target.means
     ∙ (ap (λ (k : ℕ). tree.set_local k (Some (typed_expression old.scope e))) (sym target.number) ∙ ap (λ (v : TypedExpression). tree.set_local n (Some v)) is))
@@ -89,17 +89,17 @@ sets_local x old new at name e n ty t free target none value =
 
 pub sets_variable : (x : Given) (old mid new : Walk) (at : Span) (name : List ℕ) (e : Expression) (n : ℕ) (r : Ref) (ty : Ty) (t : TExpr)
     → faults_of_target old.scope name at.first ≡ [] → IsFile old.scope name n r ty None → Notes (n ∷ []) 0 old mid
-    → faults_at mid.scope (Some ty) e (set_end x.in_head at) ≡ [] → IsValue e mid new t
+    → faults_at mid.scope (Some ty) e (set_end x.in_head at) ≡ [] → IsJudgedValue e mid new t
     → outcome_at x old (set at name None e) ≡ judged_at (tree.typed_statement_of (kinds.SetVar r t)) new
 unfolding faults_by typed_statement uses_by held_by
 sets_variable x old mid new at name e n r ty t free target note none value =
     let f = target.file in
     let is = tree_is old.scope e (typed_expression_of t) (ap (λ (s : Scope). typed s e) (sym note.scope) ∙ value.tree) in
-    let kind : type_of_target (meaning old.scope name) ≡ Some ty = ap type_of_target target.means ∙ ap type_of_kind target.kind in
-    let value_faults : faults_at old.scope (type_of_target (meaning old.scope name)) e (set_end x.in_head at) ≡ [] =
+    let kind : type_of_target (name_meaning old.scope name) ≡ Some ty = ap type_of_target target.means ∙ ap type_of_kind target.kind in
+    let value_faults : faults_at old.scope (type_of_target (name_meaning old.scope name)) e (set_end x.in_head at) ≡ [] =
     ap (λ (u : Option Ty). faults_at old.scope u e (set_end x.in_head at)) kind
     ∙ (ap (λ (s : Scope). faults_at s (Some ty) e (set_end x.in_head at)) (sym note.scope) ∙ none) in
-    comes_to _ (assigned old.scope (meaning old.scope name) (typed_expression old.scope e)) (tree.set_variable r (typed_expression_of t)) _ ((n ∷ []) ++ uses mid.scope e) old new
+    comes_to _ (assigned old.scope (name_meaning old.scope name) (typed_expression old.scope e)) (tree.set_variable r (typed_expression_of t)) _ ((n ∷ []) ++ uses mid.scope e) old new
     (on_left free ∙ value_faults)
     (ap (λ (m : Meaning). assigned old.scope m (typed_expression old.scope e)) target.means
     ∙ (ap (λ (u : Ref). tree.set_variable u (typed_expression old.scope e)) (sym target.reference) ∙ ap (λ (v : TypedExpression). tree.set_variable r v) is))

@@ -1,5 +1,5 @@
 -- What the rules of types say of classes.
-use Rattle.std.proofs.Common.{◌≡◌, ℕ, Bool, true, false, ◌&&◌, if◌then◌else◌, List, [], ◌∷◌, length, Option, Some, None, refl, sym, ap, subst, ◌∙◌}
+use Rattle.std.proofs.Common.{◌≡◌, ℕ, Bool, true, false, ◌&&◌, if◌then◌else◌, [], ◌∷◌, Some, None, refl, sym, ap, subst, ◌∙◌}
 use Rattle.std.specs.Prelude.{nat_eq, ⊤}
 use Rattle.std.proofs.lemmas.Bool.{eqb-true}
 use Rattle.pw_tree.specs.declared.ty.Ty.{Ty}
@@ -8,7 +8,7 @@ use Rattle.pw_tree.specs.declared.operator.Un.{Un}
 use Rattle.pw_tree.specs.declared.operator.Un.TheVariants.{Neg, Plus, Not, Bang}
 use Rattle.pw_tree.specs.declared.operator.Bin.{Bin}
 use Rattle.pw_tree.specs.declared.operator.Bin.TheVariants.{Mul, Div, Rem, Add, Sub, Shl, Shr, Lt, Gt, Le, Ge, Eq, Ne, And, Xor, Or, AndAnd, OrOr}
-use Rattle.pw_tree.specs.Types.{is_number, is_void, is_pointer, is_unsigned, same_pointers, converts, common, Operation, on_numbers, arithmetic, shift, comparison, truth_operation, equality, unary_type, binary_type, choice_type}
+use Rattle.pw_tree.specs.Types.{is_number, is_void, same_pointers, converts, common, Operation, on_numbers, arithmetic, shift, comparison, truth_operation, equality, unary_type, binary_type, choice_type}
 use Rattle.pw_tree.specs.WellTypedExpressions.{Class, nothing, number, pointer, class_of, IsValue, OperandFits, OperandsFit}
 
 pub number_class : (ty : Ty) → is_number ty ≡ true → class_of ty ≡ number
@@ -125,7 +125,8 @@ record EqualClasses (a b ty : Ty) : Type 0 where
 number_value : (c : Class) → c ≡ number → IsValue c
 number_value c h = subst IsValue (sym h) tt
 
-equal_by : (a b : Ty) (o : Operation) (x : Bool) → same_pointers a b ≡ x → (if x then Some truth_operation else on_numbers comparison a b) ≡ Some o →
+equal_by : (a b : Ty) (o : Operation) (x : Bool) → same_pointers a b ≡ x →
+    (if x then Some truth_operation else on_numbers comparison a b) ≡ Some o →
     EqualClasses a b o.ty
 equal_by a b o true e h = record { result = truth_class o h; left = same_value a b e; right = sym (same_class a b e) }
 equal_by a b o false e h =
@@ -136,16 +137,19 @@ equal_classes : (a b : Ty) (o : Operation) → equality a b ≡ Some o → Equal
 equal_classes a b o h = equal_by a b o (same_pointers a b) refl h
 
 module _ (a b : Ty) (o : Operation) where
-  arithmetic_classes : on_numbers arithmetic a b ≡ Some o → (class_of o.ty ≡ number) × ((class_of a ≡ number) × (class_of b ≡ number))
+  arithmetic_classes : on_numbers arithmetic a b ≡ Some o →
+      (class_of o.ty ≡ number) × ((class_of a ≡ number) × (class_of b ≡ number))
   arithmetic_classes h = let n = arithmetic_numbers a b o h in (n.result, (n.left, n.right))
 
   shift_classes : on_numbers shift a b ≡ Some o → (class_of o.ty ≡ number) × ((class_of a ≡ number) × (class_of b ≡ number))
   shift_classes h = let n = shift_numbers a b o h in (n.result, (n.left, n.right))
 
-  comparison_classes : on_numbers comparison a b ≡ Some o → (class_of o.ty ≡ number) × ((class_of a ≡ number) × (class_of b ≡ number))
+  comparison_classes : on_numbers comparison a b ≡ Some o →
+      (class_of o.ty ≡ number) × ((class_of a ≡ number) × (class_of b ≡ number))
   comparison_classes h = let n = comparison_numbers a b o h in (n.result, (n.left, n.right))
 
-pub binary_classes : (op : Bin) (a b : Ty) (o : Operation) → binary_type op a b ≡ Some o → is_void a ≡ false → is_void b ≡ false →
+pub binary_classes : (op : Bin) (a b : Ty) (o : Operation) → binary_type op a b ≡ Some o → is_void a ≡ false →
+    is_void b ≡ false →
     BinaryClasses op a b o.ty
 binary_classes AndAnd a b o h v w = record { result = truth_class o h; operands = (value_class a v, value_class b w) }
 binary_classes OrOr a b o h v w = record { result = truth_class o h; operands = (value_class a v, value_class b w) }
@@ -171,7 +175,8 @@ pub record ChoiceClasses (a b ty : Ty) : Type 0 where
   pub left : class_of a ≡ class_of ty
   pub right : class_of b ≡ class_of ty
 
-both_numbers : (a b ty : Ty) (x y : Bool) → is_number a ≡ x → is_number b ≡ y → (if x && y then Some (common a b) else None) ≡ Some ty →
+both_numbers : (a b ty : Ty) (x y : Bool) → is_number a ≡ x → is_number b ≡ y →
+    (if x && y then Some (common a b) else None) ≡ Some ty →
     ChoiceClasses a b ty
 both_numbers a b ty true true p q h =
     let e : common a b ≡ ty = cc in

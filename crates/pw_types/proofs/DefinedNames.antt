@@ -1,6 +1,6 @@
 -- The functions and variables that a unit without faults defines: each stands among the names at file scope with its kind and
 -- linkage, and each name that is defined there is one of them.
-use Rattle.std.proofs.Common.{◌≡◌, ℕ, suc, ◌+◌, Bool, true, false, ◌||◌, ◌&&◌, not, cond, if◌then◌else◌, List, [], ◌∷◌, ◌++◌, map, Option, Some, None, refl, sym, ap, subst, ◌∙◌, arith, inl, inr, ◌⊎◌, bytes_eq, append_assoc}
+use Rattle.std.proofs.Common.{◌≡◌, ℕ, ◌+◌, Bool, true, false, ◌||◌, ◌&&◌, not, cond, if◌then◌else◌, List, [], ◌∷◌, ◌++◌, Option, Some, None, refl, sym, ap, subst, ◌∙◌, inl, inr, ◌⊎◌, bytes_eq, append_assoc}
 use Rattle.std.specs.Prelude.{⊤}
 use Rattle.std.specs.List.{AllByRecursion, IsDistinct, flat_map}
 use Rattle.std.proofs.lemmas.List.{append-nil}
@@ -9,19 +9,17 @@ use Rattle.pw_tree.specs.declared.decl.Linkage.{Linkage}
 use Rattle.pw_tree.specs.declared.decl.Linkage.TheVariants.{Plain, Extern, Static}
 use Rattle.pw_tree.specs.Declarations.{Declaration, DeclarationForm, prototype, definition, variable}
 use Rattle.pw_types.specs.declared.rule.Rule.TheVariants as rules
-use Rattle.pw_types.specs.declared.names.Kind.{Kind}
 use Rattle.pw_types.specs.declared.names.File.{File}
 use Rattle.pw_types.specs.Faults.{broken, broken_by}
 use Rattle.pw_types.specs.Reserved.{is_reserved}
-use Rattle.pw_types.specs.Scopes.{file_named, with_file}
+use Rattle.pw_types.specs.Scopes.{file_named}
 use Rattle.pw_types.specs.Declarations.{is_external, is_extern, defines, kind_of, conflicts, first_of, declared_by, is_redefined, Whole, elements_of, parameters_in, is_definition_of_function, is_too_large, file_scope}
 use Rattle.pw_types.specs.Steps.UnitFaults.{faults_of_declaration, faults_of_parameters, faults_of_form, faults_of_declarations}
 use Rattle.pw_types.specs.Units.{is_function, files_after}
 use Rattle.pw_types.proofs.Empty.{left_empty, right_empty}
 use Rattle.pw_types.proofs.NoFaults.{not_broken, not_broken_by}
-use Rattle.pw_types.proofs.KeyedFiles.{named}
 use Rattle.pw_types.proofs.SameKinds.{no_conflict_linkage, no_conflict_kind}
-use Rattle.pw_types.proofs.JoinedFiles.{bytes_same, bytes_itself, bytes_turned, also, joined_file, stays, named_now, named_other, names_of, lacking_by, all_lack, apart_last, names_append, find_before, find_last}
+use Rattle.pw_types.proofs.JoinedFiles.{bytes_same, bytes_itself, bytes_turned, joined_file, stays, named_now, named_other, names_of, all_lack, apart_last, names_append, find_before, find_last}
 
 -- ---- what a declaration without faults does
 
@@ -32,7 +30,8 @@ pub record NoFaultOf (w : Whole) (files : List File) (elements : ℕ) (d : Decla
   pub large : is_too_large elements d ≡ false
   pub form : faults_of_form w.lines (file_scope w (declared_by d files)) d.form ≡ []
 
-pub declares_well : (w : Whole) (files : List File) (elements : ℕ) (d : Declaration) → faults_of_declaration w files elements d ≡ [] → NoFaultOf w files elements d
+pub declares_well : (w : Whole) (files : List File) (elements : ℕ) (d : Declaration) →
+    faults_of_declaration w files elements d ≡ [] → NoFaultOf w files elements d
 unfolding faults_of_declaration
 declares_well w files elements d none =
     let redeclared = broken_by rules.Redeclared d.name_at d.name (is_redefined d (file_named d.name files)) in
@@ -100,7 +99,8 @@ pub record AreDefined (files functions variables : List File) : Type 0 where
   pub functions_found : AreFound true files functions
   pub variables_found : AreFound false files variables
   -- a static variable is defined where it is declared
-  pub statics : (name : List ℕ) (f : File) → file_named name files ≡ Some f → f.external ≡ false → is_function f.kind ≡ false → f.defined ≡ true
+  pub statics : (name : List ℕ) (f : File) → file_named name files ≡ Some f → f.external ≡ false → is_function f.kind ≡ false →
+      f.defined ≡ true
 
 -- ---- one declaration
 
@@ -117,7 +117,8 @@ other_kind true h = cc
 other_kind false h = cc
 
 -- a static variable's declaration defines it
-static_defines : (l : Linkage) (f : DeclarationForm) → is_external l ≡ false → is_function (kind_of f) ≡ false → defines l f ≡ true
+static_defines : (l : Linkage) (f : DeclarationForm) → is_external l ≡ false → is_function (kind_of f) ≡ false →
+    defines l f ≡ true
 static_defines Static (variable ty size init) h k = refl
 static_defines Static (prototype result params) h k = cc
 static_defines Static (definition result params body) h k = cc
@@ -131,7 +132,8 @@ turned_lacks : (name : List ℕ) (names : List (List ℕ)) → Lacks name names 
 turned_lacks name [] h = tt
 turned_lacks name (y ∷ ys) h = (bytes_turned name y ∙ h.0, turned_lacks name ys h.1)
 
-put_in : (x name : List ℕ) (xs ys : List (List ℕ)) → AllByRecursion (λ y. bytes_eq x y ≡ false) (xs ++ ys) → bytes_eq x name ≡ false →
+put_in : (x name : List ℕ) (xs ys : List (List ℕ)) → AllByRecursion (λ y. bytes_eq x y ≡ false) (xs ++ ys) →
+    bytes_eq x name ≡ false →
     AllByRecursion (λ y. bytes_eq x y ≡ false) (xs ++ name ∷ ys)
 put_in x name [] ys h d = (d, h)
 put_in x name (z ∷ zs) ys h d = (h.0, put_in x name zs ys h.1 d)
@@ -195,7 +197,8 @@ module _ (w : Whole) (elements : ℕ) (d : Declaration) (files : List File) (goo
   }
 
   -- where it defines, it was not defined before
-  undefined_by : (o : Option File) (f : File) → o ≡ Some f → is_redefined d o ≡ false → defines d.linkage d.form ≡ true → f.defined ≡ false
+  undefined_by : (o : Option File) (f : File) → o ≡ Some f → is_redefined d o ≡ false → defines d.linkage d.form ≡ true →
+      f.defined ≡ false
   undefined_by None f is h does = cc
   undefined_by (Some g) f is h does =
       let e : g ≡ f = cc in
@@ -208,7 +211,8 @@ module _ (w : Whole) (elements : ℕ) (d : Declaration) (files : List File) (goo
       let c : true ≡ false = sym s.defined ∙ lacking in cc
 
   -- so no definition has its name
-  lacks : (entries : List File) → AllByRecursion (StandsIn files) entries → defines d.linkage d.form ≡ true → file_named d.name entries ≡ None
+  lacks : (entries : List File) → AllByRecursion (StandsIn files) entries → defines d.linkage d.form ≡ true →
+      file_named d.name entries ≡ None
   lacks [] h does = refl
   lacks (g ∷ gs) h does = elim (cases_Bool (bytes_eq g.name d.name)) [
     | inl same ↦ lacks_by g same h.0 does
@@ -227,7 +231,8 @@ module _ (w : Whole) (elements : ℕ) (d : Declaration) (files : List File) (goo
         linkage = s.linkage ∙ sym t.same_linkage;
       }
 
-  all_stand_later : (entries : List File) → AllByRecursion (StandsIn files) entries → AllByRecursion (StandsIn (declared_by d files)) entries
+  all_stand_later : (entries : List File) → AllByRecursion (StandsIn files) entries →
+      AllByRecursion (StandsIn (declared_by d files)) entries
   all_stand_later [] h = tt
   all_stand_later (g ∷ gs) h = (stands_later g h.0, all_stand_later gs h.1)
 
@@ -254,7 +259,8 @@ module _ (w : Whole) (elements : ℕ) (d : Declaration) (files : List File) (goo
       let e : Some now ≡ Some f = sym now_there ∙ there in
       cc
 
-  is_old : (name : List ℕ) (f : File) → bytes_eq d.name name ≡ false → file_named name (declared_by d files) ≡ Some f → file_named name files ≡ Some f
+  is_old : (name : List ℕ) (f : File) → bytes_eq d.name name ≡ false → file_named name (declared_by d files) ≡ Some f →
+      file_named name files ≡ Some f
   is_old name f other h = sym (named_other name (first_of d) files other) ∙ h
 
   -- where no definition of such a kind is added
@@ -270,13 +276,15 @@ module _ (w : Whole) (elements : ℕ) (d : Declaration) (files : List File) (goo
         linkage = r.linkage ∙ w.linkage ∙ sym now_linkage;
       }
 
-  is_now_found : (b : Bool) (entries : List File) (name : List ℕ) (f : File) → now ≡ f → (now.defined ≡ true → is_function now.kind ≡ b → FoundIn name entries now) →
+  is_now_found : (b : Bool) (entries : List File) (name : List ℕ) (f : File) → now ≡ f →
+      (now.defined ≡ true → is_function now.kind ≡ b → FoundIn name entries now) →
       f.defined ≡ true → is_function f.kind ≡ b → FoundIn name entries f
   is_now_found b entries name f e h defined kind =
       subst (FoundIn name entries) e
       (h (subst (λ (x : File). x.defined ≡ true) (sym e) defined) (subst (λ (x : File). is_function x.kind ≡ b) (sym e) kind))
 
-  found_kept : (b : Bool) (entries : List File) → AreFound b files entries → (defines d.linkage d.form ≡ false) ⊎ (is_function (kind_of d.form) ≡ not b) →
+  found_kept : (b : Bool) (entries : List File) → AreFound b files entries →
+      (defines d.linkage d.form ≡ false) ⊎ (is_function (kind_of d.form) ≡ not b) →
       AreFound b (declared_by d files) entries
   found_kept b entries found why name f there defined kind = elim (cases_Bool (bytes_eq d.name name)) [
     | inl same ↦ elim why [
@@ -287,7 +295,8 @@ module _ (w : Whole) (elements : ℕ) (d : Declaration) (files : List File) (goo
   ]
 
   -- where this declaration adds one
-  found_added : (b : Bool) (entries : List File) → AreFound b files entries → AllByRecursion (StandsIn files) entries → defines d.linkage d.form ≡ true →
+  found_added : (b : Bool) (entries : List File) → AreFound b files entries → AllByRecursion (StandsIn files) entries →
+      defines d.linkage d.form ≡ true →
       AreFound b (declared_by d files) (entries ++ first_of d ∷ [])
   found_added b entries found stand does name f there defined kind = elim (cases_Bool (bytes_eq d.name name)) [
     | inl same ↦ is_now_found b (entries ++ first_of d ∷ []) name f (is_now name f same there) (λ x y. record {
@@ -356,12 +365,14 @@ module _ (w : Whole) (elements : ℕ) (d : Declaration) (files : List File) (goo
       statics = statics_later a.statics;
     }
 
-    unchanged : AreDefined (declared_by d files) functions variables → AreDefined (declared_by d files) (functions ++ []) (variables ++ [])
+    unchanged : AreDefined (declared_by d files) functions variables →
+        AreDefined (declared_by d files) (functions ++ []) (variables ++ [])
     unchanged h =
         subst (λ l. AreDefined (declared_by d files) l (variables ++ [])) (sym (append-nil functions))
         (subst (λ l. AreDefined (declared_by d files) functions l) (sym (append-nil variables)) h)
 
-    adds_by : (f : DeclarationForm) → d.form ≡ f → AreDefined (declared_by d files) (functions ++ function_entry d f) (variables ++ variable_entry d f)
+    adds_by : (f : DeclarationForm) → d.form ≡ f →
+        AreDefined (declared_by d files) (functions ++ function_entry d f) (variables ++ variable_entry d f)
     adds_by (prototype result params) is = unchanged (adds_none (ap (defines d.linkage) is))
     adds_by (definition result params body) is =
         subst (λ l. AreDefined (declared_by d files) (functions ++ first_of d ∷ []) l) (sym (append-nil variables))

@@ -58,7 +58,8 @@ block_begins x b u h at s ss =
     same refl refl (used_by_both u _ _) (max_assoc h _ _)
     (sym (left_inner b _ _ (keeps_all (length b.scope.locals) (cons s ss) (inner b) (within b))))
 
-pub before_snoc : (done : List TypedStatement) (c : TypedStatement) (more : TypedStatements) → before done (tree.cons c more) ≡ before (done ++ c ∷ []) more
+pub before_snoc : (done : List TypedStatement) (c : TypedStatement) (more : TypedStatements) →
+    before done (tree.cons c more) ≡ before (done ++ c ∷ []) more
 unfolding before
 before_snoc [] c more = refl
 before_snoc (d ∷ ds) c more = ap (λ (u : TypedStatements). tree.cons d u) (before_snoc ds c more)
@@ -80,27 +81,31 @@ unfolding faults_by_all typed_statements uses_by_all held_by_all after_all
 block_ends x out done c b u h =
     same refl (ap (λ (v : TypedStatements). tree.block v) (before_snoc done c tree.nil ∙ before_nothing (done ++ c ∷ []))) (append-nil u) (max-zero h) refl
 
-pub block_of_none : (x : Setting) (b : Block) (u : List ℕ) (h : ℕ) (at : Span) → outcome x b u h (block at nil) ≡ judged (tree.block tree.nil) b u h
+pub block_of_none : (x : Setting) (b : Block) (u : List ℕ) (h : ℕ) (at : Span) →
+    outcome x b u h (block at nil) ≡ judged (tree.block tree.nil) b u h
 unfolding faults_by faults_by_all typed_statement typed_statements uses_by uses_by_all held_by held_by_all locals_in_all
 block_of_none x b u h at =
     same refl refl (append-nil u) (max-zero h) (past_none b)
 
 -- ---- `if`
 
-same_if : {t v : TypedExpression} {a : TypedStatement} {d : tree.OptionalTypedStatement} → t ≡ v → tree.if_else t a d ≡ tree.if_else v a d
+same_if : {t v : TypedExpression} {a : TypedStatement} {d : tree.OptionalTypedStatement} → t ≡ v →
+    tree.if_else t a d ≡ tree.if_else v a d
 same_if {a = a} {d = d} is = ap (λ (w : TypedExpression). tree.if_else w a d) is
 
 same_while : {t v : TypedExpression} {a : TypedStatement} → t ≡ v → tree.while_loop t a ≡ tree.while_loop v a
 same_while {a = a} is = ap (λ (w : TypedExpression). tree.while_loop w a) is
 
-same_for : {first last : tree.OptionalTypedStatement} {t v : Option TypedExpression} {a : TypedStatement} → t ≡ v → tree.for_loop first t last a ≡ tree.for_loop first v last a
+same_for : {first last : tree.OptionalTypedStatement} {t v : Option TypedExpression} {a : TypedStatement} → t ≡ v →
+    tree.for_loop first t last a ≡ tree.for_loop first v last a
 same_for {first = first} {last = last} {a = a} is = ap (λ (w : Option TypedExpression). tree.for_loop first w last a) is
 
 -- what is held by a condition and by what stands after it
 held_after : (h n : ℕ) {t v : TypedExpression} → t ≡ v → max h (max (held t) n) ≡ max (max h (held v)) n
 held_after h n {v = v} is = ap (λ (w : TypedExpression). max h (max (held w) n)) is ∙ max_assoc h (held v) n
 
-held_after_option : (h n : ℕ) {t v : Option TypedExpression} → t ≡ v → max h (max (held_option t) n) ≡ max (max h (held_option v)) n
+held_after_option : (h n : ℕ) {t v : Option TypedExpression} → t ≡ v →
+    max h (max (held_option t) n) ≡ max (max h (held_option v)) n
 held_after_option h n {v = v} is = ap (λ (w : Option TypedExpression). max h (max (held_option w) n)) is ∙ max_assoc h (held_option v) n
 
 -- the condition's tree, where it has one

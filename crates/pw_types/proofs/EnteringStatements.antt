@@ -24,7 +24,7 @@ use Rattle.pw_types.specs.declared.statement_step.StatementForm.TheVariants as f
 use Rattle.pw_types.specs.Blocks.{Setting, body, head, Block}
 use Rattle.pw_types.specs.Steps.StatementFaults.{faults_of_whole, faults_of_option, faults_by}
 use Rattle.pw_types.specs.Steps.CheckingStatements.{WalkResult, outcome, block_of, outer_at, outcome_at, judged_at, setting_of, resumed_at, leave, after_first_at, typed_maybe, block_at}
-use Rattle.pw_types.specs.Steps.StatementValues.{Notes, IsValue, IsMaybeValue, JudgesValue, JudgesMaybeValue}
+use Rattle.pw_types.specs.Steps.StatementValues.{Notes, IsJudgedValue, IsMaybeValue, JudgesValue, JudgesMaybeValue}
 use Rattle.pw_types.proofs.EnclosingStatements.{tree_is, block_begins, block_of_none, if_begins, while_begins, do_begins, for_begins, for_begins_bare, for_goes_on, for_has_no_last}
 use Rattle.pw_types.proofs.Failing.{fails_of, fails_on_left}
 use Rattle.pw_types.specs.Steps.Refusals.{Fails}
@@ -33,9 +33,10 @@ use Rattle.pw_types.specs.Steps.Refusals.{Fails}
 
 pub value_fails : (role : Role) (e : Expression) (old new : Walk) (stop : Refusal) → JudgesValue role e old new (Err stop)
     → Fails (faults_of_whole old.scope role e) stop
-value_fails role e old new stop is = fails_of {A = TExpr} (faults_of_whole old.scope role e) (IsValue e old new) stop is
+value_fails role e old new stop is = fails_of {A = TExpr} (faults_of_whole old.scope role e) (IsJudgedValue e old new) stop is
 
-pub maybe_value_fails : (role : Role) (e : Option Expression) (old new : Walk) (stop : Refusal) → JudgesMaybeValue role e old new (Err stop)
+pub maybe_value_fails : (role : Role) (e : Option Expression) (old new : Walk) (stop : Refusal) →
+    JudgesMaybeValue role e old new (Err stop)
     → Fails (faults_of_option old.scope role e) stop
 maybe_value_fails role e old new stop is = fails_of {A = Option TExpr} (faults_of_option old.scope role e) (IsMaybeValue e old new) stop is
 
@@ -68,7 +69,7 @@ entered form o x x' y us k old new s notes o_is x_is =
     ∙ ap (λ (z : Given). resumed_at o form (outcome_at z new s)) (sym x_is))
 
 pub enters_if : (x x' : Given) (o : Outer) (old new : Walk) (at : Span) (c : Expression) (a : Stmt) (d : Bor (Option Stmt)) (t : TExpr)
-    → faults_of_whole old.scope roles.Value c ≡ [] → IsValue c old new t → o ≡ outer_at x new → x' ≡ record x { in_head = false }
+    → faults_of_whole old.scope roles.Value c ≡ [] → IsJudgedValue c old new t → o ≡ outer_at x new → x' ≡ record x { in_head = false }
     → outcome_at x old (if_else at c (statement_of a) (optional_statement (option_map statement_of d.now)))
     ≡ resumed_at o (forms.Then t d) (outcome_at x' new (statement_of a))
 enters_if x x' o old new at c a d t none value o_is x_is =
@@ -76,24 +77,28 @@ enters_if x x' o old new at c a d t none value o_is x_is =
     ∙ entered (forms.Then t d) o x x' (record x { in_head = false }) _ _ old new (statement_of a) value.notes o_is x_is
 
 pub enters_while : (x x' : Given) (o : Outer) (old new : Walk) (at : Span) (c : Expression) (s : Stmt) (t : TExpr)
-    → faults_of_whole old.scope roles.Value c ≡ [] → IsValue c old new t → o ≡ outer_at x new → x' ≡ record x { in_loop = true; in_head = false }
+    → faults_of_whole old.scope roles.Value c ≡ [] → IsJudgedValue c old new t → o ≡ outer_at x new → x' ≡ record x { in_loop = true; in_head = false }
     → outcome_at x old (while_loop at c (statement_of s)) ≡ resumed_at o (forms.While t) (outcome_at x' new (statement_of s))
 enters_while x x' o old new at c s t none value o_is x_is =
     while_begins (setting_of x) (block_of old) old.used.items old.held at c (statement_of s) (typed_expression_of t) none (tree_is old.scope c (typed_expression_of t) value.tree)
     ∙ entered (forms.While t) o x x' (record x { in_loop = true; in_head = false }) _ _ old new (statement_of s) value.notes o_is x_is
 
-pub if_fails : (x : Given) (old new : Walk) (at : Span) (c : Expression) (a : Statement) (d : OptionalStatement) (stop : Refusal) → JudgesValue roles.Value c old new (Err stop)
+pub if_fails :
+    (x : Given) (old new : Walk) (at : Span) (c : Expression) (a : Statement) (d : OptionalStatement) (stop : Refusal) →
+    JudgesValue roles.Value c old new (Err stop)
     → Fails (faults_by (setting_of x) (block_of old) (if_else at c a d)) stop
 unfolding faults_by
 if_fails x old new at c a d stop is = fails_on_left _ _ stop (value_fails roles.Value c old new stop is)
 
-pub while_fails : (x : Given) (old new : Walk) (at : Span) (c : Expression) (s : Statement) (stop : Refusal) → JudgesValue roles.Value c old new (Err stop)
+pub while_fails : (x : Given) (old new : Walk) (at : Span) (c : Expression) (s : Statement) (stop : Refusal) →
+    JudgesValue roles.Value c old new (Err stop)
     → Fails (faults_by (setting_of x) (block_of old) (while_loop at c s)) stop
 unfolding faults_by
 while_fails x old new at c s stop is = fails_on_left _ _ stop (value_fails roles.Value c old new stop is)
 
 -- a part that is entered at once
-entered_at_once : (form : StatementForm) (o : Outer) (x x' y : Given) (old new : Walk) (s : Statement) → o ≡ outer_at x old → x' ≡ y
+entered_at_once : (form : StatementForm) (o : Outer) (x x' y : Given) (old new : Walk) (s : Statement) → o ≡ outer_at x old →
+    x' ≡ y
     → resumed_at (outer_at x old) form (outcome_at y new s) ≡ resumed_at o form (outcome_at x' new s)
 entered_at_once form o x x' y old new s o_is x_is =
     ap (λ (p : Outer). resumed_at p form (outcome_at y new s)) (sym o_is)
@@ -108,7 +113,8 @@ enters_do x x' o old at c s o_is x_is =
 
 -- ---- blocks
 
-first_and_rest : {A : Type 0} (xs : List A) (x : A) → 1 ≤ length xs → x ≡ get_or xs 0 x → xs ≡ x ∷ take (length xs - 1) (drop 1 xs)
+first_and_rest : {A : Type 0} (xs : List A) (x : A) → 1 ≤ length xs → x ≡ get_or xs 0 x →
+    xs ≡ x ∷ take (length xs - 1) (drop 1 xs)
 first_and_rest [] x some is = absurd (omega arith)
 first_and_rest (y ∷ ys) x some is = grind (arith, common_steps)
 
@@ -142,7 +148,8 @@ enters_no_block x old at ss done ss_is done_is =
 -- ---- `for`
 
 -- the statement that an optional one is
-pub is_present : (m : Option Stmt) (s t : Stmt) → m ≡ Some s → t ≡ s → optional_statement (option_map statement_of m) ≡ present (statement_of t)
+pub is_present : (m : Option Stmt) (s t : Stmt) → m ≡ Some s → t ≡ s →
+    optional_statement (option_map statement_of m) ≡ present (statement_of t)
 is_present m s t m_is t_is = ap (λ (o : Option Stmt). optional_statement (option_map statement_of o)) m_is ∙ ap (λ (u : Stmt). present (statement_of u)) (sym t_is)
 
 pub is_absent : (m : Option Stmt) → m ≡ None → optional_statement (option_map statement_of m) ≡ absent
@@ -159,7 +166,9 @@ enters_for x x' o old at m first c last s m_is o_is x_is =
     (sym (ap (λ (p : Outer). p.visible) o_is))
     ∙ entered_at_once (forms.First c last s) o x x' (record x { in_head = true }) old (record old { start = o.visible }) (statement_of first) o_is x_is))
 
-pub enters_bare_for : (x : Given) (o : Outer) (old : Walk) (at : Span) (m : OptionalStatement) (c : Option Expression) (last : OptionalStatement) (s : Statement) → m ≡ absent → o ≡ outer_at x old
+pub enters_bare_for :
+    (x : Given) (o : Outer) (old : Walk) (at : Span) (m : OptionalStatement) (c : Option Expression) (last : OptionalStatement) (s : Statement) →
+    m ≡ absent → o ≡ outer_at x old
     → outcome_at x old (for_loop at m c last s) ≡ after_first_at o tree.absent c last s (record old { start = o.visible })
 enters_bare_for x o old at m c last s m_is o_is =
     ap (λ (l : OptionalStatement). outcome_at x old (for_loop at l c last s)) m_is
@@ -188,6 +197,8 @@ goes_to_body o x' old new first c m s t m_is none value x_is =
     ∙ (ap (resumed_at o (forms.For first t None)) (noted_part (body (setting_of o.setting)) _ _ old new (statement_of s) value.notes)
     ∙ ap (λ (z : Given). resumed_at o (forms.For first t None) (outcome_at z new (statement_of s))) (sym x_is)))
 
-pub for_fails : (o : Outer) (old new : Walk) (first : tree.OptionalTypedStatement) (c : Option Expression) (last : OptionalStatement) (s : Statement) (stop : Refusal) → JudgesMaybeValue roles.Value c old new (Err stop)
+pub for_fails :
+    (o : Outer) (old new : Walk) (first : tree.OptionalTypedStatement) (c : Option Expression) (last : OptionalStatement) (s : Statement) (stop : Refusal) →
+    JudgesMaybeValue roles.Value c old new (Err stop)
     → let w : WalkResult = after_first_at o first c last s old in Fails w.faults stop
 for_fails o old new first c last s stop is = fails_on_left _ _ stop (maybe_value_fails roles.Value c old new stop is)

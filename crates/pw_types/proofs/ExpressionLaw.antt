@@ -10,16 +10,16 @@ use Rattle.pw_types.specs.declared.role.Role.{Role}
 use Rattle.pw_types.specs.declared.role.Role.TheVariants.{Value, Callee, Base, Written}
 use Rattle.pw_types.specs.declared.fault.Fault.{Fault}
 use Rattle.pw_tree.specs.Types.{is_pointer}
-use Rattle.pw_types.specs.Scopes.{Scope, meaning}
+use Rattle.pw_types.specs.Scopes.{Scope, name_meaning}
 use Rattle.pw_types.specs.Typed as called
-use Rattle.pw_types.specs.Typed.{pointer_of_type, pointer_callee, callee_of, parameters_of, with_both, both_trees, mark, Array, array_of, Designated, function_of, constant_type, typed, typed_all, typed_unary, typed_binary, typed_choice, typed_element}
+use Rattle.pw_types.specs.Typed.{pointer_of_type, pointer_callee, callee_of, parameters_of, with_both, both_trees, mark, Array, array_of, Designated, function_of, constant_type, typed, typed_all}
 use Rattle.pw_tree.specs.TypedExpressions.{type_of}
 use Rattle.pw_tree.specs.Held.{held}
 use Rattle.pw_types.specs.Steps.Uses.{uses, uses_of_all}
 use Rattle.pw_types.specs.Expressions.{is_base, own, callee_in}
 use Rattle.pw_types.specs.Steps.ExpressionFaults.{faults, faults_of_arguments, unless_direct}
 use Rattle.pw_types.specs.Steps.Judging.{Judge, ◌>>=◌, refuse, noting, on_option}
-use Rattle.pw_types.specs.Steps.CheckingExpressions.{Valued, Taken, none_taken, pointer_parameters, pointer_call, direct_call, fault_under, head, Aim, named, through, Calling, calling, unary_value, binary_value, choice_value, element_value, output_value, taking, first_wanted, others_wanted, checked, checked_arguments}
+use Rattle.pw_types.specs.Steps.CheckingExpressions.{Valued, Taken, none_taken, pointer_parameters, pointer_call, direct_call, fault_under, head, Aim, named, through, Calling, calling, unary_operation_value, binary_operation_value, choice_value, element_value, output_value, taking, first_wanted, others_wanted, checked, checked_arguments}
 use Rattle.pw_types.proofs.JudgedPhrases.{full, Judged, bind, refused_base, noted, no_more}
 use Rattle.pw_types.proofs.OwnRules.{rules_of, by_rules}
 use Rattle.pw_types.proofs.JudgedForms.{leaf_judged, unary_judged, binary_judged, choice_judged, element_judged, output_judged}
@@ -51,7 +51,9 @@ index_by scope role at b i (Some a) is base judged =
 
 -- ---- calls
 
-regrouped : {t : Option TypedExpression} {us : List ℕ} {p : Judge Valued} (role : Role) (first rest own : List Fault) {others : List Fault} → others ≡ rest
+regrouped :
+    {t : Option TypedExpression} {us : List ℕ} {p : Judge Valued} (role : Role) (first rest own : List Fault) {others : List Fault} →
+    others ≡ rest
     → Judged role (first ++ (rest ++ own)) t us p → Judged role ((first ++ others) ++ own) t us p
 regrouped {t} {us} {p} role first rest own {others} same h =
     subst (λ fs. Judged role fs t us p) (sym (ap (λ l. (first ++ l) ++ own) same ∙ append_assoc first rest own)) h
@@ -68,7 +70,8 @@ After scope role at es aim params =
     (call_of role at aim [] (typed_all scope es)) (uses_of_all scope es) (checked_arguments scope (calling (head role at) aim params es) none_taken params es)
 
 -- through a pointer
-through_by : (scope : Scope) (role : Role) (at : Span) (f : Expression) (es : Expressions) (v : TypedExpression) (ty : Ty) → type_of v ≡ ty
+through_by : (scope : Scope) (role : Role) (at : Span) (f : Expression) (es : Expressions) (v : TypedExpression) (ty : Ty) →
+    type_of v ≡ ty
     → function_of scope f ≡ None → typed scope f ≡ Some v → ((not (is_pointer ty)) ≡ false)
     → ((aim : Aim) → ((w : Valued) → aim ≡ through w → w ≡ full w.tree) → (params : List Ty) → After scope role at es aim params)
     → Judged role (faults_of_arguments scope (parameters_of (callee_in scope f)) es ++ own scope role (call at f es)) (typed scope (call at f es)) (uses_of_all scope es)
@@ -85,7 +88,8 @@ through_by scope role at f es v Void is direct value fit arguments = cc
 through_by scope role at f es v Long is direct value fit arguments = cc
 through_by scope role at f es v Ulong is direct value fit arguments = cc
 
-call_by : (scope : Scope) (role : Role) (at : Span) (f : Expression) (es : Expressions) (o : Option Designated) → function_of scope f ≡ o
+call_by : (scope : Scope) (role : Role) (at : Span) (f : Expression) (es : Expressions) (o : Option Designated) →
+    function_of scope f ≡ o
     → Judged Callee (faults scope Callee f) (typed scope f) (uses scope f) (checked scope Callee f)
     → ((aim : Aim) → ((w : Valued) → aim ≡ through w → w ≡ full w.tree) → (params : List Ty) → After scope role at es aim params)
     → Judged role (unless_direct o (faults scope Callee f) ++ (faults_of_arguments scope (parameters_of (callee_in scope f)) es ++ own scope role (call at f es)))
@@ -112,15 +116,15 @@ mutual
   expression_judged scope role (constant at value unsigned) h =
       by_rules scope role (constant at value unsigned) (leaf_judged role at (tree.constant (mark (constant_type unsigned) at) value) refl)
   expression_judged scope role (word at name) h =
-      by_rules scope role (word at name) (name_judged scope role at name (meaning scope name) h)
+      by_rules scope role (word at name) (name_judged scope role at name (name_meaning scope name) h)
   expression_judged scope role (unary at op e) h =
-      no_more (bind role (own scope role (unary at op e)) (typed scope (unary at op e)) [] (unary_value (head role at) op) (expression_judged scope Value e no_base)
+      no_more (bind role (own scope role (unary at op e)) (typed scope (unary at op e)) [] (unary_operation_value (head role at) op) (expression_judged scope Value e no_base)
       (λ v is _. by_rules scope role (unary at op e) (unary_judged role at op (typed scope e) v is)))
   expression_judged scope role (binary at op l r) h =
       bind role (faults scope Value r ++ own scope role (binary at op l r)) (typed scope (binary at op l r)) (uses scope r)
-      (λ a. checked scope Value r >>= binary_value (head role at) op a) (expression_judged scope Value l no_base)
+      (λ a. checked scope Value r >>= binary_operation_value (head role at) op a) (expression_judged scope Value l no_base)
       (λ a left _. no_more (bind role (own scope role (binary at op l r)) (typed scope (binary at op l r)) []
-      (binary_value (head role at) op (full a)) (expression_judged scope Value r no_base)
+      (binary_operation_value (head role at) op (full a)) (expression_judged scope Value r no_base)
       (λ b right _. by_rules scope role (binary at op l r) (binary_judged role at op (typed scope l) (typed scope r) a b left right))))
   expression_judged scope role (conditional at c a b) h =
       let e : Expression = conditional at c a b in

@@ -3,21 +3,21 @@ use Rattle.std.proofs.Common.{◌≡◌, ℕ, zero, suc, ◌+◌, ◌≤◌, ◌
 use Rattle.std.specs.Prelude.{nat_eq, slice_get, ⊤}
 use Rattle.std.specs.List.{list_any, AllByRecursion}
 use Rattle.pw_tree.specs.declared.ty.Ty.{Ty}
-use Rattle.pw_tree.specs.declared.ty.Ty.TheVariants.{Void, Long, Ulong, Fn}
+use Rattle.pw_tree.specs.declared.ty.Ty.TheVariants.{Long}
 use Rattle.pw_tree.specs.declared.ty.Sig.{Sig}
-use Rattle.pw_tree.specs.Expressions.{Span, Expression, Expressions, constant, word, unary, binary, conditional, call, index, input, output, nil, cons}
+use Rattle.pw_tree.specs.Expressions.{Span, Expression, Expressions, word}
 use Rattle.pw_tree.specs.TypedExpressions.{TypedExpression, TypedExpressions, type_of}
 use Rattle.pw_tree.specs.TypedExpressions as tree
 use Rattle.pw_tree.specs.Units.{TypedUnit}
 use Rattle.pw_tree.specs.Held.{count}
 use Rattle.pw_tree.specs.Placed.{span_of, token_after, IsPlaced, ArePlaced}
 use Rattle.pw_tree.specs.Proper.{HasNumbers, HaveNumbers}
-use Rattle.pw_tree.specs.WellTypedExpressions.{Class, number, pointer, class_of, IsFunction, IsVariable, HasClass, Calls, CallsPointer, Points, ArgumentsFit, AreNumbers, HasFittingParts, IsKnown, ReadsKnown, HasSmallNumbers, Throughout, ThroughoutAll, expressions_in, expressions_in_all}
+use Rattle.pw_tree.specs.WellTypedExpressions.{Class, number, pointer, class_of, IsFunction, IsVariable, ArgumentsFit, AreNumbers, HasFittingParts, IsKnown, ReadsKnown, HasSmallNumbers, Throughout, ThroughoutAll, expressions_in, expressions_in_all}
 use Rattle.pw_types.specs.declared.names.Kind.TheVariants.{Function, Variable}
 use Rattle.pw_types.specs.declared.names.File.{File}
 use Rattle.pw_types.specs.declared.names.Local.{Local}
-use Rattle.pw_types.specs.Scopes.{Scope, Meaning, missing, a_local, declared, meaning, local_or, local_named, file_named, declared_or_missing, function_reference, variable_reference}
-use Rattle.pw_types.specs.Typed.{mark, constant_type}
+use Rattle.pw_types.specs.Scopes.{Scope, a_local, declared, name_meaning, local_or, local_named, file_named, declared_or_missing, function_reference, variable_reference}
+use Rattle.pw_types.specs.Typed.{constant_type}
 use Rattle.pw_types.specs.Steps.Uses.{file_number, uses_of_meaning, uses, uses_of_all}
 use Rattle.pw_types.proofs.KeyedFiles.{named}
 use Rattle.pw_types.proofs.StandingExpressions.{placed_within}
@@ -53,15 +53,18 @@ file_by (Some k) f g h = cc
 file_by None None g h = cc
 file_by None (Some f) g h = cc
 
-pub local_meant : (scope : Scope) (name : List ℕ) (l : Local) → meaning scope name ≡ a_local l → local_named name scope.locals ≡ Some l
-unfolding meaning
+pub local_meant : (scope : Scope) (name : List ℕ) (l : Local) → name_meaning scope name ≡ a_local l →
+    local_named name scope.locals ≡ Some l
+unfolding name_meaning
 local_meant scope name l h = local_by (local_named name scope.locals) (file_named name scope.files) l h
 
-file_meant : (scope : Scope) (name : List ℕ) (f : File) → meaning scope name ≡ declared f → file_named name scope.files ≡ Some f
-unfolding meaning
+file_meant : (scope : Scope) (name : List ℕ) (f : File) → name_meaning scope name ≡ declared f →
+    file_named name scope.files ≡ Some f
+unfolding name_meaning
 file_meant scope name f h = file_by (local_named name scope.locals) (file_named name scope.files) f h
 
-pub own_file : (scope : Scope) (name : List ℕ) (f : File) → meaning scope name ≡ declared f → file_named f.name scope.files ≡ Some f
+pub own_file : (scope : Scope) (name : List ℕ) (f : File) → name_meaning scope name ≡ declared f →
+    file_named f.name scope.files ≡ Some f
 own_file scope name f h =
     let is = file_meant scope name f h in
     subst (λ n. file_named n scope.files ≡ Some f) (sym (named name scope.files f is)) is
@@ -70,7 +73,8 @@ own_file scope name f h =
 
 -- The locals that are visible have these classes, and are known.
 pub record LocalsFit (classes : List Class) (known : List ℕ) (scope : Scope) : Type 0 where
-  pub classes_are : (name : List ℕ) (l : Local) → local_named name scope.locals ≡ Some l → slice_get classes l.number ≡ Some (class_of l.ty)
+  pub classes_are : (name : List ℕ) (l : Local) → local_named name scope.locals ≡ Some l →
+      slice_get classes l.number ≡ Some (class_of l.ty)
   pub known_are : (name : List ℕ) (l : Local) → local_named name scope.locals ≡ Some l → IsKnown known l.number
 
 -- The names at file scope that are used are those of the unit's functions and variables.
@@ -80,7 +84,7 @@ pub record FilesFit (unit : TypedUnit) (used : List ℕ) (scope : Scope) : Type 
   pub variable : (f : File) (ty : Ty) (size : Option ℕ) → file_named f.name scope.files ≡ Some f → f.kind ≡ Variable ty size →
       IsAmong used (file_number f.name scope.files) → IsVariable unit (variable_reference scope f) (record { ty = ty; size = size })
 
-word_used : (scope : Scope) (used : List ℕ) (at : Span) (name : List ℕ) (f : File) → meaning scope name ≡ declared f →
+word_used : (scope : Scope) (used : List ℕ) (at : Span) (name : List ℕ) (f : File) → name_meaning scope name ≡ declared f →
     AreAmong used (uses scope (word at name)) → IsAmong used (file_number f.name scope.files)
 unfolding uses
 word_used scope used at name f is h =
@@ -88,12 +92,14 @@ word_used scope used at name f is h =
 
 -- ---- arguments
 
-arguments_fit : {scope : Scope} {tys : List Ty} {es : Expressions} {ts : TypedExpressions} → AllSound scope tys es ts → ArgumentsFit tys ts
+arguments_fit : {scope : Scope} {tys : List Ty} {es : Expressions} {ts : TypedExpressions} → AllSound scope tys es ts →
+    ArgumentsFit tys ts
 unfolding ArgumentsFit
 arguments_fit sound_nil = tt
 arguments_fit (sound_cons ty tys e es t ts sound converts others) = (converted_class (type_of t) ty converts, arguments_fit others)
 
-arguments_count : {scope : Scope} {tys : List Ty} {es : Expressions} {ts : TypedExpressions} → AllSound scope tys es ts → count ts ≡ length tys
+arguments_count : {scope : Scope} {tys : List Ty} {es : Expressions} {ts : TypedExpressions} → AllSound scope tys es ts →
+    count ts ≡ length tys
 unfolding count
 arguments_count sound_nil = refl
 arguments_count (sound_cons ty tys e es t ts sound converts others) = ap suc (arguments_count others)
@@ -124,7 +130,8 @@ module _ (unit : TypedUnit) (classes : List Class) (known used : List ℕ) (scop
   mutual
     unfolding Throughout uses
 
-    pub parts_fit : {e : Expression} {t : TypedExpression} → Sound scope e t → AreAmong used (uses scope e) → Throughout (HasFittingParts unit classes) t
+    pub parts_fit : {e : Expression} {t : TypedExpression} → Sound scope e t → AreAmong used (uses scope e) →
+        Throughout (HasFittingParts unit classes) t
     parts_fit (sound_constant at value unsigned) u = constant_class unsigned
     parts_fit (sound_local at name l is) u = locals.classes_are name l (local_meant scope name l is)
     parts_fit (sound_variable at name f ty is kind) u = record {
@@ -184,7 +191,8 @@ module _ (unit : TypedUnit) (classes : List Class) (known used : List ℕ) (scop
     parts_fit (sound_input at) u = refl
     parts_fit (sound_output at e t sound numeric) u = ((refl, number_class (type_of t) numeric), parts_fit sound u)
 
-    pub all_fit : {tys : List Ty} {es : Expressions} {ts : TypedExpressions} → AllSound scope tys es ts → AreAmong used (uses_of_all scope es) →
+    pub all_fit : {tys : List Ty} {es : Expressions} {ts : TypedExpressions} → AllSound scope tys es ts →
+        AreAmong used (uses_of_all scope es) →
         ThroughoutAll (HasFittingParts unit classes) ts
     all_fit sound_nil u = tt
     all_fit (sound_cons ty tys e es t ts sound converts others) u =
@@ -211,7 +219,8 @@ module _ (classes : List Class) (known : List ℕ) (scope : Scope) (locals : Loc
     reads_known (sound_input at) = tt
     reads_known (sound_output at e t sound numeric) = (tt, reads_known sound)
 
-    all_read : {tys : List Ty} {es : Expressions} {ts : TypedExpressions} → AllSound scope tys es ts → ThroughoutAll (ReadsKnown known) ts
+    all_read : {tys : List Ty} {es : Expressions} {ts : TypedExpressions} → AllSound scope tys es ts →
+        ThroughoutAll (ReadsKnown known) ts
     all_read sound_nil = tt
     all_read (sound_cons ty tys e es t ts sound converts others) = (reads_known sound, all_read others)
 
@@ -220,7 +229,8 @@ module _ (classes : List Class) (known : List ℕ) (scope : Scope) (locals : Loc
 mutual
   unfolding Throughout HasNumbers
 
-  pub numbers_small : {scope : Scope} {e : Expression} {t : TypedExpression} → Sound scope e t → HasNumbers e → Throughout HasSmallNumbers t
+  pub numbers_small : {scope : Scope} {e : Expression} {t : TypedExpression} → Sound scope e t → HasNumbers e →
+      Throughout HasSmallNumbers t
   numbers_small (sound_constant at value unsigned) n = record { line = n.0; value = n.1 }
   numbers_small (sound_local at name l is) n = record { line = n; value = tt }
   numbers_small (sound_variable at name f ty is kind) n = record { line = n; value = tt }
@@ -238,7 +248,8 @@ mutual
   numbers_small (sound_input at) n = record { line = n; value = tt }
   numbers_small (sound_output at e t sound numeric) n = (record { line = n.0; value = tt }, numbers_small sound n.1)
 
-  all_small : {scope : Scope} {tys : List Ty} {es : Expressions} {ts : TypedExpressions} → AllSound scope tys es ts → HaveNumbers es →
+  all_small : {scope : Scope} {tys : List Ty} {es : Expressions} {ts : TypedExpressions} → AllSound scope tys es ts →
+      HaveNumbers es →
       ThroughoutAll HasSmallNumbers ts
   all_small sound_nil n = tt
   all_small (sound_cons ty tys e es t ts sound converts others) n = (numbers_small sound n.0, all_small others n.1)
@@ -248,7 +259,8 @@ mutual
 mutual
   unfolding expressions_in IsPlaced
 
-  pub expression_counted : {scope : Scope} {e : Expression} {t : TypedExpression} (low high : ℕ) → Sound scope e t → IsPlaced low high e →
+  pub expression_counted : {scope : Scope} {e : Expression} {t : TypedExpression} (low high : ℕ) → Sound scope e t →
+      IsPlaced low high e →
       expressions_in t + (span_of e).first ≤ token_after e
   expression_counted low high (sound_constant at value unsigned) p = omega (arith, p.some)
   expression_counted low high (sound_local at name l is) p = omega (arith, p.some)
@@ -279,7 +291,8 @@ mutual
   expression_counted low high (sound_output at e t sound numeric) p =
       let w = placed_within e p.1 in omega (arith, expression_counted _ _ sound p.1, w.from, w.to)
 
-  all_counted : {scope : Scope} {tys : List Ty} {es : Expressions} {ts : TypedExpressions} (low high : ℕ) → AllSound scope tys es ts → ArePlaced low high es →
+  all_counted : {scope : Scope} {tys : List Ty} {es : Expressions} {ts : TypedExpressions} (low high : ℕ) →
+      AllSound scope tys es ts → ArePlaced low high es →
       low ≤ suc high → expressions_in_all ts + low ≤ suc high
   all_counted low high sound_nil p h = omega arith
   all_counted low high (sound_cons ty tys e es t ts sound converts others) p h =

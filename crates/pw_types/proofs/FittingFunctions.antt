@@ -70,7 +70,8 @@ mutual
       let m : (after s b).count ≤ 120 = omega (arith, n, bounded x b s h.0 few) in
       omega (arith, n, all_bounded x (after s b) ss h.1 m)
 
-  maybe_bounded : (x : Setting) (b : Block) (s : OptionalStatement) → IsMaybeSound x b s → b.count ≤ 120 → b.count + locals_in_maybe s ≤ 120
+  maybe_bounded : (x : Setting) (b : Block) (s : OptionalStatement) → IsMaybeSound x b s → b.count ≤ 120 →
+      b.count + locals_in_maybe s ≤ 120
   maybe_bounded x b absent h few = omega arith
   maybe_bounded x b (present s) h few = bounded x b s h few
 
@@ -150,12 +151,14 @@ local_by P name l k None p later h = here (bytes_eq l.name name) h
     here true h = subst P (let e : l ≡ k = cc in e) p
     here false h = cc
 
-of_local : (P : Local → Type 0) (name : List ℕ) (ls : List Local) (k : Local) → AllByRecursion P ls → local_named name ls ≡ Some k → P k
+of_local : (P : Local → Type 0) (name : List ℕ) (ls : List Local) (k : Local) → AllByRecursion P ls →
+    local_named name ls ≡ Some k → P k
 unfolding local_named
 of_local P name [] k h is = cc
 of_local P name (l ∷ ls) k h is = local_by P name l k (local_named name ls) h.0 (of_local P name ls k h.1) is
 
-one_more_local : (P : Local → Type 0) (ls : List Local) (l : Local) → AllByRecursion P ls → P l → AllByRecursion P (ls ++ l ∷ [])
+one_more_local : (P : Local → Type 0) (ls : List Local) (l : Local) → AllByRecursion P ls → P l →
+    AllByRecursion P (ls ++ l ∷ [])
 one_more_local P [] l h p = (p, tt)
 one_more_local P (k ∷ ks) l h p = (h.0, one_more_local P ks l h.1 p)
 
@@ -163,7 +166,8 @@ one_more_local P (k ∷ ks) l h p = (h.0, one_more_local P ks l h.1 p)
 abbrev IsParameter : List Class → ℕ → Local → Type 0
 IsParameter classes n l = (slice_get classes l.number ≡ Some (class_of l.ty)) × IsKnown (below n) l.number
 
-parameters_are : (classes : List Class) (n : ℕ) (before : List Local) (ps : List Param) → AllByRecursion (IsParameter classes n) before →
+parameters_are : (classes : List Class) (n : ℕ) (before : List Local) (ps : List Param) →
+    AllByRecursion (IsParameter classes n) before →
     HaveClasses classes (length before) (map (λ p. p.ty) ps) → length before + length ps ≤ n → AllByRecursion (IsParameter classes n) (locals_of before ps)
 unfolding locals_of HaveClasses
 parameters_are classes n before [] h c few = h
@@ -207,7 +211,8 @@ module _ (unit : TypedUnit) (used : List ℕ) (w : Whole) (files : List File) (d
       all : AllByRecursion (IsParameter classes (length types)) (locals_of [] params)
       all = parameters_are classes (length types) [] params tt (have_left classes 0 types (types_in_all ss) (classes_from [] locals 0 refl)) (omega (arith, count_types))
 
-  pub function_well_typed : AreAmong used (uses_by_all b ss) → faults_by_all x b ss ≡ [] → faults_of_parameters true [] params ≡ [] →
+  pub function_well_typed : AreAmong used (uses_by_all b ss) → faults_by_all x b ss ≡ [] →
+      faults_of_parameters true [] params ≡ [] →
       HasText (Function (signature result params)) → AreProper ss → d.last - d.declarator ≤ limits.function_tokens → d.line < 2 ^ 32 →
       HaveStatementNumbers ss → AreStatementsPlaced (suc d.declarator) d.last ss → d.declarator ≤ d.last → AreSmallLines w.lines →
       IsWellTypedFunction unit (typed_function w files d result params ss)

@@ -1,37 +1,31 @@
 -- What names at file scope mean in the typed unit of a unit without faults: its functions and variables by number, and the
 -- external names by their texts.
-use Rattle.std.proofs.Common.{◌≡◌, ℕ, zero, suc, ◌+◌, ◌-◌, ◌≤◌, Bool, true, false, ◌||◌, ◌&&◌, not, cond, if◌then◌else◌, List, [], ◌∷◌, ◌++◌, length, map, find, Option, Some, None, is_some, refl, sym, ap, subst, ◌∙◌, arith, inl, inr, ◌⊎◌, bytes_eq}
+use Rattle.std.proofs.Common.{◌≡◌, ℕ, suc, ◌+◌, ◌-◌, ◌≤◌, Bool, true, false, ◌||◌, ◌&&◌, not, cond, if◌then◌else◌, List, [], ◌∷◌, ◌++◌, map, find, Option, Some, None, refl, sym, ap, subst, ◌∙◌, arith, inl, inr, ◌⊎◌, bytes_eq}
 use Rattle.std.specs.Prelude.{⊤, option_and_then, slice_get, nat_eq}
-use Rattle.std.specs.List.{list_any, AllByRecursion, IsDistinct, flat_map, prefix_len}
-use Rattle.std.proofs.lemmas.Bool.{cases_Bool}
+use Rattle.std.specs.List.{list_any, AllByRecursion, IsDistinct, flat_map}
 use Rattle.std.proofs.lemmas.List.{map-append}
 use Rattle.pw_tree.specs.declared.ty.Ty.{Ty}
 use Rattle.pw_tree.specs.declared.ty.Sig.{Sig}
-use Rattle.pw_tree.specs.declared.ty.Ref.{Ref}
 use Rattle.pw_tree.specs.declared.ty.Ref.TheVariants.{Global, LocalFun, LocalVar}
 use Rattle.pw_tree.specs.declared.tunit.TVar.{TVar}
 use Rattle.pw_tree.specs.declared.decl.InitItem.{InitItem}
 use Rattle.pw_tree.specs.Declarations.{Declaration, DeclarationForm, prototype, definition, variable, UntypedUnit}
 use Rattle.pw_tree.specs.Units.{Function as TypedFunction, TypedUnit}
-use Rattle.pw_tree.specs.TypeTexts.{text_of_function, text_of_variable}
-use Rattle.pw_tree.specs.WellTypedExpressions.{text_named, IsSignature, static_sig, NamesFunction, IsFunction, Shape, static_shape, NamesVariable, IsVariable}
+use Rattle.pw_tree.specs.WellTypedExpressions.{text_named, static_sig, NamesFunction, IsFunction, static_shape, NamesVariable, IsVariable}
 use Rattle.pw_tree.specs.WellTypedUnits.{FunctionIsNamed, VariableIsNamed}
 use Rattle.pw_types.specs.declared.rule.Rule.TheVariants as rules
-use Rattle.pw_types.specs.declared.names.Kind.{Kind}
 use Rattle.pw_types.specs.declared.names.Kind.TheVariants.{Function, Variable}
 use Rattle.pw_types.specs.declared.names.File.{File}
-use Rattle.pw_types.specs.Faults.{broken_by}
-use Rattle.pw_types.specs.Scopes.{Scope, file_named, number_of, function_reference, variable_reference}
-use Rattle.pw_types.specs.Steps.Uses.{file_number, is_kept_by_number, names_by_number, uses_of_declarations}
+use Rattle.pw_types.specs.Scopes.{file_named, number_of, function_reference, variable_reference}
+use Rattle.pw_types.specs.Steps.Uses.{file_number, names_by_number, uses_of_declarations}
 use Rattle.pw_types.specs.Declarations.{Whole, file_scope, is_external, is_extern, defines, kind_of, first_of, declared_by}
-use Rattle.pw_types.specs.Units.{function_in, variable_in, without, each_once, functions_of, variables_of, whole_of, files_after, is_function, lacks_definition, faults_of_lacking, typed_functions_of, typed_variable, typed_variables_of, typed_functions, typed_variables, text_of_kind}
+use Rattle.pw_types.specs.Units.{function_in, variable_in, without, each_once, whole_of, files_after, is_function, lacks_definition, faults_of_lacking, typed_functions_of, typed_variable, typed_variables_of, typed_functions, typed_variables, text_of_kind}
 use Rattle.pw_types.specs.Steps.CheckingUnits.{unit_by_number}
-use Rattle.pw_types.specs.Steps.UnitFaults.{faults_of_declarations}
 use Rattle.pw_types.specs.Steps.Texts.{HasText, HaveTexts}
 use Rattle.pw_types.proofs.Fitting.{IsAmong, FilesFit}
-use Rattle.pw_types.proofs.JoinedFiles.{bytes_same, names_of, Stays, stays}
+use Rattle.pw_types.proofs.JoinedFiles.{names_of, Stays, stays}
 use Rattle.pw_types.proofs.NamedTexts.{text_of_name, text_of_file}
-use Rattle.pw_types.proofs.DefinedNames.{function_entry, variable_entry, function_entries, variable_entries, StandsIn, FoundIn, AreDefined}
+use Rattle.pw_types.proofs.DefinedNames.{function_entry, variable_entry, function_entries, variable_entries, StandsIn, AreDefined}
 
 -- ---- what stands at one moment stands at the end
 
@@ -46,7 +40,8 @@ stays_itself name f files h = record {
   still_defined = λ d. d;
 }
 
-stays_further : (name : List ℕ) (f : File) (old new last : List File) (s : Stays name f old new) → Stays name s.now new last → Stays name f old last
+stays_further : (name : List ℕ) (f : File) (old new last : List File) (s : Stays name f old new) → Stays name s.now new last →
+    Stays name f old last
 stays_further name f old new last s t = record {
   now = t.now;
   there = t.there;
@@ -57,7 +52,8 @@ stays_further name f old new last s t = record {
   still_defined = λ d. t.still_defined (s.still_defined d);
 }
 
-pub stays_after : (name : List ℕ) (f : File) (files : List File) (ds : List Declaration) → file_named name files ≡ Some f → Stays name f files (files_after files ds)
+pub stays_after : (name : List ℕ) (f : File) (files : List File) (ds : List Declaration) → file_named name files ≡ Some f →
+    Stays name f files (files_after files ds)
 unfolding files_after
 stays_after name f files [] h = stays_itself name f files h
 stays_after name f files (d ∷ ds) h =
@@ -75,10 +71,12 @@ module _ (w : Whole) (unit : TypedUnit) (used : List ℕ) (files : List File) (d
       variable_reference (file_scope w (files_after files ds)) f ≡ variable_reference (file_scope w files) g
   same_variable f g n e = λ i. if e i then Global (n i) else LocalVar (number_of (n i) w.variables)
 
-  own_there : (f : File) (s : Stays f.name f files (files_after files ds)) → file_named s.now.name (files_after files ds) ≡ Some s.now
+  own_there : (f : File) (s : Stays f.name f files (files_after files ds)) →
+      file_named s.now.name (files_after files ds) ≡ Some s.now
   own_there f s = subst (λ n. file_named n (files_after files ds) ≡ Some s.now) (sym s.same_name) s.there
 
-  own_number : (f : File) (s : Stays f.name f files (files_after files ds)) → IsAmong used (file_number f.name files) → IsAmong used (file_number s.now.name (files_after files ds))
+  own_number : (f : File) (s : Stays f.name f files (files_after files ds)) → IsAmong used (file_number f.name files) →
+      IsAmong used (file_number s.now.name (files_after files ds))
   own_number f s u =
       subst (λ n. IsAmong used (file_number n (files_after files ds))) (sym s.same_name) (subst (IsAmong used) (sym s.same_number) u)
 
@@ -183,7 +181,8 @@ variable_names_are (d ∷ ds) =
     ∙ sym (map-append (λ (f : File). f.name) (variable_entry d d.form) (variable_entries ds))
 
 -- a list of names that differ has each once
-left_out : (name : List ℕ) (names : List (List ℕ)) → AllByRecursion (λ y. bytes_eq name y ≡ false) names → without name names ≡ names
+left_out : (name : List ℕ) (names : List (List ℕ)) → AllByRecursion (λ y. bytes_eq name y ≡ false) names →
+    without name names ≡ names
 unfolding without
 left_out name [] h = refl
 left_out name (y ∷ ys) h = ap (λ b. if b then without name ys else y ∷ without name ys) h.0 ∙ ap (λ l. y ∷ l) (left_out name ys h.1)
@@ -199,7 +198,8 @@ unfolding IsDistinct
 left_apart [] ys h = tt
 left_apart (x ∷ xs) ys h = (left_all x xs ys h.0, left_apart xs ys h.1)
   where
-    left_all : (x : List ℕ) (xs ys : List (List ℕ)) → AllByRecursion (λ y. bytes_eq x y ≡ false) (xs ++ ys) → AllByRecursion (λ y. bytes_eq x y ≡ false) xs
+    left_all : (x : List ℕ) (xs ys : List (List ℕ)) → AllByRecursion (λ y. bytes_eq x y ≡ false) (xs ++ ys) →
+        AllByRecursion (λ y. bytes_eq x y ≡ false) xs
     left_all x [] ys h = tt
     left_all x (z ∷ zs) ys h = (h.0, left_all x zs ys h.1)
 
@@ -223,7 +223,8 @@ item_by entry_of x xs entry false o n later h =
     let r = later h in
     record { item = r.item; there = ap (slice_get (x ∷ xs)) (let e : 1 + n ≡ suc n = omega arith in e) ∙ r.there; is = r.is }
 
-item_at : {A : Type 0} (entry_of : A → File) (name : List ℕ) (items : List A) (entry : File) → file_named name (map entry_of items) ≡ Some entry →
+item_at : {A : Type 0} (entry_of : A → File) (name : List ℕ) (items : List A) (entry : File) →
+    file_named name (map entry_of items) ≡ Some entry →
     ItemAt entry_of items (number_of name (names_of (map entry_of items))) entry
 item_at entry_of name [] entry h = cc
 item_at entry_of name (x ∷ xs) entry h =
@@ -232,13 +233,15 @@ item_at entry_of name (x ∷ xs) entry h =
 -- ---- at the end
 
 -- what does not lack a definition has one
-not_lacking_by : (test : File → Bool) (f g : File) (o p : Option File) (t b : Bool) → test g ≡ t → (o ≡ None → p ≡ Some f → test f ≡ false) →
+not_lacking_by : (test : File → Bool) (f g : File) (o p : Option File) (t b : Bool) → test g ≡ t →
+    (o ≡ None → p ≡ Some f → test f ≡ false) →
     cond t (Some g) o ≡ None → cond b (Some g) p ≡ Some f → test f ≡ false
 not_lacking_by test f g o p true b is later h there = cc
 not_lacking_by test f g o p false true is later h there = let e : g ≡ f = cc in sym (ap test e) ∙ is
 not_lacking_by test f g o p false false is later h there = later h there
 
-not_lacking : (test : File → Bool) (name : List ℕ) (files : List File) (f : File) → find test files ≡ None → file_named name files ≡ Some f → test f ≡ false
+not_lacking : (test : File → Bool) (name : List ℕ) (files : List File) (f : File) → find test files ≡ None →
+    file_named name files ≡ Some f → test f ≡ false
 not_lacking test name [] f h there = cc
 not_lacking test name (g ∷ gs) f h there =
     not_lacking_by test f g (find test gs) (file_named name gs) (test g) (bytes_eq g.name name) refl (not_lacking test name gs f) h there
@@ -295,7 +298,8 @@ module _ (u : UntypedUnit) (texts : HaveTexts (files_after [] u.declarations))
       text_named name (names_by_number used 0 final) ≡ Some (text_of_kind f.kind)
   external_text name f there external why = text_of_name used name 0 f final there (kept_by f.external f.defined _ external why)
 
-  use_at : (name : List ℕ) → IsAmong used (file_number name final) → list_any (λ n. nat_eq n (0 + file_number name final)) used ≡ true
+  use_at : (name : List ℕ) → IsAmong used (file_number name final) →
+      list_any (λ n. nat_eq n (0 + file_number name final)) used ≡ true
   use_at name h = subst (IsAmong used) (let e : file_number name final ≡ 0 + file_number name final = omega arith in e) h
 
   static_function : (f : File) (sig : Sig) → file_named f.name final ≡ Some f → f.kind ≡ Function sig → f.external ≡ false →
@@ -315,7 +319,8 @@ module _ (u : UntypedUnit) (texts : HaveTexts (files_after [] u.declarations))
       ∙ ap (λ b. if b then None else Some i.item.sig) static
       ∙ ap Some sig_is
 
-  static_variable : (f : File) (ty : Ty) (size : Option ℕ) → file_named f.name final ≡ Some f → f.kind ≡ Variable ty size → f.external ≡ false →
+  static_variable : (f : File) (ty : Ty) (size : Option ℕ) → file_named f.name final ≡ Some f → f.kind ≡ Variable ty size →
+      f.external ≡ false →
       option_and_then static_shape (slice_get variables (number_of f.name w.variables)) ≡ Some (record { ty = ty; size = size })
   static_variable f ty size there kind external =
       let defined : f.defined ≡ true = a.statics f.name f there external (ap is_function kind) in
@@ -337,7 +342,8 @@ module _ (u : UntypedUnit) (texts : HaveTexts (files_after [] u.declarations))
   function_by f sig true is there kind h = external_text f.name f there is (inr (use_at f.name h)) ∙ ap (λ k. Some (text_of_kind k)) kind
   function_by f sig false is there kind h = static_function f sig there kind is
 
-  variable_by : (f : File) (ty : Ty) (size : Option ℕ) (b : Bool) → f.external ≡ b → file_named f.name final ≡ Some f → f.kind ≡ Variable ty size →
+  variable_by : (f : File) (ty : Ty) (size : Option ℕ) (b : Bool) → f.external ≡ b → file_named f.name final ≡ Some f →
+      f.kind ≡ Variable ty size →
       IsAmong used (file_number f.name final) →
       NamesVariable (unit_by_number u) (if b then Global f.name else LocalVar (number_of f.name w.variables)) (record { ty = ty; size = size })
   variable_by f ty size true is there kind h = external_text f.name f there is (inr (use_at f.name h)) ∙ ap (λ k. Some (text_of_kind k)) kind
@@ -355,7 +361,8 @@ module _ (u : UntypedUnit) (texts : HaveTexts (files_after [] u.declarations))
         record { type = t.0; size = t.1; names = variable_by f ty size f.external refl there kind h };
   }
 
-  function_is_named : (g : TypedFunction) → StandsIn final (entry_of_function g) → FunctionIsNamed (names_by_number used 0 final) g
+  function_is_named : (g : TypedFunction) → StandsIn final (entry_of_function g) →
+      FunctionIsNamed (names_by_number used 0 final) g
   function_is_named g s external =
       external_text g.name s.file s.there (sym s.linkage ∙ external) (inl s.defined) ∙ ap (λ k. Some (text_of_kind k)) (sym s.kind)
 

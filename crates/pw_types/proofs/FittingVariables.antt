@@ -25,10 +25,9 @@ use Rattle.pw_types.specs.declared.names.Kind.{Kind}
 use Rattle.pw_types.specs.declared.names.Kind.TheVariants.{Function, Variable}
 use Rattle.pw_types.specs.declared.names.File.{File}
 use Rattle.pw_types.specs.Faults.{broken, broken_by}
-use Rattle.pw_types.specs.Scopes.{Scope, Meaning, missing, a_local, declared, meaning, function_reference}
+use Rattle.pw_types.specs.Scopes.{Scope, Meaning, missing, a_local, declared, name_meaning, function_reference}
 use Rattle.pw_types.specs.Typed.{Designated, function_named, function_of_meaning, function_of_kind}
 use Rattle.pw_types.specs.Steps.Uses.{uses_of_meaning, uses_of_name, file_number, uses_of_element, uses_of_elements, uses_of_initialiser}
-use Rattle.pw_types.specs.Declarations as declarations
 use Rattle.pw_types.specs.Declarations.{is_extern, defines, elements_of_form, elements_of, is_too_large, points_to, does_not_initialise, name_in, is_unknown_name, is_wrong_element, faults_of_element, Whole, file_scope, declared_by}
 use Rattle.pw_types.specs.Steps.UnitFaults.{faults_of_elements, faults_of_initialiser, faults_of_declaration, faults_of_declarations}
 use Rattle.pw_types.specs.Units.{designated_or, element_of, elements_in, typed_variable, typed_variables_of, typed_variables}
@@ -56,7 +55,8 @@ not_not true h = refl
 not_not false h = cc
 
 module _ (unit : TypedUnit) (used : List ℕ) (scope : Scope) (fit : FilesFit unit used scope) (ty : Ty) (value : IsValueType ty) where
-  kind_element : (name : List ℕ) (f : File) (k : Kind) → meaning scope name ≡ declared f → f.kind ≡ k → points_to ty (function_of_kind scope f k) ≡ true →
+  kind_element : (name : List ℕ) (f : File) (k : Kind) → name_meaning scope name ≡ declared f → f.kind ≡ k →
+      points_to ty (function_of_kind scope f k) ≡ true →
       IsAmong used (file_number f.name scope.files) → Initialises unit ty (designated_or (function_of_kind scope f k))
   kind_element name f (Function sig) is kind points u = record {
     sig = sig;
@@ -65,16 +65,18 @@ module _ (unit : TypedUnit) (used : List ℕ) (scope : Scope) (fit : FilesFit un
   }
   kind_element name f (Variable t size) is kind points u = cc
 
-  name_element : (name : List ℕ) (m : Meaning) → meaning scope name ≡ m → points_to ty (function_of_meaning scope m) ≡ true →
+  name_element : (name : List ℕ) (m : Meaning) → name_meaning scope name ≡ m →
+      points_to ty (function_of_meaning scope m) ≡ true →
       AreAmong used (uses_of_meaning scope m) → Initialises unit ty (designated_or (function_of_meaning scope m))
   name_element name missing is points u = cc
   name_element name (a_local l) is points u = cc
   name_element name (declared f) is points u = kind_element name f f.kind is refl points u.0
 
-  one_element : (k : InitKind) → HasElementNumber k → does_not_initialise scope ty k ≡ false → AreAmong used (uses_of_element scope k) →
+  one_element : (k : InitKind) → HasElementNumber k → does_not_initialise scope ty k ≡ false →
+      AreAmong used (uses_of_element scope k) →
       Initialises unit ty (element_of scope k)
   one_element (Num n) small fits u = (no_pointer ty value fits, small)
-  one_element (Word name) small fits u = name_element name (meaning scope name) refl (not_not _ fits) u
+  one_element (Word name) small fits u = name_element name (name_meaning scope name) refl (not_not _ fits) u
 
   within : (size n : ℕ) → nat_le size n ≡ false → n < size
   within size n h = grind (arith, nat_tests)
@@ -96,29 +98,27 @@ module _ (unit : TypedUnit) (used : List ℕ) (scope : Scope) (fit : FilesFit un
         (one_element item.kind small.0 (or_left _ _ wrong) (among_left used (uses_of_element scope item.kind) (uses_of_elements scope items) u), later.1),
       )
 
-same_room : (size : Option ℕ) → declarations.room size ≡ room size
-same_room None = refl
-same_room (Some n) = refl
-
 -- ---- variables
 
 module _ (unit : TypedUnit) (used : List ℕ) (w : Whole) (files : List File) (d : Declaration) (ty : Ty) (size : Option ℕ)
     (fit : FilesFit unit used (file_scope w files)) where
-  pub variable_well_typed : (items : Option (List InitItem)) → HasText (Variable ty size) → faults_of_initialiser (file_scope w files) ty size items ≡ [] →
+  pub variable_well_typed : (items : Option (List InitItem)) → HasText (Variable ty size) →
+      faults_of_initialiser (file_scope w files) ty size items ≡ [] →
       HaveElementNumbers items → AreAmong used (uses_of_initialiser (file_scope w files) items) →
       IsWellTypedVariable unit (typed_variable w files d ty size items)
   variable_well_typed None text none small u = record { type = text.0; size = text.1; initialiser = tt }
   variable_well_typed (Some items) text none small u =
-      let r = elements_fit unit used (file_scope w files) fit ty text.0 (declarations.room size) 0 items (omega arith) none small u in
+      let r = elements_fit unit used (file_scope w files) fit ty text.0 (room size) 0 items (omega arith) none small u in
       record {
         type = text.0;
         size = text.1;
-        initialiser = (omega (arith, r.0, same_room size), r.1);
+        initialiser = (omega (arith, r.0), r.1);
       }
 
 -- ---- how many elements
 
-few_by : (elements here : ℕ) (bad : Bool) → elements ≤ 262144 → (bad || (nat_lt 0 here && nat_lt 262144 (elements + here))) ≡ false → elements + here ≤ 262144
+few_by : (elements here : ℕ) (bad : Bool) → elements ≤ 262144 →
+    (bad || (nat_lt 0 here && nat_lt 262144 (elements + here))) ≡ false → elements + here ≤ 262144
 few_by elements here bad few h = some (nat_lt 0 here) (nat_lt 262144 (elements + here)) refl refl (or_right bad _ h)
   where
     some : (a b : Bool) → nat_lt 0 here ≡ a → nat_lt 262144 (elements + here) ≡ b → (a && b) ≡ false → elements + here ≤ 262144
@@ -126,7 +126,8 @@ few_by elements here bad few h = some (nat_lt 0 here) (nat_lt 262144 (elements +
     some true false p q r = grind (arith, nat_tests)
     some false b p q r = grind (arith, nat_tests)
 
-elements_by_size : (size : Option ℕ) (ty : Ty) (items : Option (List InitItem)) → elements_of_form (variable ty size items) ≡ room size
+elements_by_size : (size : Option ℕ) (ty : Ty) (items : Option (List InitItem)) →
+    elements_of_form (variable ty size items) ≡ room size
 elements_by_size None ty items = refl
 elements_by_size (Some n) ty items = refl
 
@@ -141,7 +142,8 @@ elements_by w files d (variable ty size items) = by (is_extern d.linkage)
     by true = refl
     by false = let e : 0 + room size ≡ room size = omega arith in e ∙ sym (elements_by_size size ty items)
 
-pub few_elements : (w : Whole) (files : List File) (elements : ℕ) (ds : List Declaration) → elements ≤ 262144 → faults_of_declarations w files elements ds ≡ [] →
+pub few_elements : (w : Whole) (files : List File) (elements : ℕ) (ds : List Declaration) → elements ≤ 262144 →
+    faults_of_declarations w files elements ds ≡ [] →
     elements + sum_by (λ (x : TVar). room x.count) (typed_variables w files ds) ≤ 262144
 unfolding typed_variables faults_of_declarations
 few_elements w files elements [] few none = omega arith

@@ -1,10 +1,8 @@
 -- How a declaration changes the names at file scope: what stands there stays, under its number, and one of its name is marked.
-use Rattle.std.proofs.Common.{◌≡◌, ℕ, zero, suc, ◌+◌, Bool, true, false, ◌||◌, not, cond, if◌then◌else◌, List, [], ◌∷◌, ◌++◌, map, find, Option, Some, None, is_some, refl, sym, ap, subst, ◌∙◌, arith, inl, inr, bytes_eq}
+use Rattle.std.proofs.Common.{◌≡◌, ℕ, ◌+◌, Bool, true, false, ◌||◌, not, cond, if◌then◌else◌, List, [], ◌∷◌, ◌++◌, map, Option, Some, None, is_some, refl, sym, ap, subst, ◌∙◌, bytes_eq}
 use Rattle.std.specs.Prelude.{⊤, option_map}
-use Rattle.std.specs.List.{prefix_len, AllByRecursion, IsDistinct}
+use Rattle.std.specs.List.{AllByRecursion, IsDistinct}
 use Rattle.std.specs.Cmp.Lexicographic.{bytes_decides, nat_list_eq_equiv}
-use Rattle.std.proofs.lemmas.Bool.{cases_Bool}
-use Rattle.pw_types.specs.declared.names.Kind.{Kind}
 use Rattle.pw_types.specs.declared.names.File.{File}
 use Rattle.pw_types.specs.Scopes.{file_named, marked, with_file}
 use Rattle.pw_types.specs.Steps.Uses.{file_number}
@@ -52,11 +50,13 @@ number_marked name other known (f ∷ fs) =
 
 -- ---- one name more
 
-found_before : (b : Bool) (f g : File) (o p : Option File) → (o ≡ Some g → p ≡ Some g) → cond b (Some f) o ≡ Some g → cond b (Some f) p ≡ Some g
+found_before : (b : Bool) (f g : File) (o p : Option File) → (o ≡ Some g → p ≡ Some g) → cond b (Some f) o ≡ Some g →
+    cond b (Some f) p ≡ Some g
 found_before true f g o p h e = e
 found_before false f g o p h e = h e
 
-pub find_before : (name : List ℕ) (files : List File) (f g : File) → file_named name files ≡ Some g → file_named name (files ++ f ∷ []) ≡ Some g
+pub find_before : (name : List ℕ) (files : List File) (f g : File) → file_named name files ≡ Some g →
+    file_named name (files ++ f ∷ []) ≡ Some g
 find_before name [] f g h = cc
 find_before name (k ∷ ks) f g h = found_before (bytes_eq k.name name) k g _ _ (find_before name ks f g) h
 
@@ -116,7 +116,8 @@ stays_marked name f other known files h = record {
   still_defined = mark_defined known (bytes_eq f.name other) f;
 }
 
-stays_before : (name : List ℕ) (f g : File) (files : List File) → file_named name files ≡ Some f → Stays name f files (files ++ g ∷ [])
+stays_before : (name : List ℕ) (f g : File) (files : List File) → file_named name files ≡ Some f →
+    Stays name f files (files ++ g ∷ [])
 stays_before name f g files h = record {
   now = f;
   there = find_before name files g f h;
@@ -132,7 +133,8 @@ stays_by : (b : Bool) (name : List ℕ) (f g : File) (files : List File) → fil
 stays_by true name f g files h = stays_marked name f g.name g.defined files h
 stays_by false name f g files h = stays_before name f g files h
 
-pub stays : (name : List ℕ) (f g : File) (files : List File) → file_named name files ≡ Some f → Stays name f files (with_file g files)
+pub stays : (name : List ℕ) (f g : File) (files : List File) → file_named name files ≡ Some f →
+    Stays name f files (with_file g files)
 stays name f g files h = stays_by (is_some (file_named g.name files)) name f g files h
 
 -- ---- what stands under a name after a declaration
@@ -149,24 +151,28 @@ named_known g f files h =
     find_marked g.name g.name g.defined files ∙ ap (option_map (marked g.name g.defined)) h
     ∙ ap (λ b. Some (if b then also g.defined f else f)) (ap (λ n. bytes_eq n g.name) (named g.name files f h) ∙ bytes_itself g.name)
 
-named_by : (g : File) (files : List File) (o : Option File) → file_named g.name files ≡ o → file_named g.name (with_file g files) ≡ Some (joined_file g o)
+named_by : (g : File) (files : List File) (o : Option File) → file_named g.name files ≡ o →
+    file_named g.name (with_file g files) ≡ Some (joined_file g o)
 named_by g files (Some f) h =
     ap (λ b. file_named g.name (if b then map (marked g.name g.defined) files else files ++ g ∷ [])) (ap is_some h) ∙ named_known g f files h
 named_by g files None h =
     ap (λ b. file_named g.name (if b then map (marked g.name g.defined) files else files ++ g ∷ [])) (ap is_some h)
     ∙ find_last g.name files g h ∙ ap (λ b. cond b (Some g) None) (bytes_itself g.name)
 
-pub named_now : (g : File) (files : List File) → file_named g.name (with_file g files) ≡ Some (joined_file g (file_named g.name files))
+pub named_now : (g : File) (files : List File) →
+    file_named g.name (with_file g files) ≡ Some (joined_file g (file_named g.name files))
 named_now g files = named_by g files (file_named g.name files) refl
 
 -- of another name
-unmarked : (name other : List ℕ) (known : Bool) (files : List File) (o : Option File) → file_named name files ≡ o → bytes_eq other name ≡ false →
+unmarked : (name other : List ℕ) (known : Bool) (files : List File) (o : Option File) → file_named name files ≡ o →
+    bytes_eq other name ≡ false →
     option_map (marked other known) o ≡ o
 unmarked name other known files None h d = refl
 unmarked name other known files (Some f) h d =
     ap (λ b. Some (if b then also known f else f)) (ap (λ n. bytes_eq n other) (named name files f h) ∙ bytes_turned name other ∙ d)
 
-other_last : (name : List ℕ) (files : List File) (g : File) (o : Option File) → file_named name files ≡ o → bytes_eq g.name name ≡ false →
+other_last : (name : List ℕ) (files : List File) (g : File) (o : Option File) → file_named name files ≡ o →
+    bytes_eq g.name name ≡ false →
     file_named name (files ++ g ∷ []) ≡ o
 other_last name files g (Some f) h d = find_before name files g f h
 other_last name files g None h d = find_last name files g h ∙ ap (λ b. cond b (Some g) None) d
@@ -177,7 +183,8 @@ other_by true name g files d =
     find_marked name g.name g.defined files ∙ unmarked name g.name g.defined files (file_named name files) refl d
 other_by false name g files d = other_last name files g (file_named name files) refl d
 
-pub named_other : (name : List ℕ) (g : File) (files : List File) → bytes_eq g.name name ≡ false → file_named name (with_file g files) ≡ file_named name files
+pub named_other : (name : List ℕ) (g : File) (files : List File) → bytes_eq g.name name ≡ false →
+    file_named name (with_file g files) ≡ file_named name files
 named_other name g files d = other_by (is_some (file_named g.name files)) name g files d
 
 -- ---- the names differ
@@ -194,17 +201,20 @@ lacking_by true f o h = cc
 lacking_by false f o h = (refl, h)
 
 -- a name that is not there differs from each that is
-pub all_lack : (name : List ℕ) (files : List File) → file_named name files ≡ None → AllByRecursion (λ other. bytes_eq other name ≡ false) (names_of files)
+pub all_lack : (name : List ℕ) (files : List File) → file_named name files ≡ None →
+    AllByRecursion (λ other. bytes_eq other name ≡ false) (names_of files)
 all_lack name [] h = tt
 all_lack name (f ∷ fs) h =
     let l = lacking_by (bytes_eq f.name name) f (file_named name fs) h in (l.0, all_lack name fs l.1)
 
-one_apart : (x name : List ℕ) (names : List (List ℕ)) → AllByRecursion (λ y. bytes_eq x y ≡ false) names → bytes_eq x name ≡ false →
+one_apart : (x name : List ℕ) (names : List (List ℕ)) → AllByRecursion (λ y. bytes_eq x y ≡ false) names →
+    bytes_eq x name ≡ false →
     AllByRecursion (λ y. bytes_eq x y ≡ false) (names ++ name ∷ [])
 one_apart x name [] h d = (d, tt)
 one_apart x name (y ∷ ys) h d = (h.0, one_apart x name ys h.1 d)
 
-pub apart_last : (name : List ℕ) (names : List (List ℕ)) → IsDistinct bytes_eq names → AllByRecursion (λ other. bytes_eq other name ≡ false) names →
+pub apart_last : (name : List ℕ) (names : List (List ℕ)) → IsDistinct bytes_eq names →
+    AllByRecursion (λ other. bytes_eq other name ≡ false) names →
     IsDistinct bytes_eq (names ++ name ∷ [])
 unfolding IsDistinct
 apart_last name [] h d = (tt, tt)
@@ -214,10 +224,12 @@ pub names_append : (files : List File) (g : File) → names_of (files ++ g ∷ [
 names_append [] g = refl
 names_append (f ∷ fs) g = ap (λ l. f.name ∷ l) (names_append fs g)
 
-apart_by : (g : File) (files : List File) (o : Option File) → file_named g.name files ≡ o → IsDistinct bytes_eq (names_of files) →
+apart_by : (g : File) (files : List File) (o : Option File) → file_named g.name files ≡ o →
+    IsDistinct bytes_eq (names_of files) →
     IsDistinct bytes_eq (names_of (if is_some o then map (marked g.name g.defined) files else files ++ g ∷ []))
 apart_by g files (Some f) h d = subst (IsDistinct bytes_eq) (sym (same_names g.name g.defined files)) d
 apart_by g files None h d = subst (IsDistinct bytes_eq) (sym (names_append files g)) (apart_last g.name (names_of files) d (all_lack g.name files h))
 
-pub apart : (g : File) (files : List File) → IsDistinct bytes_eq (names_of files) → IsDistinct bytes_eq (names_of (with_file g files))
+pub apart : (g : File) (files : List File) → IsDistinct bytes_eq (names_of files) →
+    IsDistinct bytes_eq (names_of (with_file g files))
 apart g files d = apart_by g files (file_named g.name files) refl d

@@ -27,7 +27,8 @@ appended_none : (ts : List TypedExpression) → appended ts tree.nil ≡ typed_e
 appended_none [] = refl
 appended_none (t ∷ ts) = ap (λ es. tree.cons t es) (appended_none ts)
 
-appended_one : (ts : List TypedExpression) (t : TypedExpression) (es : TypedExpressions) → appended (ts ++ t ∷ []) es ≡ appended ts (tree.cons t es)
+appended_one : (ts : List TypedExpression) (t : TypedExpression) (es : TypedExpressions) →
+    appended (ts ++ t ∷ []) es ≡ appended ts (tree.cons t es)
 appended_one [] t es = refl
 appended_one (s ∷ ts) t es = ap (λ l. tree.cons s l) (appended_one ts t es)
 
@@ -75,7 +76,8 @@ call_holds role at (through v) ts is =
 abbrev pub call_of : Role → Span → Aim → List TypedExpression → Option TypedExpressions → Option TypedExpression
 call_of role at aim ts o = option_map (λ es. call_tree (head role at) aim (appended ts es)) o
 
-pub call_judged : (role : Role) (at : Span) (aim : Aim) (other_count : Bool) (ts : List TypedExpression) → ((v : Valued) → aim ≡ through v → v ≡ full v.tree)
+pub call_judged : (role : Role) (at : Span) (aim : Aim) (other_count : Bool) (ts : List TypedExpression) →
+    ((v : Valued) → aim ≡ through v → v ≡ full v.tree)
     → Judged role (rules_of role at.last (call_of role at aim ts (Some tree.nil)) false other_count) (call_of role at aim ts (Some tree.nil)) []
     (call_value (record { head = head role at; aim = aim; other_count = other_count }) (taken ts))
 call_judged role at aim other_count ts is =
@@ -97,14 +99,16 @@ others_same (ty ∷ tys) = refl
 
 -- ---- the whole call
 
-mapped : (g : TypedExpressions → TypedExpression) (f : TypedExpressions → Option TypedExpression) → ((ts : TypedExpressions) → f ts ≡ Some (g ts)) → (o : Option TypedExpressions) → option_map g o ≡ option_and_then f o
+mapped : (g : TypedExpressions → TypedExpression) (f : TypedExpressions → Option TypedExpression) →
+    ((ts : TypedExpressions) → f ts ≡ Some (g ts)) → (o : Option TypedExpressions) → option_map g o ≡ option_and_then f o
 mapped g f is None = refl
 mapped g f is (Some es) = sym (is es)
 
 abbrev pub is_other_count : List Ty → Expressions → Bool
 is_other_count params es = not (nat_eq (length params) (how_many es))
 
-abbrev Whole : Scope → Role → Span → Expressions → List ℕ → Judge Valued → Option (List Ty) → Option TypedExpression → Bool → Type 0
+abbrev Whole : Scope → Role → Span → Expressions → List ℕ → Judge Valued → Option (List Ty) → Option TypedExpression → Bool →
+    Type 0
 Whole scope role at es us p params t other_count =
     Judged role (faults_of_arguments scope params es ++ rules_of role at.last t false other_count) t us p
 

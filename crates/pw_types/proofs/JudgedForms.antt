@@ -13,7 +13,7 @@ use Rattle.pw_tree.specs.Held.{held, holds_left, held_both}
 use Rattle.pw_types.specs.Typed.{mark, Array, typed_unary, typed_binary, typed_choice, typed_element, with_both, with_three}
 use Rattle.pw_tree.specs.TypedExpressions.{type_of}
 use Rattle.pw_types.specs.Expressions.{has_type, no_unary, no_binary}
-use Rattle.pw_types.specs.Steps.CheckingExpressions.{capped, head, mark_under, of_type, leaf, unary_value, binary_value, choice_value, element_value, output_value}
+use Rattle.pw_types.specs.Steps.CheckingExpressions.{capped, head, mark_under, of_type, leaf, unary_operation_value, binary_operation_value, choice_value, element_value, output_value}
 use Rattle.pw_types.proofs.JudgedPhrases.{full, Judged}
 use Rattle.pw_types.proofs.OwnRules.{rules_of, typed_judged, of_type_judged}
 
@@ -34,27 +34,29 @@ leaf_judged role at v none = typed_judged role at v false 0 (sym (ap capped none
 
 pub unary_judged : (role : Role) (at : Span) (op : Un) (t : Option TypedExpression) (v : TypedExpression) → t ≡ Some v
     → Judged role (rules_of role at.last (option_and_then (typed_unary at op) t) (no_unary (unary_type op) t) false)
-    (option_and_then (typed_unary at op) t) [] (unary_value (head role at) op (full v))
+    (option_and_then (typed_unary at op) t) [] (unary_operation_value (head role at) op (full v))
 unfolding held
 unary_judged role at op t v is =
     let P : Option TypedExpression → Type 0 = λ o. Judged role (rules_of role at.last (option_and_then (typed_unary at op) o) (no_unary (unary_type op) o) false)
-    (option_and_then (typed_unary at op) o) [] (unary_value (head role at) op (full v)) in
+    (option_and_then (typed_unary at op) o) [] (unary_operation_value (head role at) op (full v)) in
     subst P (sym is) (of_type_judged role at (unary_type op (type_of v)) (λ ty. tree.unary (mark ty at) op v) _ (λ ty. refl))
 
-pub binary_judged : (role : Role) (at : Span) (op : Bin) (t u : Option TypedExpression) (l r : TypedExpression) → t ≡ Some l → u ≡ Some r
+pub binary_judged : (role : Role) (at : Span) (op : Bin) (t u : Option TypedExpression) (l r : TypedExpression) → t ≡ Some l →
+    u ≡ Some r
     → Judged role (rules_of role at.last (with_both (typed_binary at op) t u) (no_binary (binary_type op) t u) false)
-    (with_both (typed_binary at op) t u) [] (binary_value (head role at) op (full l) (full r))
+    (with_both (typed_binary at op) t u) [] (binary_operation_value (head role at) op (full l) (full r))
 unfolding held
 binary_judged role at op t u l r left right =
     let P : Option TypedExpression → Option TypedExpression → Type 0 = λ o p. Judged role (rules_of role at.last (with_both (typed_binary at op) o p) (no_binary (binary_type op) o p) false)
-    (with_both (typed_binary at op) o p) [] (binary_value (head role at) op (full l) (full r)) in
+    (with_both (typed_binary at op) o p) [] (binary_operation_value (head role at) op (full l) (full r)) in
     let holds : capped (held_both (holds_left op) (capped (held l)) (capped (held r))) ≡ capped (held_both (holds_left op) (held l) (held r)) =
     both_capped (holds_left op) (held l) (held r) in
     let both = of_type_judged role at (binary_type op (type_of l) (type_of r)) (λ o. tree.binary (mark o.ty at) op o.unsigned l r)
     _ (λ o. ap (λ n. record { tree = tree.binary (mark o.ty at) op o.unsigned l r; held = n }) holds) in
     subst (λ o. P o u) (sym left) (subst (λ p. P (Some l) p) (sym right) both)
 
-pub choice_judged : (role : Role) (at : Span) (s t u : Option TypedExpression) (c a b : TypedExpression) → s ≡ Some c → t ≡ Some a → u ≡ Some b
+pub choice_judged : (role : Role) (at : Span) (s t u : Option TypedExpression) (c a b : TypedExpression) → s ≡ Some c →
+    t ≡ Some a → u ≡ Some b
     → Judged role (rules_of role at.last (with_three (typed_choice at) s t u) (is_some s && no_binary choice_type t u) false)
     (with_three (typed_choice at) s t u) [] (choice_value (head role at) (full c) (full a) (full b))
 unfolding held
@@ -75,7 +77,9 @@ unfolding held
 by_number role at a i true = of_type_judged role at (Some a.ty) (λ ty. tree.element (mark ty at) a.reference a.size i) _ (λ ty. refl)
 by_number role at a i false = of_type_judged role at None (λ ty. tree.element (mark ty at) a.reference a.size i) _ (λ ty. refl)
 
-pub element_judged : (role : Role) (at : Span) (o : Option Array) (t : Option TypedExpression) (a : Array) (i : TypedExpression) → o ≡ Some a → t ≡ Some i
+pub element_judged :
+    (role : Role) (at : Span) (o : Option Array) (t : Option TypedExpression) (a : Array) (i : TypedExpression) → o ≡ Some a →
+    t ≡ Some i
     → Judged role (rules_of role at.last (with_both (typed_element at) o t) (is_some o && has_type (λ u. not (is_number u)) t) false)
     (with_both (typed_element at) o t) [] (element_value (head role at) a (full i))
 unfolding held

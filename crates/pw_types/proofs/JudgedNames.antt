@@ -14,7 +14,7 @@ use Rattle.pw_types.specs.declared.names.Kind.{Kind}
 use Rattle.pw_types.specs.declared.names.Kind.TheVariants.{Function, Variable}
 use Rattle.pw_types.specs.declared.names.File.{File}
 use Rattle.pw_tree.specs.Types.{pointer_to}
-use Rattle.pw_types.specs.Scopes.{Scope, Meaning, missing, a_local, declared, meaning, function_reference, variable_reference}
+use Rattle.pw_types.specs.Scopes.{Scope, Meaning, missing, a_local, declared, name_meaning, function_reference, variable_reference}
 use Rattle.pw_tree.specs.Held.{held}
 use Rattle.pw_types.specs.Faults.{first_of}
 use Rattle.pw_types.specs.Typed.{mark, Array, array_of, typed, array_of_kind, array_of_meaning, Designated, function_of_kind, function_of_meaning, typed_file, typed_name}
@@ -79,7 +79,8 @@ function_judged scope role at name f d (Some ty) =
 
 -- ---- names of arrays
 
-array_first : (role : Role) (at : Span) (name : List ℕ) (a : Array) → (is_base role ≡ true → ◌≡◌ {A = Option Array} (Some a) None)
+array_first : (role : Role) (at : Span) (name : List ℕ) (a : Array) →
+    (is_base role ≡ true → ◌≡◌ {A = Option Array} (Some a) None)
     → first_of (rules_of_name role at.last name false None (Some a) None) ≡ Some (fault_under (head role at) (array_rule role))
 array_first Statement at name a h = refl
 array_first Value at name a h = refl
@@ -93,7 +94,8 @@ array_first (Assigned (Some to)) at name a h = refl
 
 -- ---- all names
 
-file_judged : (scope : Scope) (role : Role) (at : Span) (name : List ℕ) (f : File) (k : Kind) → (is_base role ≡ true → array_of_kind scope f k ≡ None)
+file_judged : (scope : Scope) (role : Role) (at : Span) (name : List ℕ) (f : File) (k : Kind) →
+    (is_base role ≡ true → array_of_kind scope f k ≡ None)
     → Judged role (rules_of_name role at.last name false (function_of_kind scope f k) (array_of_kind scope f k) (typed_file scope at f k))
     (typed_file scope at f k) [] (file_value scope (head role at) f k)
 unfolding held
@@ -103,7 +105,8 @@ file_judged scope role at name f (Variable ty None) h = value_judged role at nam
 file_judged scope role at name f (Variable ty (Some size)) h =
     faulty (fault_under (head role at) (array_rule role)) (array_first role at name _ h) (λ used. refl)
 
-pub name_judged : (scope : Scope) (role : Role) (at : Span) (name : List ℕ) (m : Meaning) → (is_base role ≡ true → array_of_meaning scope m ≡ None)
+pub name_judged : (scope : Scope) (role : Role) (at : Span) (name : List ℕ) (m : Meaning) →
+    (is_base role ≡ true → array_of_meaning scope m ≡ None)
     → Judged role (rules_of_name role at.last name (is_missing m) (function_of_meaning scope m) (array_of_meaning scope m) (typed_name scope at m))
     (typed_name scope at m) (uses_of_meaning scope m) (named_value scope (head role at) name m)
 unfolding held
@@ -113,7 +116,8 @@ name_judged scope role at name (declared f) h =
     no_more (noted (file_number f.name scope.files ∷ []) (file_judged scope role at name f f.kind h))
 
 -- an array's name as a base breaks no rule
-of_kind : (scope : Scope) (at : ℕ) (name : List ℕ) (f : File) (place : Span) (k : Kind) (a : Array) → array_of_kind scope f k ≡ Some a
+of_kind : (scope : Scope) (at : ℕ) (name : List ℕ) (f : File) (place : Span) (k : Kind) (a : Array) →
+    array_of_kind scope f k ≡ Some a
     → rules_of_name Base at name false (function_of_kind scope f k) (array_of_kind scope f k) (typed_file scope place f k) ≡ []
 of_kind scope at name f place (Function sig) a h = cc
 of_kind scope at name f place (Variable ty None) a h = cc
@@ -127,7 +131,7 @@ of_meaning scope at name (declared f) a h = of_kind scope at.last name f at f.ki
 
 pub array_base : (scope : Scope) (e : Expression) (a : Array) → array_of scope e ≡ Some a → faults scope Base e ≡ []
 unfolding faults typed
-array_base scope (word at name) a h = sym (own_rules scope Base (word at name)) ∙ of_meaning scope at name (meaning scope name) a h
+array_base scope (word at name) a h = sym (own_rules scope Base (word at name)) ∙ of_meaning scope at name (name_meaning scope name) a h
 array_base scope (constant at value unsigned) a h = cc
 array_base scope (unary at op e) a h = cc
 array_base scope (binary at op l r) a h = cc

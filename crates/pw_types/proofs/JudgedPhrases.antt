@@ -12,7 +12,7 @@ use Rattle.pw_tree.specs.Held.{held}
 use Rattle.pw_types.specs.Faults.{broken, first_of}
 use Rattle.pw_tree.specs.TypedExpressions.{type_of}
 use Rattle.pw_types.specs.Expressions.{is_callee, is_base}
-use Rattle.pw_types.specs.Steps.Judging.{Judge, and_then, ◌>>=◌, pure, refuse, noting, on_option}
+use Rattle.pw_types.specs.Steps.Judging.{Judge, judge_then, ◌>>=◌, pure, refuse, noting, on_option}
 use Rattle.pw_types.specs.Steps.CheckingExpressions.{Valued, capped, fault_under, rule_where}
 
 -- a typed tree with what it holds
@@ -46,9 +46,9 @@ after : {fs : List Fault} {us : List ℕ} {p : Judge Valued}
     → Judged role (fs ++ gs) whole (us ++ vs) (p >>= k)
 after {fs} {us} {p} role gs whole vs k v none is (sound w gone tree fit that) =
     sound w (none_append fs gs none ∙ gone) tree fit
-    (λ used. ap (λ o. and_then o k) (is used) ∙ that (used ++ us) ∙ ap (λ l. Ok (full w, l)) (append_assoc used us vs))
+    (λ used. ap (λ o. judge_then o k) (is used) ∙ that (used ++ us) ∙ ap (λ l. Ok (full w, l)) (append_assoc used us vs))
 after {fs} {us} {p} role gs whole vs k v none is (faulty f first that) =
-    faulty f (ap first_of (none_append fs gs none) ∙ first) (λ used. ap (λ o. and_then o k) (is used) ∙ that (used ++ us))
+    faulty f (ap first_of (none_append fs gs none) ∙ first) (λ used. ap (λ o. judge_then o k) (is used) ∙ that (used ++ us))
 
 pub bind : {r : Role} {fs : List Fault} {t : Option TypedExpression} {us : List ℕ} {p : Judge Valued}
     (role : Role) (gs : List Fault) (whole : Option TypedExpression) (vs : List ℕ) (k : Valued → Judge Valued)
@@ -58,7 +58,7 @@ pub bind : {r : Role} {fs : List Fault} {t : Option TypedExpression} {us : List 
 bind {r} {fs} {t} {us} {p} role gs whole vs k (sound v none tree fit is) next =
     after role gs whole vs k v none is (next v tree fit)
 bind {r} {fs} {t} {us} {p} role gs whole vs k (faulty f first is) next =
-    faulty f (first_append fs gs f first) (λ used. ap (λ o. and_then o k) (is used))
+    faulty f (first_append fs gs f first) (λ used. ap (λ o. judge_then o k) (is used))
 
 -- a base that is no array's name is refused, and what it is the base of
 pub refused_base : {fs : List Fault} {t : Option TypedExpression} {us : List ℕ} {p : Judge Valued}
@@ -85,7 +85,8 @@ pub fits : (role : Role) (v : TypedExpression) → IsFit role v
     → Judged role [] (Some v) [] (pure (full v))
 fits role v fit = sound v refl refl fit (λ used. ap (λ l. Ok (full v, l)) (sym (append-nil used)))
 
-pub refused : (role : Role) (f : Fault) (fs : List Fault) (t : Option TypedExpression) (us : List ℕ) → Judged role (f ∷ fs) t us (refuse f)
+pub refused : (role : Role) (f : Fault) (fs : List Fault) (t : Option TypedExpression) (us : List ℕ) →
+    Judged role (f ∷ fs) t us (refuse f)
 refused role f fs t us = faulty f refl (λ used. refl)
 
 -- a rule, and those after it

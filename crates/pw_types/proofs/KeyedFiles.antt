@@ -24,7 +24,8 @@ named name (g ∷ gs) f h = by_answer (bytes_eq g.name name)
     choose b = cond b (Some g) (file_named name gs)
 
 -- a declaration of a name that is known, and of one that is not
-with_known : (f g : File) (files : List File) → file_named f.name files ≡ Some g → with_file f files ≡ map (marked f.name f.defined) files
+with_known : (f g : File) (files : List File) → file_named f.name files ≡ Some g →
+    with_file f files ≡ map (marked f.name f.defined) files
 with_known f g files h = ap (λ o. if is_some o then map (marked f.name f.defined) files else files ++ f ∷ []) h
 
 with_new : (f : File) (files : List File) → file_named f.name files ≡ None → with_file f files ≡ files ++ f ∷ []
@@ -39,12 +40,14 @@ module _ {K : Type 0} (bytes : K → List ℕ) where
   same_key k j = bytes_eq (bytes k) (bytes j)
 
   -- one more file at its own name
-  one_more : (es : List (K × File)) (k : K) (f : File) → AreKeyed bytes es → bytes k ≡ f.name → AreKeyed bytes (es ++ (k, f) ∷ [])
+  one_more : (es : List (K × File)) (k : K) (f : File) → AreKeyed bytes es → bytes k ≡ f.name →
+      AreKeyed bytes (es ++ (k, f) ∷ [])
   one_more [] k f h e = (e, tt)
   one_more (x ∷ es) k f h e = (h.0, one_more es k f h.1 e)
 
   -- another declaration of the same name, in the place of the one that is found
-  kept : (test : K → Bool) (es : List (K × File)) (f w : File) → w.name ≡ f.name → AreKeyed bytes es → lookup test es ≡ Some f → AreKeyed bytes (set_value test es w)
+  kept : (test : K → Bool) (es : List (K × File)) (f w : File) → w.name ≡ f.name → AreKeyed bytes es → lookup test es ≡ Some f →
+      AreKeyed bytes (set_value test es w)
   kept test [] f w same h there = tt
   kept test (e ∷ es) f w same h there = by_answer (test e.0)
       (λ yes. subst (AreKeyed bytes) (sym (ap change yes)) (h.0 ∙ sym (same ∙ sym (ap name_of (some_is e.1 f (sym (ap choose yes) ∙ there)))), h.1))
@@ -77,14 +80,16 @@ module _ {K : Type 0} (bytes : K → List ℕ) where
     number [] h = refl
     number (e ∷ es) h = λ i. cond (not (asked e h.0 i)) (1 + number es h.1 i) 0
 
-    pub placed : (es : List (K × File)) (i : ℕ) → AreKeyed bytes es → position at_name (keys_of es) ≡ Some i → i ≡ file_number name (values_of es)
+    pub placed : (es : List (K × File)) (i : ℕ) → AreKeyed bytes es → position at_name (keys_of es) ≡ Some i →
+        i ≡ file_number name (values_of es)
     placed es i h there = place at_name (keys_of es) i there ∙ number es h
 
     -- a file of another name is not marked
     passed : (known : Bool) (e : K × File) → bytes e.0 ≡ e.1.name → at_name e.0 ≡ false → marked name known e.1 ≡ e.1
     passed known e h other = ap (λ b. if b then also known e.1 else e.1) (sym (asked e h) ∙ other)
 
-    all_passed : (known : Bool) (es : List (K × File)) → AreKeyed bytes es → AllByRecursion (λ k. at_name k ≡ false) (keys_of es) → map (marked name known) (values_of es) ≡ values_of es
+    all_passed : (known : Bool) (es : List (K × File)) → AreKeyed bytes es →
+        AllByRecursion (λ k. at_name k ≡ false) (keys_of es) → map (marked name known) (values_of es) ≡ values_of es
     all_passed known [] h none = refl
     all_passed known (e ∷ es) h none = λ i. passed known e h.0 none.0 i ∷ all_passed known es h.1 none.1 i
 
@@ -111,7 +116,9 @@ module _ {K : Type 0} (bytes : K → List ℕ) where
             subst (λ n. AllByRecursion (λ k. bytes_eq n (bytes k) ≡ false) (keys_of es)) (sym ((bytes_decides name (bytes e.0)).0 t)) apart.0 in
             ap change t ∙ (λ i. own i ∷ sym (all_passed known es h.1 none) i)
 
-        beyond : at_name e.0 ≡ false → values_of (set_value at_name es (also known f)) ≡ map (marked name known) (values_of es) → change (at_name e.0) ≡ map (marked name known) (values_of (e ∷ es))
+        beyond : at_name e.0 ≡ false →
+            values_of (set_value at_name es (also known f)) ≡ map (marked name known) (values_of es) →
+            change (at_name e.0) ≡ map (marked name known) (values_of (e ∷ es))
         beyond t rest = ap change t ∙ (λ i. sym (passed known e h.0 t) i ∷ rest i)
 
   -- A declaration has joined the files of these entries.
@@ -120,7 +127,8 @@ module _ {K : Type 0} (bytes : K → List ℕ) where
     pub files : values_of new ≡ with_file f (values_of old)
 
   -- where the name is known, its file is written
-  pub joins_known : (f g : File) (name : List ℕ) (old new : List (K × File)) → name ≡ f.name → AreKeyed bytes old → IsDistinct same_key (keys_of old)
+  pub joins_known : (f g : File) (name : List ℕ) (old new : List (K × File)) → name ≡ f.name → AreKeyed bytes old →
+      IsDistinct same_key (keys_of old)
       → lookup (at_name name) old ≡ Some g → new ≡ set_value (at_name name) old (also f.defined g) → HasJoined f old new
   joins_known f g name old new own h apart there e =
       subst (HasJoined f old) (sym e) (record {
@@ -132,7 +140,8 @@ module _ {K : Type 0} (bytes : K → List ℕ) where
       })
 
   -- where it is new, the file goes last
-  pub joins_new : {S : Type 0} (f : File) (name : List ℕ) (k : K) (old : IndexMap K File S) (new : List (K × File)) → name ≡ f.name → bytes k ≡ f.name
+  pub joins_new : {S : Type 0} (f : File) (name : List ℕ) (k : K) (old : IndexMap K File S) (new : List (K × File)) →
+      name ≡ f.name → bytes k ≡ f.name
       → AreKeyed bytes old.entries → lookup (at_name name) old.entries ≡ None → new ≡ insert_entry same_key old.entries k f → HasJoined f old.entries new
   joins_new f name k old new asked_for own h none e =
       let last : insert_entry same_key old.entries k f ≡ old.entries ++ (k, f) ∷ [] =

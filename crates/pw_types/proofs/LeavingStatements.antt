@@ -59,12 +59,14 @@ keeps n (returns at e) b within = stays n b within
 keeps n (breaks at) b within = stays n b within
 keeps n (continues at) b within = stays n b within
 
-pub keeps_maybe : (n : ℕ) (s : OptionalStatement) (b : Block) → n ≤ length b.scope.locals → Keeps n b (locals_in_maybe s) (after_maybe s b)
+pub keeps_maybe : (n : ℕ) (s : OptionalStatement) (b : Block) → n ≤ length b.scope.locals →
+    Keeps n b (locals_in_maybe s) (after_maybe s b)
 unfolding locals_in_maybe
 keeps_maybe n absent b within = stays n b within
 keeps_maybe n (present s) b within = keeps n s b within
 
-pub keeps_all : (n : ℕ) (ss : Statements) (b : Block) → n ≤ length b.scope.locals → Keeps n b (locals_in_all ss) (after_all ss b)
+pub keeps_all : (n : ℕ) (ss : Statements) (b : Block) → n ≤ length b.scope.locals →
+    Keeps n b (locals_in_all ss) (after_all ss b)
 unfolding locals_in_all after_all
 keeps_all n nil b within = stays n b within
 keeps_all n (cons s ss) b within =
@@ -80,7 +82,8 @@ left b b' k kept =
     ∙ ap (λ (n : ℕ). let r : Block = record b { count = n } in r) kept.count
 
 -- the same where the statement is a block of its own
-pub left_inner : (b b' : Block) (k : ℕ) → Keeps (length b.scope.locals) (inner b) k b' → leave b.start (length b.scope.locals) b' ≡ past k b
+pub left_inner : (b b' : Block) (k : ℕ) → Keeps (length b.scope.locals) (inner b) k b' →
+    leave b.start (length b.scope.locals) b' ≡ past k b
 left_inner b b' k kept = left b b' k (record { within = kept.within; scope = kept.scope; count = kept.count })
 
 -- after no declaration

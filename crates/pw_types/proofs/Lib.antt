@@ -1,3 +1,4 @@
+-- The modules of the proofs of this crate.
 pub mod Empty
 pub mod Parameters
 pub mod TypeTexts

@@ -36,7 +36,8 @@ module _ {K : Type 0} (bytes : K → List ℕ) (name : List ℕ) where
   joins_known ks there = sym (ap (λ b. if b then map bytes ks else map bytes ks ++ name ∷ []) (sym (among ks) ∙ there))
 
   -- a key that is inserted joins the names
-  choice : (ks : List K) (k : K) (b : Bool) → map bytes (if b then ks else ks ++ k ∷ []) ≡ (if b then map bytes ks else map bytes ks ++ bytes k ∷ [])
+  choice : (ks : List K) (k : K) (b : Bool) →
+      map bytes (if b then ks else ks ++ k ∷ []) ≡ (if b then map bytes ks else map bytes ks ++ bytes k ∷ [])
   choice ks k true = refl
   choice ks k false = map-append bytes ks (k ∷ [])
 

@@ -1,12 +1,11 @@
 -- The list of external names: a name that is defined or used has its kind's text there, and no name stands there twice.
-use Rattle.std.proofs.Common.{◌≡◌, ℕ, zero, suc, ◌+◌, Bool, true, false, ◌||◌, ◌&&◌, not, cond, if◌then◌else◌, List, [], ◌∷◌, map, find, Option, Some, None, refl, sym, ap, subst, ◌∙◌, arith, bytes_eq, inl, inr}
-use Rattle.std.specs.Prelude.{⊤, option_map, nat_eq}
-use Rattle.std.specs.List.{list_any, AllByRecursion, IsDistinct}
+use Rattle.std.proofs.Common.{◌≡◌, ℕ, suc, ◌+◌, Bool, true, false, ◌||◌, ◌&&◌, not, cond, if◌then◌else◌, List, [], ◌∷◌, map, find, Option, Some, refl, sym, ap, subst, ◌∙◌, arith, bytes_eq, inl, inr}
+use Rattle.std.specs.Prelude.{⊤, option_map}
+use Rattle.std.specs.List.{AllByRecursion, IsDistinct}
 use Rattle.std.proofs.lemmas.Bool.{cases_Bool}
 use Rattle.pw_base.specs.TypeText.{IsTypeText}
 use Rattle.pw_tree.specs.declared.tunit.Ext.{Ext}
 use Rattle.pw_tree.specs.WellTypedExpressions.{text_named}
-use Rattle.pw_types.specs.declared.names.Kind.{Kind}
 use Rattle.pw_types.specs.declared.names.File.{File}
 use Rattle.pw_types.specs.Scopes.{file_named}
 use Rattle.pw_types.specs.Steps.Uses.{file_number, is_kept_by_number, names_by_number}
@@ -58,7 +57,8 @@ module _ (used : List ℕ) (name : List ℕ) where
       ∙ others h (subst (λ m. is_kept_by_number used m f ≡ true) (let z : n + (1 + file_number name gs) ≡ suc n + file_number name gs = omega arith in z) k)
 
   -- a name that is kept has its kind's text
-  pub text_of_name : (n : ℕ) (f : File) (fs : List File) → file_named name fs ≡ Some f → is_kept_by_number used (n + file_number name fs) f ≡ true →
+  pub text_of_name : (n : ℕ) (f : File) (fs : List File) → file_named name fs ≡ Some f →
+      is_kept_by_number used (n + file_number name fs) f ≡ true →
       text_named name (names_by_number used n fs) ≡ Some (text_of_kind f.kind)
   text_of_name n f [] h k = cc
   text_of_name n f (g ∷ gs) h k = elim (cases_Bool (bytes_eq g.name name)) [
@@ -71,7 +71,8 @@ module _ (used : List ℕ) (name : List ℕ) where
 abbrev pub names_in : List Ext → List (List ℕ)
 names_in names = map (λ n. n.name) names
 
-all_apart : (used : List ℕ) (n : ℕ) (P : List ℕ → Type 0) (fs : List File) → AllByRecursion P (names_of fs) → AllByRecursion P (names_in (names_by_number used n fs))
+all_apart : (used : List ℕ) (n : ℕ) (P : List ℕ → Type 0) (fs : List File) → AllByRecursion P (names_of fs) →
+    AllByRecursion P (names_in (names_by_number used n fs))
 unfolding names_by_number
 all_apart used n P [] h = tt
 all_apart used n P (f ∷ fs) h = elim (cases_Bool (is_kept_by_number used n f)) [
@@ -81,7 +82,8 @@ all_apart used n P (f ∷ fs) h = elim (cases_Bool (is_kept_by_number used n f))
       (all_apart used (suc n) P fs h.1)
 ]
 
-pub names_apart : (used : List ℕ) (n : ℕ) (fs : List File) → IsDistinct bytes_eq (names_of fs) → IsDistinct bytes_eq (names_in (names_by_number used n fs))
+pub names_apart : (used : List ℕ) (n : ℕ) (fs : List File) → IsDistinct bytes_eq (names_of fs) →
+    IsDistinct bytes_eq (names_in (names_by_number used n fs))
 unfolding names_by_number IsDistinct
 names_apart used n [] h = tt
 names_apart used n (f ∷ fs) h = elim (cases_Bool (is_kept_by_number used n f)) [
@@ -93,7 +95,8 @@ names_apart used n (f ∷ fs) h = elim (cases_Bool (is_kept_by_number used n f))
 
 -- ---- the texts
 
-pub texts_are : (used : List ℕ) (n : ℕ) (fs : List File) → HaveTexts fs → AllByRecursion (λ n. IsTypeText n.text) (names_by_number used n fs)
+pub texts_are : (used : List ℕ) (n : ℕ) (fs : List File) → HaveTexts fs →
+    AllByRecursion (λ n. IsTypeText n.text) (names_by_number used n fs)
 unfolding names_by_number HaveTexts
 texts_are used n [] h = tt
 texts_are used n (f ∷ fs) h = elim (cases_Bool (is_kept_by_number used n f)) [
@@ -103,7 +106,8 @@ texts_are used n (f ∷ fs) h = elim (cases_Bool (is_kept_by_number used n f)) [
       (texts_are used (suc n) fs h.1)
 ]
 
-found_text : (b : Bool) (f g : File) (o : Option File) → HasText f.kind → (o ≡ Some g → HasText g.kind) → cond b (Some f) o ≡ Some g → HasText g.kind
+found_text : (b : Bool) (f g : File) (o : Option File) → HasText f.kind → (o ≡ Some g → HasText g.kind) →
+    cond b (Some f) o ≡ Some g → HasText g.kind
 found_text true f g o t h e = let is : f ≡ g = cc in subst (λ (x : File). HasText x.kind) is t
 found_text false f g o t h e = h e
 

@@ -1,6 +1,6 @@
 -- The numbers that judging notes are those of the references in the typed tree: a name at file scope has its number noted where
 -- a reference to it stands.
-use Rattle.std.proofs.Common.{◌≡◌, ℕ, Bool, true, false, ◌||◌, ◌&&◌, if◌then◌else◌, List, [], ◌∷◌, ◌++◌, Option, Some, None, refl, sym, ap, subst, ◌∙◌, append_assoc, bytes_eq}
+use Rattle.std.proofs.Common.{◌≡◌, ℕ, Bool, true, false, ◌||◌, ◌&&◌, if◌then◌else◌, List, [], ◌∷◌, ◌++◌, Option, Some, None, refl, sym, ap, ◌∙◌, append_assoc, bytes_eq}
 use Rattle.std.specs.Prelude.{nat_eq, option_map}
 use Rattle.std.specs.List.{list_any}
 use Rattle.std.proofs.lemmas.List.Folds.{list_any-append}
@@ -14,14 +14,14 @@ use Rattle.pw_tree.specs.TypedStatements.{TypedStatement}
 use Rattle.pw_tree.specs.Depends.{names_in, names_in_all, names_in_option, names_of, names_of_all, names_of_maybe}
 use Rattle.pw_types.specs.declared.role.Role.{Role}
 use Rattle.pw_types.specs.declared.names.File.{File}
-use Rattle.pw_types.specs.Scopes.{Scope, meaning, declared, file_named, number_of, function_reference, variable_reference}
+use Rattle.pw_types.specs.Scopes.{Scope, name_meaning, declared, file_named, number_of, function_reference, variable_reference}
 use Rattle.pw_types.specs.Blocks.{Setting, part, body, head, Block, inner, after, after_maybe}
 use Rattle.pw_types.specs.TypedStatements.{typed_expression, typed_statement, typed_statements, optional_typed_statement}
 use Rattle.pw_types.specs.Units.{refers_to}
 use Rattle.pw_types.specs.Steps.Uses.{file_number, uses_of_meaning, uses_of_name, uses, uses_of_all, uses_of_option, uses_by, uses_by_all, uses_by_maybe}
 use Rattle.pw_types.proofs.Fitting.{own_file}
 use Rattle.pw_types.proofs.Sound.{Sound, sound_constant, sound_local, sound_variable, sound_function, sound_element, sound_unary, sound_binary, sound_conditional, sound_call, sound_pointer, sound_input, sound_output, AllSound, sound_nil, sound_cons}
-use Rattle.pw_types.proofs.SoundStatements.{IsTypedAs, IsWhole, IsOptionWhole, SoundSet, set_to_local, set_to_variable, set_to_element, Returns, IsSound, AreSound, IsMaybeSound}
+use Rattle.pw_types.proofs.SoundStatements.{IsTypedAs, IsOptionWhole, SoundSet, set_to_local, set_to_variable, set_to_element, Returns, IsSound, AreSound, IsMaybeSound}
 
 pub or_false : (b : Bool) → (b || false) ≡ b
 or_false true = refl
@@ -44,7 +44,8 @@ module _ (name : List ℕ) (number : ℕ) where
 
   -- ---- lists
 
-  pub both : (us vs : List ℕ) (rs ss : List Ref) → noted us ≡ stands rs → noted vs ≡ stands ss → noted (us ++ vs) ≡ stands (rs ++ ss)
+  pub both : (us vs : List ℕ) (rs ss : List Ref) → noted us ≡ stands rs → noted vs ≡ stands ss →
+      noted (us ++ vs) ≡ stands (rs ++ ss)
   both us vs rs ss h k =
       list_any-append (λ n. nat_eq n number) us vs ∙ (λ i. h i || k i) ∙ sym (list_any-append (refers_to name) rs ss)
 
@@ -58,31 +59,37 @@ module _ (name : List ℕ) (number : ℕ) where
   three us vs ws rs ss ts h k l =
       both us (vs ++ ws) rs (ss ++ ts) h (both vs ws ss ts k l) ∙ sym (ap stands (append_assoc rs ss ts))
 
-  four : (us vs ws xs : List ℕ) (rs ss ts qs : List Ref) → noted us ≡ stands rs → noted vs ≡ stands ss → noted ws ≡ stands ts → noted xs ≡ stands qs →
+  four : (us vs ws xs : List ℕ) (rs ss ts qs : List Ref) → noted us ≡ stands rs → noted vs ≡ stands ss → noted ws ≡ stands ts →
+      noted xs ≡ stands qs →
       noted (us ++ (vs ++ (ws ++ xs))) ≡ stands (rs ++ ss ++ ts ++ qs)
   four us vs ws xs rs ss ts qs h k l m =
       three us vs (ws ++ xs) rs ss (ts ++ qs) h k (both ws xs ts qs l m) ∙ sym (ap stands (append_assoc (rs ++ ss) ts qs))
 
   -- ---- names
 
-  function_refers : (f : File) (b : Bool) (n : ℕ) → (b && bytes_eq f.name name) ≡ refers_to name (if b then Global f.name else LocalFun n)
+  function_refers : (f : File) (b : Bool) (n : ℕ) →
+      (b && bytes_eq f.name name) ≡ refers_to name (if b then Global f.name else LocalFun n)
   function_refers f true n = refl
   function_refers f false n = refl
 
-  variable_refers : (f : File) (b : Bool) (n : ℕ) → (b && bytes_eq f.name name) ≡ refers_to name (if b then Global f.name else LocalVar n)
+  variable_refers : (f : File) (b : Bool) (n : ℕ) →
+      (b && bytes_eq f.name name) ≡ refers_to name (if b then Global f.name else LocalVar n)
   variable_refers f true n = refl
   variable_refers f false n = refl
 
-  name_noted : (scope : Scope) → Agrees scope.files → (spelling : List ℕ) (f : File) → meaning scope spelling ≡ declared f →
+  name_noted : (scope : Scope) → Agrees scope.files → (spelling : List ℕ) (f : File) →
+      name_meaning scope spelling ≡ declared f →
       noted (uses_of_name scope spelling) ≡ (f.external && bytes_eq f.name name)
   name_noted scope agrees spelling f is =
       ap (λ m. noted (uses_of_meaning scope m)) is ∙ or_false _ ∙ agrees f (own_file scope spelling f is)
 
-  pub function_noted : (scope : Scope) → Agrees scope.files → (spelling : List ℕ) (f : File) → meaning scope spelling ≡ declared f →
+  pub function_noted : (scope : Scope) → Agrees scope.files → (spelling : List ℕ) (f : File) →
+      name_meaning scope spelling ≡ declared f →
       noted (uses_of_name scope spelling) ≡ refers_to name (function_reference scope f)
   function_noted scope agrees spelling f is = name_noted scope agrees spelling f is ∙ function_refers f f.external (number_of f.name scope.functions)
 
-  variable_noted : (scope : Scope) → Agrees scope.files → (spelling : List ℕ) (f : File) → meaning scope spelling ≡ declared f →
+  variable_noted : (scope : Scope) → Agrees scope.files → (spelling : List ℕ) (f : File) →
+      name_meaning scope spelling ≡ declared f →
       noted (uses_of_name scope spelling) ≡ refers_to name (variable_reference scope f)
   variable_noted scope agrees spelling f is = name_noted scope agrees spelling f is ∙ variable_refers f f.external (number_of f.name scope.variables)
 
@@ -92,7 +99,8 @@ module _ (name : List ℕ) (number : ℕ) where
     mutual
       unfolding uses
 
-      pub expression_noted : {e : Expression} {t : TypedExpression} → Sound scope e t → noted (uses scope e) ≡ stands (names_in t)
+      pub expression_noted : {e : Expression} {t : TypedExpression} → Sound scope e t →
+          noted (uses scope e) ≡ stands (names_in t)
       expression_noted (sound_constant at value unsigned) = refl
       expression_noted (sound_local at spelling l is) = ap (λ m. noted (uses_of_meaning scope m)) is
       expression_noted (sound_variable at spelling f ty is kind) = variable_noted scope agrees spelling f is ∙ sym (or_false _)
@@ -119,7 +127,8 @@ module _ (name : List ℕ) (number : ℕ) where
       arguments_noted (sound_cons ty tys e es t ts sound converts others) =
           both (uses scope e) (uses_of_all scope es) (names_in t) (names_in_all ts) (expression_noted sound) (arguments_noted others)
 
-    typed_noted : (role : Role) (e : Expression) → IsTypedAs scope role e → noted (uses scope e) ≡ stands (names_in (typed_expression scope e))
+    typed_noted : (role : Role) (e : Expression) → IsTypedAs scope role e →
+        noted (uses scope e) ≡ stands (names_in (typed_expression scope e))
     typed_noted role e h = expression_noted h.sound
 
     option_noted : (role : Role) (e : Option Expression) → IsOptionWhole scope role e →
@@ -132,7 +141,8 @@ module _ (name : List ℕ) (number : ℕ) where
     return_noted result None h = refl
     return_noted result (Some e) h = expression_noted h.whole.typed_as.sound
 
-    set_noted : {x : Setting} {at : Span} {spelling : List ℕ} {i : Option Expression} {e : Expression} {s : TypedStatement} → SoundSet x scope at spelling i e s →
+    set_noted : {x : Setting} {at : Span} {spelling : List ℕ} {i : Option Expression} {e : Expression} {s : TypedStatement} →
+        SoundSet x scope at spelling i e s →
         noted (uses_of_name scope spelling ++ (uses_of_option scope i ++ uses scope e)) ≡ stands (names_of s)
     set_noted (set_to_local spelling l e is typed_as few) =
         ap (λ m. noted (uses_of_meaning scope m ++ uses scope e)) is ∙ expression_noted typed_as.sound

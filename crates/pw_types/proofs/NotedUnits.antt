@@ -25,11 +25,12 @@ use Rattle.pw_types.specs.declared.names.Kind.{Kind}
 use Rattle.pw_types.specs.declared.names.Kind.TheVariants.{Function, Variable}
 use Rattle.pw_types.specs.declared.names.File.{File}
 use Rattle.pw_types.specs.Faults.{broken_by}
-use Rattle.pw_types.specs.Scopes.{Scope, Meaning, missing, a_local, declared, meaning, file_named, function_reference}
+use Rattle.pw_types.specs.Scopes.{Scope, Meaning, missing, a_local, declared, name_meaning, file_named, function_reference}
 use Rattle.pw_types.specs.Blocks.{Setting, Block}
 use Rattle.pw_types.specs.TypedStatements.{typed_statements}
 use Rattle.pw_types.specs.Typed.{function_of_meaning, function_of_kind}
-use Rattle.pw_types.specs.Declarations.{is_extern, points_to, does_not_initialise, is_unknown_name, name_in, is_wrong_element, faults_of_element, room, outermost, setting, declared_by, elements_of, Whole, file_scope}
+use Rattle.pw_tree.specs.WellTypedUnits.{room}
+use Rattle.pw_types.specs.Declarations.{is_extern, points_to, does_not_initialise, is_unknown_name, name_in, is_wrong_element, faults_of_element, outermost, setting, declared_by, elements_of, Whole, file_scope}
 use Rattle.pw_types.specs.Units.{whole_of, files_after, designated_or, element_of, elements_in, typed_function, typed_variable, typed_functions_of, typed_variables_of, typed_functions, typed_variables, refers_to, is_kept, external_name, external_names, definitions_of, typed_unit}
 use Rattle.pw_types.specs.Steps.Uses.{file_number, uses_of_name, uses_of_element, uses_of_elements, uses_of_initialiser, uses_of_form, uses_of_declarations, is_kept_by_number, names_by_number}
 use Rattle.pw_types.specs.Steps.UnitFaults.{faults_of_elements, faults_of_initialiser, faults_of_form, faults_of_declaration, faults_of_declarations, faults_in_order}
@@ -49,7 +50,8 @@ not_not true h = refl
 not_not false h = cc
 
 module _ (name : List ℕ) (number : ℕ) (scope : Scope) (agrees : Agrees name number scope.files) (ty : Ty) where
-  kind_noted : (spelling : List ℕ) (f : File) (k : Kind) → meaning scope spelling ≡ declared f → points_to ty (function_of_kind scope f k) ≡ true →
+  kind_noted : (spelling : List ℕ) (f : File) (k : Kind) → name_meaning scope spelling ≡ declared f →
+      points_to ty (function_of_kind scope f k) ≡ true →
       (us : List ℕ) (items : List Init) → noted name number us ≡ stands name number (names_in_items items) →
       noted name number (uses_of_name scope spelling ++ us) ≡ stands name number (names_in_items (designated_or (function_of_kind scope f k) ∷ items))
   kind_noted spelling f (Function sig) is points us items h =
@@ -57,7 +59,8 @@ module _ (name : List ℕ) (number : ℕ) (scope : Scope) (agrees : Agrees name 
       (function_noted name number scope agrees spelling f is) h
   kind_noted spelling f (Variable t size) is points us items h = cc
 
-  word_noted : (spelling : List ℕ) (m : Meaning) → meaning scope spelling ≡ m → points_to ty (function_of_meaning scope m) ≡ true →
+  word_noted : (spelling : List ℕ) (m : Meaning) → name_meaning scope spelling ≡ m →
+      points_to ty (function_of_meaning scope m) ≡ true →
       (us : List ℕ) (items : List Init) → noted name number us ≡ stands name number (names_in_items items) →
       noted name number (uses_of_name scope spelling ++ us) ≡ stands name number (names_in_items (designated_or (function_of_meaning scope m) ∷ items))
   word_noted spelling missing is points us items h = cc
@@ -68,7 +71,7 @@ module _ (name : List ℕ) (number : ℕ) (scope : Scope) (agrees : Agrees name 
       (us : List ℕ) (items : List Init) → noted name number us ≡ stands name number (names_in_items items) →
       noted name number (uses_of_element scope k ++ us) ≡ stands name number (names_in_items (element_of scope k ∷ items))
   element_noted (Num n) fits us items h = h
-  element_noted (Word spelling) fits us items h = word_noted spelling (meaning scope spelling) refl (not_not _ fits) us items h
+  element_noted (Word spelling) fits us items h = word_noted spelling (name_meaning scope spelling) refl (not_not _ fits) us items h
 
   elements_noted : (size n : ℕ) (items : List InitItem) → faults_of_elements scope ty size n items ≡ [] →
       noted name number (uses_of_elements scope items) ≡ stands name number (names_in_items (elements_in scope items))
@@ -153,13 +156,15 @@ apart_by true false m n h k = grind (arith, nat_tests)
 apart_by false true m n h k = grind (arith, nat_tests)
 apart_by false false m n h k = let other : nat_eq m n ≡ false = k refl in grind (arith, nat_tests)
 
-not_both : (name other third : List ℕ) → bytes_eq other third ≡ false → bytes_eq name other ≡ true → bytes_eq name third ≡ true → ⊥
+not_both : (name other third : List ℕ) → bytes_eq other third ≡ false → bytes_eq name other ≡ true →
+    bytes_eq name third ≡ true → ⊥
 not_both name other third apart p q =
     let same : other ≡ third = sym (bytes_same name other p) ∙ bytes_same name third q in
     let c : true ≡ false = sym (bytes_itself other) ∙ (ap (bytes_eq other) same ∙ apart) in cc
 
 -- two names have two numbers
-numbers_differ : (name other : List ℕ) (files : List File) (f : File) → file_named name files ≡ Some f → bytes_eq name other ≡ false →
+numbers_differ : (name other : List ℕ) (files : List File) (f : File) → file_named name files ≡ Some f →
+    bytes_eq name other ≡ false →
     nat_eq (file_number name files) (file_number other files) ≡ false
 numbers_differ name other [] f h apart = cc
 numbers_differ name other (g ∷ gs) f h apart =
@@ -198,7 +203,8 @@ module _ (name : List ℕ) (number : ℕ) where
       and_false true = refl
       and_false false = refl
 
-  declarations_noted : (w : Whole) (files : List File) (elements : ℕ) (ds : List Declaration) → IsExternal (files_after files ds) →
+  declarations_noted : (w : Whole) (files : List File) (elements : ℕ) (ds : List Declaration) →
+      IsExternal (files_after files ds) →
       faults_of_declarations w files elements ds ≡ [] → AllByRecursion IsProperDeclaration ds →
       noted name number (uses_of_declarations w files ds)
       ≡ (stands name number (names_in_functions (typed_functions w files ds)) || stands name number (names_in_variables (typed_variables w files ds)))
@@ -216,7 +222,8 @@ module _ (name : List ℕ) (number : ℕ) where
       ∙ sym (λ i. stand_in_both name number (λ (f : TypedFunction). names_of_all f.body) (typed_functions_of w now d d.form) (typed_functions w now ds) i
       || stand_in_both name number (λ (y : TVar). option_map_or names_in_items y.init []) (typed_variables_of w now d d.form) (typed_variables w now ds) i)
 
-  unit_noted : (u : UntypedUnit) → IsRead u → faults_of_declarations (whole_of u) [] 0 u.declarations ≡ [] → IsExternal (files_after [] u.declarations) →
+  unit_noted : (u : UntypedUnit) → IsRead u → faults_of_declarations (whole_of u) [] 0 u.declarations ≡ [] →
+      IsExternal (files_after [] u.declarations) →
       noted name number (uses_of_declarations (whole_of u) [] u.declarations) ≡ stands name number (names_used (definitions_of u))
   unit_noted u read none x =
       declarations_noted (whole_of u) [] 0 u.declarations x none read.declarations
@@ -229,7 +236,8 @@ pub no_names : IsDistinct bytes_eq []
 unfolding IsDistinct
 no_names = tt
 
-pub names_after : (files : List File) (ds : List Declaration) → IsDistinct bytes_eq (names_of files) → IsDistinct bytes_eq (names_of (files_after files ds))
+pub names_after : (files : List File) (ds : List Declaration) → IsDistinct bytes_eq (names_of files) →
+    IsDistinct bytes_eq (names_of (files_after files ds))
 unfolding files_after
 names_after files [] h = h
 names_after files (d ∷ ds) h = names_after (declared_by d files) ds (apart _ files h)
@@ -239,7 +247,8 @@ other_by : (g f k : File) (b : Bool) (o : Option File) → bytes_eq k.name f.nam
 other_by g f k true o same apart later h = ap (bytes_eq g.name) (sym (bytes_same k.name f.name same)) ∙ apart
 other_by g f k false o same apart later h = later h
 
-other_name : (g f : File) (files : List File) → AllByRecursion (λ y. bytes_eq g.name y ≡ false) (names_of files) → file_named f.name files ≡ Some f →
+other_name : (g f : File) (files : List File) → AllByRecursion (λ y. bytes_eq g.name y ≡ false) (names_of files) →
+    file_named f.name files ≡ Some f →
     bytes_eq g.name f.name ≡ false
 other_name g f [] a h = cc
 other_name g f (k ∷ ks) a h = other_by g f k (bytes_eq k.name f.name) (file_named f.name ks) refl a.0 (other_name g f ks a.1) h

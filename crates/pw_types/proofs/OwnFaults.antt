@@ -12,7 +12,7 @@ use Rattle.pw_types.specs.declared.names.File.{File}
 use Rattle.pw_types.specs.declared.fault.Fault.{Fault}
 use Rattle.pw_types.specs.Faults.{broken, broken_by}
 use Rattle.pw_types.specs.Reserved.{is_reserved}
-use Rattle.pw_types.specs.Scopes.{Scope, local_named, meaning}
+use Rattle.pw_types.specs.Scopes.{Scope, local_named, name_meaning}
 use Rattle.pw_types.specs.Typed.{array_named, function_named}
 use Rattle.pw_types.specs.Expressions.{end_of, word_of, is_missing, is_unknown, is_no_value, has_other_operands, has_other_count, has_other_argument, is_not_callable, is_no_array, needs_index, does_not_fit, own}
 use Rattle.pw_types.specs.Blocks.{Block, has_own}
@@ -75,13 +75,13 @@ rises_name b name at = rises_names name at (has_own b name) (nat_le 120 b.count)
 
 pub rises_target : (scope : Scope) (name : List ℕ) (at : ℕ) → Rises at 0 11 (faults_of_target scope name at)
 rises_target scope name at =
-    rises_append (rises_broken_by 0 rules.Unknown at name (is_missing (meaning scope name)) (omega arith))
+    rises_append (rises_broken_by 0 rules.Unknown at name (is_missing (name_meaning scope name)) (omega arith))
     (rises_append (rises_broken 1 rules.NeedsIndex at (is_some (array_named scope name)) (omega arith))
     (rises_broken 10 rules.AssignType at (is_some (function_named scope name)) (omega arith)))
 
 pub rises_array : (scope : Scope) (name : List ℕ) (at : ℕ) → Rises at 0 9 (faults_of_array scope name at)
 rises_array scope name at =
-    rises_append (rises_broken_by 0 rules.Unknown at name (is_missing (meaning scope name)) (omega arith))
+    rises_append (rises_broken_by 0 rules.Unknown at name (is_missing (name_meaning scope name)) (omega arith))
     (rises_broken 1 rules.NotArray at (is_none (array_named scope name)) (omega arith))
 
 pub rises_parameter : (is_definition : Bool) (number : ℕ) (before : List Local) (at : ℕ) (name : Option (List ℕ)) →

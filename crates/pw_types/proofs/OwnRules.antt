@@ -48,7 +48,8 @@ does_not_fit (Argument want) word t = false
 does_not_fit Written word t = false
 
 -- the own faults of an expression, by its name, if it is one, by what the name means, and by its typed tree
-abbrev pub rules_by : Role → ℕ → List ℕ → Bool → Bool → Option Designated → Option Array → Option TypedExpression → Bool → Bool → List Fault
+abbrev pub rules_by : Role → ℕ → List ℕ → Bool → Bool → Option Designated → Option Array → Option TypedExpression → Bool →
+    Bool → List Fault
 rules_by role at name word unknown function array t other_operands other_count =
     broken_by rules.Unknown at name unknown
     ++ (broken rules.NotValue at ((needs_value role && has_type is_void t) || ((not (is_base role) && is_some function) && is_none t))

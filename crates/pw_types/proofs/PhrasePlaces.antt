@@ -18,7 +18,8 @@ place_of_form (ExprKind-F.Index base i) at = refl
 place_of_form ExprKind-F.Input at = refl
 place_of_form (ExprKind-F.Output e) at = refl
 
-pub place_is : (e : Expr) → placed.span_of (expression_of e) ≡ record { first = (out-Expr e).first; last = (out-Expr e).last; line = (out-Expr e).line }
+pub place_is : (e : Expr) →
+    placed.span_of (expression_of e) ≡ record { first = (out-Expr e).first; last = (out-Expr e).last; line = (out-Expr e).line }
 place_is e =
     ap placed.span_of (phrase_of-out e)
     ∙ (ap (λ (f : Span → Expression). placed.span_of (f (record { first = (out-Expr e).first; last = (out-Expr e).last; line = (out-Expr e).line })))

@@ -14,10 +14,12 @@ pub ruleset phrase_forms = (phrase_of-out, form_of-Num, form_of-Word, form_of-Un
 abbrev pub place : Expr → Span
 place e = record { first = (out-Expr e).first; last = (out-Expr e).last; line = (out-Expr e).line }
 
-by_kind : (e : Expr) (kind : ExprKind) (form : Span → Expression) → (out-Expr e).kind ≡ kind → expression_form_of kind ≡ form → expression_of e ≡ form (place e)
+by_kind : (e : Expr) (kind : ExprKind) (form : Span → Expression) → (out-Expr e).kind ≡ kind → expression_form_of kind ≡ form →
+    expression_of e ≡ form (place e)
 by_kind e kind form is forms = phrase_of-out e ∙ ap (λ k. expression_form_of k (place e)) is ∙ ap (λ (f : Span → Expression). f (place e)) forms
 
-pub as_unary : (e : Expr) (op : Un) (x y : Expr) → (out-Expr e).kind ≡ kinds.Unary op x → x ≡ y → expression_of e ≡ unary (place e) op (expression_of y)
+pub as_unary : (e : Expr) (op : Un) (x y : Expr) → (out-Expr e).kind ≡ kinds.Unary op x → x ≡ y →
+    expression_of e ≡ unary (place e) op (expression_of y)
 as_unary e op x y is same =
     by_kind e (kinds.Unary op x) (λ at. unary at op (expression_of x)) is (form_of-Unary op x) ∙ ap (λ z. unary (place e) op (expression_of z)) same
 

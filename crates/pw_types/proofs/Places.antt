@@ -29,7 +29,8 @@ module _ {X : Type 0} (test : X → Bool) (xs : List X) where
   pub nowhere : position test xs ≡ None → position_or_len test xs ≡ length xs
   nowhere = by (nat_lt (position_or_len test xs) (length xs)) refl
     where
-      by : (b : Bool) → nat_lt (position_or_len test xs) (length xs) ≡ b → cond b (Some (position_or_len test xs)) None ≡ None → position_or_len test xs ≡ length xs
+      by : (b : Bool) → nat_lt (position_or_len test xs) (length xs) ≡ b → cond b (Some (position_or_len test xs)) None ≡ None →
+          position_or_len test xs ≡ length xs
       by true e h = none_is_some _ (sym h)
       by false e h =
           let within : position_or_len test xs ≤ length xs = prefix_len-le-length (λ x. not (test x)) xs in

@@ -21,7 +21,7 @@ use Rattle.pw_types.specs.Steps.Uses.{uses}
 use Rattle.pw_types.specs.Expressions.{is_base}
 use Rattle.pw_types.specs.Steps.ExpressionFaults.{faults}
 use Rattle.pw_types.specs.Steps.Judged.{JudgesExpression}
-use Rattle.pw_types.specs.Steps.Judging.{JudgeResult, Judge, and_then}
+use Rattle.pw_types.specs.Steps.Judging.{JudgeResult, Judge, judge_then}
 use Rattle.pw_types.specs.Steps.CheckingExpressions.{Valued, checked}
 use Rattle.pw_types.specs.Steps.ResumingExpressions.{valued, resumed, resume, continued, GivesWith, Continues, ContinuesWith, size, frame_size, step_size, frames_size}
 use Rattle.pw_types.proofs.JudgedPhrases.{full, Judged, sound, faulty}
@@ -31,16 +31,16 @@ use Rattle.pw_types.proofs.ExpressionLaw.{expression_judged}
 
 -- the innermost frame goes on first
 pub resume_last : (scope : Scope) (fs : List ExpressionFrame) (f : ExpressionFrame) (o : JudgeResult Valued)
-    → resume scope (fs ++ f ∷ []) o ≡ resume scope fs (and_then o (resumed scope f))
+    → resume scope (fs ++ f ∷ []) o ≡ resume scope fs (judge_then o (resumed scope f))
 unfolding resume
 resume_last scope [] f o = refl
-resume_last scope (g ∷ fs) f o = ap (λ r. and_then r (resumed scope g)) (resume_last scope fs f o)
+resume_last scope (g ∷ fs) f o = ap (λ r. judge_then r (resumed scope g)) (resume_last scope fs f o)
 
 -- a fault is the fault of the whole
 pub resume_fault : (scope : Scope) (fs : List ExpressionFrame) (fault : Fault) → resume scope fs (Err fault) ≡ Err fault
 unfolding resume
 resume_fault scope [] fault = refl
-resume_fault scope (g ∷ fs) fault = ap (λ r. and_then r (resumed scope g)) (resume_fault scope fs fault)
+resume_fault scope (g ∷ fs) fault = ap (λ r. judge_then r (resumed scope g)) (resume_fault scope fs fault)
 
 pub size_last : (fs : List ExpressionFrame) (f : ExpressionFrame) → frames_size (fs ++ f ∷ []) ≡ frames_size fs + frame_size f
 unfolding frames_size
@@ -90,19 +90,23 @@ refusals scope fs q p start end old new stop.NoMemory result is h on =
     let P : Result Typed Refusal → Type 0 = λ r. GivesWith q start end r in subst P (sym is) tt
 
 -- a step that uses no names
-pub as_used : (scope : Scope) (p : Judge Valued) (used : List ℕ) (result : Result ExpressionStep Refusal) → Continues scope p result → ContinuesWith scope p used used result
+pub as_used : (scope : Scope) (p : Judge Valued) (used : List ℕ) (result : Result ExpressionStep Refusal) →
+    Continues scope p result → ContinuesWith scope p used used result
 as_used scope p used (Ok step) h = ap (λ r. r used) h
 as_used scope p used (Err (stop.Fault f)) h = ap (λ r. r used) h
 as_used scope p used (Err stop.NoMemory) h = h
 
-pub part_smaller : (fs gs : List ExpressionFrame) (step next : ExpressionStep) (f : ExpressionFrame) (role : Role) (e : Bor Expr) → step ≡ Part f role e → gs ≡ fs ++ f ∷ []
+pub part_smaller :
+    (fs gs : List ExpressionFrame) (step next : ExpressionStep) (f : ExpressionFrame) (role : Role) (e : Bor Expr) →
+    step ≡ Part f role e → gs ≡ fs ++ f ∷ []
     → step_size next < size (expression_of e.now) → frames_size gs + step_size next < frames_size fs + step_size step
 part_smaller fs gs step next f role e is more less =
     let now : step_size step ≡ frame_size f + size (expression_of e.now) = ap step_size is in
     let sum : frames_size gs ≡ frames_size fs + frame_size f = ap frames_size more ∙ size_last fs f in
     omega (arith, now, sum, less)
 
-pub done_smaller : (fs gs : List ExpressionFrame) (step next : ExpressionStep) (f : ExpressionFrame) (t : Typed) → step ≡ Done t → fs ≡ gs ++ f ∷ []
+pub done_smaller : (fs gs : List ExpressionFrame) (step next : ExpressionStep) (f : ExpressionFrame) (t : Typed) →
+    step ≡ Done t → fs ≡ gs ++ f ∷ []
     → step_size next < frame_size f → frames_size gs + step_size next < frames_size fs + step_size step
 done_smaller fs gs step next f t is last less =
     let now : step_size step ≡ 0 = ap step_size is in

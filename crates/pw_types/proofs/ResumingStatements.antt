@@ -24,7 +24,7 @@ use Rattle.pw_types.specs.Steps.StatementWeights.{weight_of_form, weight_of_step
 use Rattle.pw_types.specs.Blocks.{Block}
 use Rattle.pw_types.specs.Steps.StatementFaults.{faults_of_whole}
 use Rattle.pw_types.specs.Steps.CheckingStatements.{WalkResult, judged, block_of, outcome_at, judged_at, setting_of, resumed_at, leave, block_at, rest_of_block, rest_of_if, rest_of_do, Leaves, Finishes, Steps, resumed, IsWhole}
-use Rattle.pw_types.specs.Steps.StatementValues.{IsValue, JudgesValue}
+use Rattle.pw_types.specs.Steps.StatementValues.{IsJudgedValue, JudgesValue}
 use Rattle.pw_types.proofs.EnclosingStatements.{same, tree_is, block_ends, block_goes_on, if_ends, if_goes_on, do_ends}
 use Rattle.pw_types.proofs.Failing.{fails_as}
 use Rattle.pw_types.proofs.SimpleStatements.{noted}
@@ -39,7 +39,8 @@ left_as o c d old new is left = same refl is (sym left.used) (sym left.held) (sy
 
 -- ---- blocks
 
-mapped : (done all : List TStmt) (t : TStmt) → all ≡ done ++ t ∷ [] → map tree.typed_statement_of done ++ tree.typed_statement_of t ∷ [] ≡ map tree.typed_statement_of all
+mapped : (done all : List TStmt) (t : TStmt) → all ≡ done ++ t ∷ [] →
+    map tree.typed_statement_of done ++ tree.typed_statement_of t ∷ [] ≡ map tree.typed_statement_of all
 mapped done all t is = sym (map-append tree.typed_statement_of done (t ∷ [])) ∙ ap (map tree.typed_statement_of) (sym is)
 
 pub block_is_done : (o : Outer) (old new : Walk) (done all : List TStmt) (t : TStmt) (rest : List Stmt)
@@ -92,7 +93,7 @@ pub while_is_done : (o : Outer) (old new : Walk) (c : TExpr) (s : TStmt) → Lea
 while_is_done o old new c s left = left_as o _ _ old new (sym (command_of-While c s)) left
 
 pub do_is_done : (o : Outer) (old mid new : Walk) (c : Expression) (s : TStmt) (t : TExpr) → Leaves o old mid
-    → faults_of_whole mid.scope roles.Value c ≡ [] → IsValue c mid new t
+    → faults_of_whole mid.scope roles.Value c ≡ [] → IsJudgedValue c mid new t
     → rest_of_do (leave o.start o.visible) c (judged_at (tree.typed_statement_of s) old) ≡ judged_at (tree.typed_statement_of (kinds.Do s t)) new
 do_is_done o old mid new c s t left none value =
     ap (λ (b : Block). of_block b old.used.items old.held) (sym left.block)
@@ -104,26 +105,31 @@ do_is_done o old mid new c s t left none value =
     of_block : Block → List ℕ → ℕ → WalkResult
     of_block b u h = rest_of_do (λ b'. b') c (judged (tree.typed_statement_of s) b u h)
 
-pub do_fails : (o : Outer) (old mid new : Walk) (c : Expression) (s : TypedStatement) (stop : Refusal) → Leaves o old mid → JudgesValue roles.Value c mid new (Err stop)
+pub do_fails : (o : Outer) (old mid new : Walk) (c : Expression) (s : TypedStatement) (stop : Refusal) → Leaves o old mid →
+    JudgesValue roles.Value c mid new (Err stop)
     → let w : WalkResult = rest_of_do (leave o.start o.visible) c (judged_at s old) in Fails w.faults stop
 do_fails o old mid new c s stop left is =
     fails_as _ _ stop (ap (λ (b : Block). faults_of_whole b.scope roles.Value c) left.block) (value_fails roles.Value c mid new stop is)
 
-pub for_is_done : (o : Outer) (old new : Walk) (first : Option TStmt) (c : Option TExpr) (last : Option TStmt) (s : TStmt) → Leaves o old new
+pub for_is_done : (o : Outer) (old new : Walk) (first : Option TStmt) (c : Option TExpr) (last : Option TStmt) (s : TStmt) →
+    Leaves o old new
     → resumed_at o (forms.For first c last) (judged_at (tree.typed_statement_of s) old) ≡ judged_at (tree.typed_statement_of (kinds.For first c last s)) new
 for_is_done o old new first c last s left = left_as o _ _ old new (sym (command_of-For first c last s)) left
 
 -- ---- what is said of a form is said of the frame
 
 module _ (f : StatementFrame) (form : StatementForm) (is : f.form ≡ form) where
-  pub resumed_as : (w : WalkResult) (new : Walk) (r : Result StatementStep Refusal) → Steps (resumed_at f.outer form w) new r → Steps (resumed f w) new r
+  pub resumed_as : (w : WalkResult) (new : Walk) (r : Result StatementStep Refusal) → Steps (resumed_at f.outer form w) new r →
+      Steps (resumed f w) new r
   resumed_as w new r holds = subst (λ (g : StatementForm). Steps (resumed_at f.outer g w) new r) (sym is) holds
 
-  pub less_resumed : (r : Result StatementStep Refusal) → IfOk r (λ step. weight_of_step step < weight_of_form form) → IfOk r (λ step. weight_of_step step < weight_of_form f.form)
+  pub less_resumed : (r : Result StatementStep Refusal) → IfOk r (λ step. weight_of_step step < weight_of_form form) →
+      IfOk r (λ step. weight_of_step step < weight_of_form f.form)
   less_resumed r holds = subst (λ (g : StatementForm). IfOk r (λ step. weight_of_step step < weight_of_form g)) (sym is) holds
 
   -- a statement that is judged after this part
-  pub resumed_whole : (w : WalkResult) (new : Walk) (r : Result TStmt Refusal) (r' : Result StatementStep Refusal) → IsWhole r r' → Finishes (resumed_at f.outer form w) new r
+  pub resumed_whole : (w : WalkResult) (new : Walk) (r : Result TStmt Refusal) (r' : Result StatementStep Refusal) →
+      IsWhole r r' → Finishes (resumed_at f.outer form w) new r
       → Steps (resumed f w) new r'
   resumed_whole w new r r' whole holds = resumed_as w new r' (finished_steps _ new r r' whole holds)
 

@@ -1,10 +1,8 @@
 -- Kinds that are held to be the same are equal, and a declaration without conflict has the kind and the linkage of the earlier one.
-use Rattle.std.proofs.Common.{◌≡◌, ℕ, Bool, true, false, ◌&&◌, not, List, [], ◌∷◌, Option, Some, None, refl, sym, ap, ◌∙◌}
-use Rattle.std.specs.Prelude.{nat_eq}
+use Rattle.std.proofs.Common.{◌≡◌, ℕ, Bool, true, false, ◌&&◌, not, List, [], ◌∷◌, Option, Some, None, refl, ap, ◌∙◌}
 use Rattle.std.proofs.lemmas.Bool.{eqb-true}
 use Rattle.pw_tree.specs.declared.ty.Ty.{Ty}
 use Rattle.pw_tree.specs.declared.ty.Ty.TheVariants.{Void, Long, Ulong, Fn}
-use Rattle.pw_tree.specs.declared.ty.Sig.{Sig}
 use Rattle.pw_tree.specs.declared.decl.Linkage.{Linkage}
 use Rattle.pw_tree.specs.declared.decl.Linkage.TheVariants.{Plain, Extern, Static}
 use Rattle.pw_tree.specs.Declarations.{Declaration}
@@ -74,7 +72,8 @@ never : {A : Type 0} (b : Bool) → not (b && false) ≡ false → A
 never true h = cc
 never false h = cc
 
-linkage_is : (d : Declaration) (f : File) (l : Linkage) (x : Bool) → conflicts (record d { linkage = l }) (Some (record f { external = x })) ≡ false →
+linkage_is : (d : Declaration) (f : File) (l : Linkage) (x : Bool) →
+    conflicts (record d { linkage = l }) (Some (record f { external = x })) ≡ false →
     x ≡ is_external l
 linkage_is d f Plain true h = refl
 linkage_is d f Plain false h = never (same_kind f.kind (kind_of d.form)) h

@@ -17,9 +17,9 @@ use Rattle.pw_types.specs.declared.role.Role.TheVariants.{Statement, Value, Call
 use Rattle.pw_types.specs.declared.names.Kind.{Kind}
 use Rattle.pw_types.specs.declared.names.Kind.TheVariants.{Function, Variable}
 use Rattle.pw_types.specs.declared.names.File.{File}
-use Rattle.pw_types.specs.Scopes.{Scope, Meaning, missing, a_local, declared, meaning, function_reference, variable_reference}
+use Rattle.pw_types.specs.Scopes.{Scope, Meaning, missing, a_local, declared, name_meaning, function_reference, variable_reference}
 use Rattle.pw_types.specs.Typed.{mark, constant_type, typed_file, typed_name, Array, array_of, array_of_meaning, array_of_kind, Designated, function_of, function_of_meaning, function_of_kind, Callee as Called, direct, through, pointer_of_type, pointer_callee, callee_of, parameters_of, called, typed_unary, typed_binary, typed_choice, typed_element, with_both, with_three, both_trees, typed, typed_all}
-use Rattle.pw_types.specs.Expressions.{is_base, is_missing, is_judged, is_word, has_type, how_many, callee_in, first_parameter, other_parameters}
+use Rattle.pw_types.specs.Expressions.{is_base, is_missing, is_word, has_type, how_many, callee_in, first_parameter, other_parameters}
 use Rattle.pw_types.specs.Steps.ExpressionFaults.{unless_direct, faults, faults_of_arguments}
 use Rattle.pw_types.proofs.Empty.{left_empty, right_empty}
 use Rattle.pw_types.proofs.NoFaults.{or_left, or_right, NoOwn, breaks_none}
@@ -120,9 +120,10 @@ base_is_array false s n p q h = cc
 
 module _ (scope : Scope) (role : Role) (at : Span) (name : List ℕ) (kept : NoOwn scope role (word at name))
     (base : is_base role ≡ true → array_of scope (word at name) ≡ None) where
-  function_by : (f : File) (sig : Sig) (o : Option Ty) → meaning scope name ≡ declared f → f.kind ≡ Function sig → pointer_to sig ≡ o →
+  function_by : (f : File) (sig : Sig) (o : Option Ty) → name_meaning scope name ≡ declared f → f.kind ≡ Function sig →
+      pointer_to sig ≡ o →
       SoundOf scope role (word at name)
-  unfolding typed meaning
+  unfolding typed name_meaning
   function_by f sig (Some ty) is kind pointer =
       sound_by scope role (word at name) (tree.designator (mark ty at) (function_reference scope f))
       (ap (typed_name scope at) is ∙ ap (typed_file scope at f) kind
@@ -137,8 +138,8 @@ module _ (scope : Scope) (role : Role) (at : Span) (name : List ℕ) (kept : NoO
       let is_a_base : is_base role ≡ true = base_by (is_base role) _ _ some (ap is_none none) (or_right _ _ kept.value) in
       base_is_array (is_base role) (is_some (typed scope (word at name))) _ is_a_base (ap is_none (base is_a_base)) kept.array
 
-  file_by : (f : File) (k : Kind) → meaning scope name ≡ declared f → f.kind ≡ k → SoundOf scope role (word at name)
-  unfolding typed meaning
+  file_by : (f : File) (k : Kind) → name_meaning scope name ≡ declared f → f.kind ≡ k → SoundOf scope role (word at name)
+  unfolding typed name_meaning
   file_by f (Function sig) is kind = function_by f sig (pointer_to sig) is kind refl
   file_by f (Variable ty None) is kind =
       sound_by scope role (word at name) (tree.variable (mark ty at) (variable_reference scope f))
@@ -150,8 +151,8 @@ module _ (scope : Scope) (role : Role) (at : Span) (name : List ℕ) (kept : NoO
       let none : array_of scope (word at name) ≡ None = base is_a_base in
       cc
 
-  name_by : (m : Meaning) → meaning scope name ≡ m → SoundOf scope role (word at name)
-  unfolding typed meaning
+  name_by : (m : Meaning) → name_meaning scope name ≡ m → SoundOf scope role (word at name)
+  unfolding typed name_meaning
   name_by missing is = let e : true ≡ false = sym (ap is_missing is) ∙ kept.known in cc
   name_by (a_local l) is =
       sound_by scope role (word at name) (tree.local (mark l.ty at) l.number) (ap (typed_name scope at) is) (sound_local at name l is) kept
@@ -166,27 +167,29 @@ pub record IsFunctionName (scope : Scope) (e : Expression) (d : Designated) : Ty
   pub file : File
   pub sig : Sig
   pub is : e ≡ word at name
-  pub means : meaning scope name ≡ declared file
+  pub means : name_meaning scope name ≡ declared file
   pub kind : file.kind ≡ Function sig
   pub designates : record { reference = function_reference scope file; sig = sig } ≡ d
 
-file_designates : (scope : Scope) (at : Span) (name : List ℕ) (f : File) (k : Kind) (d : Designated) → meaning scope name ≡ declared f → f.kind ≡ k →
+file_designates : (scope : Scope) (at : Span) (name : List ℕ) (f : File) (k : Kind) (d : Designated) →
+    name_meaning scope name ≡ declared f → f.kind ≡ k →
     function_of_kind scope f k ≡ Some d → IsFunctionName scope (word at name) d
 file_designates scope at name f (Function sig) d is kind h =
     record { at = at; name = name; file = f; sig = sig; is = refl; means = is; kind = kind; designates = cc }
 file_designates scope at name f (Variable ty size) d is kind h = cc
 
-name_designates : (scope : Scope) (at : Span) (name : List ℕ) (m : Meaning) (d : Designated) → meaning scope name ≡ m →
+name_designates : (scope : Scope) (at : Span) (name : List ℕ) (m : Meaning) (d : Designated) → name_meaning scope name ≡ m →
     function_of_meaning scope m ≡ Some d → IsFunctionName scope (word at name) d
-unfolding meaning
+unfolding name_meaning
 name_designates scope at name missing d is h = cc
 name_designates scope at name (a_local l) d is h = cc
 name_designates scope at name (declared f) d is h = file_designates scope at name f f.kind d is refl h
 
-pub is_function_name : (scope : Scope) (e : Expression) (d : Designated) → function_of scope e ≡ Some d → IsFunctionName scope e d
-unfolding meaning
+pub is_function_name : (scope : Scope) (e : Expression) (d : Designated) → function_of scope e ≡ Some d →
+    IsFunctionName scope e d
+unfolding name_meaning
 is_function_name scope (word at name) d h =
-    name_designates scope at name (meaning scope name) d refl h
+    name_designates scope at name (name_meaning scope name) d refl h
 is_function_name scope (constant at value unsigned) d h = cc
 is_function_name scope (unary at op e) d h = cc
 is_function_name scope (binary at op l r) d h = cc
@@ -204,27 +207,28 @@ pub record IsArrayName (scope : Scope) (e : Expression) (a : Array) : Type 0 whe
   pub ty : Ty
   pub size : ℕ
   pub is : e ≡ word at name
-  pub means : meaning scope name ≡ declared file
+  pub means : name_meaning scope name ≡ declared file
   pub kind : file.kind ≡ Variable ty (Some size)
   pub array : record { reference = variable_reference scope file; ty = ty; size = size } ≡ a
 
-file_is_array : (scope : Scope) (at : Span) (name : List ℕ) (f : File) (k : Kind) (a : Array) → meaning scope name ≡ declared f → f.kind ≡ k →
+file_is_array : (scope : Scope) (at : Span) (name : List ℕ) (f : File) (k : Kind) (a : Array) →
+    name_meaning scope name ≡ declared f → f.kind ≡ k →
     array_of_kind scope f k ≡ Some a → IsArrayName scope (word at name) a
 file_is_array scope at name f (Function sig) a is kind h = cc
 file_is_array scope at name f (Variable ty None) a is kind h = cc
 file_is_array scope at name f (Variable ty (Some size)) a is kind h =
     record { at = at; name = name; file = f; ty = ty; size = size; is = refl; means = is; kind = kind; array = cc }
 
-pub name_is_array : (scope : Scope) (at : Span) (name : List ℕ) (m : Meaning) (a : Array) → meaning scope name ≡ m →
+pub name_is_array : (scope : Scope) (at : Span) (name : List ℕ) (m : Meaning) (a : Array) → name_meaning scope name ≡ m →
     array_of_meaning scope m ≡ Some a → IsArrayName scope (word at name) a
-unfolding meaning
+unfolding name_meaning
 name_is_array scope at name missing a is h = cc
 name_is_array scope at name (a_local l) a is h = cc
 name_is_array scope at name (declared f) a is h = file_is_array scope at name f f.kind a is refl h
 
 pub is_array_name : (scope : Scope) (e : Expression) (a : Array) → array_of scope e ≡ Some a → IsArrayName scope e a
-unfolding meaning
-is_array_name scope (word at name) a h = name_is_array scope at name (meaning scope name) a refl h
+unfolding name_meaning
+is_array_name scope (word at name) a h = name_is_array scope at name (name_meaning scope name) a refl h
 is_array_name scope (constant at value unsigned) a h = cc
 is_array_name scope (unary at op e) a h = cc
 is_array_name scope (binary at op l r) a h = cc
@@ -237,7 +241,8 @@ is_array_name scope (output at e) a h = cc
 -- ---- forms, over what their parts are
 
 module _ (scope : Scope) (role : Role) (at : Span) where
-  unary_by : (op : Un) (e : Expression) → NoOwn scope role (unary at op e) → SoundOf scope Value e → SoundOf scope role (unary at op e)
+  unary_by : (op : Un) (e : Expression) → NoOwn scope role (unary at op e) → SoundOf scope Value e →
+      SoundOf scope role (unary at op e)
   unfolding typed
   unary_by op e kept p =
       let o = there (unary_type op (type_of p.tree)) (sym (ap (has_type (λ t. is_none (unary_type op t))) p.typed_is) ∙ kept.operands) in
@@ -245,7 +250,8 @@ module _ (scope : Scope) (role : Role) (at : Span) where
       (ap (option_and_then (typed_unary at op)) p.typed_is ∙ ap (option_map (λ ty. tree.unary (mark ty at) op p.tree)) o.is)
       (sound_unary at op o.it e p.tree p.sound p.fits o.is) kept
 
-  binary_by : (op : Bin) (l r : Expression) → NoOwn scope role (binary at op l r) → SoundOf scope Value l → SoundOf scope Value r →
+  binary_by : (op : Bin) (l r : Expression) → NoOwn scope role (binary at op l r) → SoundOf scope Value l →
+      SoundOf scope Value r →
       SoundOf scope role (binary at op l r)
   unfolding typed
   binary_by op l r kept p q =
@@ -259,7 +265,8 @@ module _ (scope : Scope) (role : Role) (at : Span) where
       ∙ ap (option_map (λ (x : Operation). tree.binary (mark x.ty at) op x.unsigned p.tree q.tree)) o.is)
       (sound_binary at op o.it l r p.tree q.tree p.sound q.sound p.fits q.fits o.is) kept
 
-  conditional_by : (c a b : Expression) → NoOwn scope role (conditional at c a b) → SoundOf scope Value c → SoundOf scope Value a →
+  conditional_by : (c a b : Expression) → NoOwn scope role (conditional at c a b) → SoundOf scope Value c →
+      SoundOf scope Value a →
       SoundOf scope Value b → SoundOf scope role (conditional at c a b)
   unfolding typed
   conditional_by c a b kept p q r =
@@ -284,7 +291,8 @@ module _ (scope : Scope) (role : Role) (at : Span) where
       (ap (option_map (λ t. tree.output (mark Void at) t)) p.typed_is) (sound_output at e p.tree p.sound p.fits) kept
 
   -- an index, where its base is an array's name
-  index_by : (b i : Expression) (a : Array) → array_of scope b ≡ Some a → NoOwn scope role (index at b i) → SoundOf scope Value i →
+  index_by : (b i : Expression) (a : Array) → array_of scope b ≡ Some a → NoOwn scope role (index at b i) →
+      SoundOf scope Value i →
       SoundOf scope role (index at b i)
   unfolding typed
   index_by b i a is kept p =
@@ -301,7 +309,8 @@ module _ (scope : Scope) (role : Role) (at : Span) where
       (sound_element at n.at n.name n.file n.ty n.size i p.tree n.means n.kind p.sound number)) kept
 
   -- a call, where what is called is known
-  count_by : (f : Expression) (es : Expressions) (c : Called) (params : List Ty) → callee_in scope f ≡ c → parameters_of c ≡ Some params →
+  count_by : (f : Expression) (es : Expressions) (c : Called) (params : List Ty) → callee_in scope f ≡ c →
+      parameters_of c ≡ Some params →
       NoOwn scope role (call at f es) → (p : ArgumentsOf scope (parameters_of (callee_in scope f)) es) → length params ≡ how_many es
   count_by f es c params is are kept p =
       let other : Option (List Ty) → Bool = λ o. option_map_or (λ (ps : List Ty). not (nat_eq (length ps) (how_many es))) o false in
@@ -309,7 +318,8 @@ module _ (scope : Scope) (role : Role) (at : Span) where
       sym (ap (λ t. is_some t && other (parameters_of (callee_in scope f))) p.typed_are) ∙ kept.count in
       eqb-true (length params) (how_many es) (not_false _ (sym (ap other (ap parameters_of is ∙ are)) ∙ known))
 
-  direct_by : (f : Expression) (es : Expressions) (d : Designated) → function_of scope f ≡ Some d → NoOwn scope role (call at f es) →
+  direct_by : (f : Expression) (es : Expressions) (d : Designated) → function_of scope f ≡ Some d →
+      NoOwn scope role (call at f es) →
       ArgumentsOf scope (parameters_of (callee_in scope f)) es → SoundOf scope role (call at f es)
   unfolding typed
   direct_by f es d is kept p =
@@ -324,7 +334,8 @@ module _ (scope : Scope) (role : Role) (at : Span) where
       (subst (λ x. Sound scope (call at x es) t) (sym n.is)
       (sound_call at n.at n.name n.file n.sig es p.trees n.means n.kind (p.sound n.sig.params (ap parameters_of c) count))) kept
 
-  pointer_call_by : (f : Expression) (es : Expressions) (ty : Ty) (q : SoundOf scope Callee f) → type_of q.tree ≡ ty → function_of scope f ≡ None →
+  pointer_call_by : (f : Expression) (es : Expressions) (ty : Ty) (q : SoundOf scope Callee f) → type_of q.tree ≡ ty →
+      function_of scope f ≡ None →
       is_pointer ty ≡ true → NoOwn scope role (call at f es) →
       ArgumentsOf scope (parameters_of (callee_in scope f)) es → SoundOf scope role (call at f es)
   unfolding typed
@@ -339,14 +350,16 @@ module _ (scope : Scope) (role : Role) (at : Span) where
   pointer_call_by f es Long q type none pointer kept p = cc
   pointer_call_by f es Ulong q type none pointer kept p = cc
 
-  call_by : (f : Expression) (es : Expressions) (o : Option Designated) → function_of scope f ≡ o → NoOwn scope role (call at f es) →
+  call_by : (f : Expression) (es : Expressions) (o : Option Designated) → function_of scope f ≡ o →
+      NoOwn scope role (call at f es) →
       (o ≡ None → SoundOf scope Callee f) → ArgumentsOf scope (parameters_of (callee_in scope f)) es → SoundOf scope role (call at f es)
   call_by f es None is kept q p =
       let s = q refl in pointer_call_by f es (type_of s.tree) s refl is s.fits kept p
   call_by f es (Some d) is kept q p = direct_by f es d is kept p
 
   -- a base without faults is an array's name
-  base_by_array : (b i : Expression) (o : Option Array) → array_of scope b ≡ o → NoOwn scope Base b → (array_of scope b ≡ None → SoundOf scope Base b) →
+  base_by_array : (b i : Expression) (o : Option Array) → array_of scope b ≡ o → NoOwn scope Base b →
+      (array_of scope b ≡ None → SoundOf scope Base b) →
       NoOwn scope role (index at b i) → SoundOf scope Value i → SoundOf scope role (index at b i)
   base_by_array b i (Some a) is own_of_b base kept p = index_by b i a is kept p
   base_by_array b i None is own_of_b base kept p =
@@ -367,7 +380,8 @@ arguments_nil scope params = record { trees = tree.nil; typed_are = refl; sound 
     none [] is count = sound_nil
     none (ty ∷ tys) is count = absurd (omega arith)
 
-arguments_cons : (scope : Scope) (params : Option (List Ty)) (e : Expression) (es : Expressions) → SoundOf scope (Argument (first_parameter params)) e →
+arguments_cons : (scope : Scope) (params : Option (List Ty)) (e : Expression) (es : Expressions) →
+    SoundOf scope (Argument (first_parameter params)) e →
     ArgumentsOf scope (other_parameters params) es → ArgumentsOf scope params (cons e es)
 unfolding typed
 arguments_cons scope params e es p ps = record {
@@ -376,7 +390,8 @@ arguments_cons scope params e es p ps = record {
   sound = some;
 }
   where
-    some : (tys : List Ty) → params ≡ Some tys → length tys ≡ how_many (cons e es) → AllSound scope tys (cons e es) (tree.cons p.tree ps.trees)
+    some : (tys : List Ty) → params ≡ Some tys → length tys ≡ how_many (cons e es) →
+        AllSound scope tys (cons e es) (tree.cons p.tree ps.trees)
     some [] is count = absurd (omega arith)
     some (ty ∷ tys) is count =
         sound_cons ty tys e es p.tree ps.trees p.sound (subst (λ w. RoleFits (Argument w) p.tree) (ap first_parameter is) p.fits)
@@ -393,7 +408,8 @@ input_typed : (scope : Scope) (at : Span) → typed scope (input at) ≡ Some (t
 unfolding typed
 input_typed scope at = refl
 
-direct_or : (scope : Scope) (f : Expression) (o : Option Designated) → unless_direct o (faults scope Callee f) ≡ [] → o ≡ None → faults scope Callee f ≡ []
+direct_or : (scope : Scope) (f : Expression) (o : Option Designated) → unless_direct o (faults scope Callee f) ≡ [] → o ≡ None →
+    faults scope Callee f ≡ []
 direct_or scope f None none is = none
 direct_or scope f (Some d) none is = cc
 
@@ -401,13 +417,14 @@ mutual
   unfolding faults
 
   -- An expression without faults is sound.
-  pub sound_of : (scope : Scope) (role : Role) (e : Expression) → faults scope role e ≡ [] → (is_base role ≡ true → array_of scope e ≡ None) →
+  pub sound_of : (scope : Scope) (role : Role) (e : Expression) → faults scope role e ≡ [] →
+      (is_base role ≡ true → array_of scope e ≡ None) →
       SoundOf scope role e
   sound_of scope role (constant at value unsigned) none base =
       sound_by scope role (constant at value unsigned) (tree.constant (mark (constant_type unsigned) at) value) (constant_typed scope at value unsigned)
       (sound_constant at value unsigned) (breaks_none scope role (constant at value unsigned) none)
   sound_of scope role (word at name) none base =
-      name_by scope role at name (breaks_none scope role (word at name) none) base (meaning scope name) refl
+      name_by scope role at name (breaks_none scope role (word at name) none) base (name_meaning scope name) refl
   sound_of scope role (unary at op e) none base =
       unary_by scope role at op e (breaks_none scope role (unary at op e) none) (sound_of scope Value e (left_empty _ _ none) no_base)
   sound_of scope role (binary at op l r) none base =

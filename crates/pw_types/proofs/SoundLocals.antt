@@ -2,32 +2,29 @@
 -- statements fit.
 use Rattle.std.proofs.Common.{◌≡◌, ℕ, zero, suc, ◌+◌, ◌≤◌, ◌<◌, Bool, true, false, ◌||◌, if◌then◌else◌, List, [], ◌∷◌, ◌++◌, length, map, Option, Some, None, is_some, refl, sym, ap, subst, ◌∙◌, arith, append_assoc, length-append, eq-eqb, ◌⊎◌}
 use Rattle.std.specs.Prelude.{⊤, nat_eq, slice_get, option_map, bytes_eq}
-use Rattle.std.specs.List.{list_any, AllByRecursion}
+use Rattle.std.specs.List.{list_any}
 use Rattle.std.proofs.lemmas.Bool.{cases_Bool}
 use Rattle.std.proofs.Common.{inl, inr}
 use Rattle.pw_tree.specs.declared.ty.Ty.{Ty}
-use Rattle.pw_tree.specs.declared.ty.Ty.TheVariants.{Void, Long, Ulong, Fn}
 use Rattle.pw_tree.specs.Expressions.{Span, Expression}
 use Rattle.pw_tree.specs.Statements.{Statement, Statements, OptionalStatement, empty, block, local, set, evaluate, if_else, while_loop, do_loop, for_loop, returns, breaks, continues, nil, cons, absent, present}
-use Rattle.pw_tree.specs.TypedExpressions.{TypedExpression, type_of}
 use Rattle.pw_tree.specs.TypedStatements.{TypedStatement}
 use Rattle.pw_tree.specs.TypedStatements as tree
-use Rattle.pw_tree.specs.Types.{IsValueType}
 use Rattle.pw_tree.specs.Units.{TypedUnit}
-use Rattle.pw_tree.specs.Proper.{IsNoDeclaration, IsNoElseDeclaration, IsSimpleStatement, IsLastPart, IsProper, AreProper, IsMaybeProper}
-use Rattle.pw_tree.specs.WellTypedExpressions.{Class, number, class_of, class, IsValue, IsValueClass, HasFittingParts, IsKnown, Throughout}
-use Rattle.pw_tree.specs.WellTypedStatements.{IfPresent, Everywhere, EverywhereIn, EverywhereIf, LocalFits, ReturnFits, IsCondition, StatementFits, known_after, known_after_maybe, ExpressionReads, StatementReads, StatementsRead, MaybeReads}
+use Rattle.pw_tree.specs.Proper.{IsNoDeclaration, IsSimpleStatement, IsLastPart, IsProper, AreProper, IsMaybeProper}
+use Rattle.pw_tree.specs.WellTypedExpressions.{Class, number, class_of, HasFittingParts, IsKnown, Throughout}
+use Rattle.pw_tree.specs.WellTypedStatements.{IfPresent, Everywhere, EverywhereIn, EverywhereIf, IsCondition, StatementFits, known_after, known_after_maybe, ExpressionReads, StatementReads, StatementsRead, MaybeReads}
 use Rattle.pw_types.specs.declared.role.Role.{Role}
 use Rattle.pw_types.specs.declared.role.Role.TheVariants.{Statement as AsStatement, Value, Assigned}
 use Rattle.pw_types.specs.declared.names.Local.{Local}
 use Rattle.pw_types.specs.declared.names.File.{File}
-use Rattle.pw_types.specs.Scopes.{Scope, meaning, declared, local_named}
+use Rattle.pw_types.specs.Scopes.{Scope, name_meaning, declared, local_named}
 use Rattle.pw_types.specs.Steps.Uses.{uses_of_meaning, uses_of_name, uses, file_number, uses_of_option, uses_by, uses_by_all, uses_by_maybe}
-use Rattle.pw_types.specs.Blocks.{Setting, part, body, head, Block, inner, after, after_maybe, with_local, past, locals_in, locals_in_all, locals_in_maybe}
+use Rattle.pw_types.specs.Blocks.{Setting, part, body, head, Block, inner, after, after_maybe, with_local, locals_in, locals_in_all, locals_in_maybe}
 use Rattle.pw_types.specs.TypedStatements.{typed_expression, typed_set, typed_statement, typed_statements, optional_typed_statement}
-use Rattle.pw_types.proofs.Classes.{number_class, value_class, void_class, converted_class, converted_value}
+use Rattle.pw_types.proofs.Classes.{number_class, value_class, void_class, converted_class}
 use Rattle.pw_types.proofs.Fitting.{IsAmong, AreAmong, among_left, among_right, local_meant, own_file, LocalsFit, FilesFit, parts_fit, reads_known}
-use Rattle.pw_types.proofs.SoundStatements.{IsTypedAs, IsWhole, IsOptionWhole, SoundSet, set_to_local, set_to_variable, set_to_element, ReturnsWell, Returns, DeclaresWell, IsSound, AreSound, IsMaybeSound}
+use Rattle.pw_types.proofs.SoundStatements.{IsTypedAs, IsOptionWhole, SoundSet, set_to_local, set_to_variable, set_to_element, Returns, IsSound, AreSound, IsMaybeSound}
 
 -- ---- the types of a body's locals, in order of their numbers
 
@@ -99,7 +96,8 @@ unfolding HaveClasses
 have_left classes n [] ys h = tt
 have_left classes n (x ∷ xs) ys h = (h.0, have_left classes (suc n) xs ys h.1)
 
-pub have_right : (classes : List Class) (n m : ℕ) (xs ys : List Ty) → m ≡ n + length xs → HaveClasses classes n (xs ++ ys) → HaveClasses classes m ys
+pub have_right : (classes : List Class) (n m : ℕ) (xs ys : List Ty) → m ≡ n + length xs → HaveClasses classes n (xs ++ ys) →
+    HaveClasses classes m ys
 unfolding HaveClasses
 have_right classes n m [] ys e h = subst (λ k. HaveClasses classes k ys) (let f : n ≡ m = omega arith in f) h
 have_right classes n m (x ∷ xs) ys e h = have_right classes (suc n) m xs ys (omega arith) h.1
@@ -154,7 +152,8 @@ known_more known i j h = elim (cases_Bool (nat_eq i j)) [
 ]
 
 module _ (unit : TypedUnit) (used : List ℕ) (classes : List Class) where
-  one_more_known : (known : List ℕ) (i : ℕ) (scope : Scope) → Place unit used classes known scope → Place unit used classes (i ∷ known) scope
+  one_more_known : (known : List ℕ) (i : ℕ) (scope : Scope) → Place unit used classes known scope →
+      Place unit used classes (i ∷ known) scope
   one_more_known known i scope p = record {
     locals = record {
       classes_are = p.locals.classes_are;
@@ -163,7 +162,8 @@ module _ (unit : TypedUnit) (used : List ℕ) (classes : List Class) where
     files = p.files;
   }
 
-  more_known : (known : List ℕ) (t : TypedStatement) (scope : Scope) → Place unit used classes known scope → Place unit used classes (known_after t known) scope
+  more_known : (known : List ℕ) (t : TypedStatement) (scope : Scope) → Place unit used classes known scope →
+      Place unit used classes (known_after t known) scope
   more_known known (tree.set_local i e) scope p = one_more_known known i scope p
   more_known known (tree.evaluate e) scope p = p
   more_known known (tree.set_variable x e) scope p = p
@@ -205,7 +205,8 @@ known_now : (n : ℕ) (known : List ℕ) → IsKnown (n ∷ known) n
 known_now n known = ap (λ b. b || list_any (λ k. nat_eq k n) known) (eq-eqb n n refl)
 
 module _ (unit : TypedUnit) (used : List ℕ) (classes : List Class) where
-  declared_place : (known : List ℕ) (b : Block) (name : List ℕ) (ty : Ty) → Place unit used classes known b.scope → slice_get classes b.count ≡ Some (class_of ty) →
+  declared_place : (known : List ℕ) (b : Block) (name : List ℕ) (ty : Ty) → Place unit used classes known b.scope →
+      slice_get classes b.count ≡ Some (class_of ty) →
       Place unit used classes (b.count ∷ known) (with_local name ty b.count b.scope)
   declared_place known b name ty p is = record {
     locals = record {
@@ -297,7 +298,8 @@ pub record MaybeFlows (unit : TypedUnit) (result : Class) (classes : List Class)
   pub fits : EverywhereIf (StatementFits unit result classes) t
   pub reads : MaybeReads known t
 
-variable_used : (scope : Scope) (used : List ℕ) (name : List ℕ) (f : File) → meaning scope name ≡ declared f → AreAmong used (uses_of_name scope name) →
+variable_used : (scope : Scope) (used : List ℕ) (name : List ℕ) (f : File) → name_meaning scope name ≡ declared f →
+    AreAmong used (uses_of_name scope name) →
     IsAmong used (file_number f.name scope.files)
 variable_used scope used name f is h = (subst (λ m. AreAmong used (uses_of_meaning scope m)) is h).0
 
@@ -335,11 +337,13 @@ module _ (unit : TypedUnit) (used : List ℕ) (classes : List Class) where
     option_parts role None h u = tt
     option_parts role (Some e) h u = parts role e h.typed_as u
 
-    option_reads : (role : Role) (e : Option Expression) → IsOptionWhole scope role e → IfPresent (ExpressionReads known) (option_map (typed_expression scope) e)
+    option_reads : (role : Role) (e : Option Expression) → IsOptionWhole scope role e →
+        IfPresent (ExpressionReads known) (option_map (typed_expression scope) e)
     option_reads role None h = tt
     option_reads role (Some e) h = reads role e h.typed_as
 
-    option_condition : (e : Option Expression) → IsOptionWhole scope Value e → IsCondition (option_map (typed_expression scope) e)
+    option_condition : (e : Option Expression) → IsOptionWhole scope Value e →
+        IsCondition (option_map (typed_expression scope) e)
     option_condition None h = tt
     option_condition (Some e) h = value_class _ h.typed_as.fits
 
@@ -357,7 +361,8 @@ module _ (unit : TypedUnit) (used : List ℕ) (classes : List Class) where
     }
 
     -- a local's declaration
-    declaration_flows : (result : Class) (n : ℕ) (ty : Ty) (e : Option Expression) → slice_get classes n ≡ Some (class_of ty) → n < length classes →
+    declaration_flows : (result : Class) (n : ℕ) (ty : Ty) (e : Option Expression) → slice_get classes n ≡ Some (class_of ty) →
+        n < length classes →
         IsOptionWhole scope (Assigned (Some ty)) e → AreAmong used (uses_of_option scope e) →
         Flows unit result classes known (tree.set_local n (option_map (typed_expression scope) e))
     unfolding Everywhere StatementReads
@@ -427,7 +432,8 @@ module _ (unit : TypedUnit) (used : List ℕ) (classes : List Class) where
   mutual
     unfolding IsSound typed_statement Everywhere StatementReads types_in uses_by IsProper HaveClasses
 
-    flows : (x : Setting) (b : Block) (s : Statement) (known : List ℕ) → Place unit used classes known b.scope → HaveClasses classes b.count (types_in s) →
+    flows : (x : Setting) (b : Block) (s : Statement) (known : List ℕ) → Place unit used classes known b.scope →
+        HaveClasses classes b.count (types_in s) →
         AreAmong used (uses_by b s) → IsProper s → IsSound x b s → Flows unit (class_of x.result) classes known (typed_statement x b s)
     flows x b (empty at) known p c u q h = record { fits = (record { classes_fit = tt; parts = tt }, tt); reads = tt }
     flows x b (block at ss) known p c u q h =

@@ -1,6 +1,6 @@
 -- The typed statements of a body without faults: loops are left from within, the parts of a `for` are simple, numbers are small,
 -- few values are held, and there are no more phrases than tokens.
-use Rattle.std.proofs.Common.{◌≡◌, ℕ, zero, suc, ◌+◌, ◌-◌, ◌^◌, ◌≤◌, ◌<◌, Bool, true, false, List, [], ◌∷◌, Option, Some, None, refl, sym, ap, subst, arith}
+use Rattle.std.proofs.Common.{◌≡◌, ℕ, zero, suc, ◌+◌, ◌-◌, ◌^◌, ◌≤◌, ◌<◌, Bool, true, false, List, [], ◌∷◌, Option, Some, None, refl, sym, subst, arith}
 use Rattle.std.specs.Prelude.{⊤, slice_index_or, option_map}
 use Rattle.std.specs.List.{AllByRecursion}
 use Rattle.pw_tree.specs.declared.ty.Ty.{Ty}
@@ -8,21 +8,21 @@ use Rattle.pw_tree.specs.Expressions.{Span, Expression}
 use Rattle.pw_tree.specs.Statements.{Statement, Statements, OptionalStatement, empty, block, local, set, evaluate, if_else, while_loop, do_loop, for_loop, returns, breaks, continues, nil, cons, absent, present}
 use Rattle.pw_tree.specs.TypedStatements.{TypedStatement}
 use Rattle.pw_tree.specs.TypedStatements as tree
-use Rattle.pw_tree.specs.Held.{held, held_option, held_by, held_by_all, held_by_maybe}
-use Rattle.pw_tree.specs.Placed.{span_of, token_after, token_after_option, local_name_at, index_end, statement_span, token_after_statement, token_after_maybe, set_end, IsPlaced, IsOptionPlaced, IsSetPlaced, IsStatementPlaced, AreStatementsPlaced, IsMaybePlaced}
+use Rattle.pw_tree.specs.Held.{held_option, held_by, held_by_all, held_by_maybe}
+use Rattle.pw_tree.specs.Placed.{token_after_option, statement_span, token_after_statement, token_after_maybe, set_end, IsOptionPlaced, IsSetPlaced, IsStatementPlaced, AreStatementsPlaced, IsMaybePlaced}
 use Rattle.pw_tree.specs.Proper.{IsSimpleStatement, IsSimpleOrDeclaration, IsFirstPart, IsLastPart, IsProper, AreProper, IsMaybeProper, HasNumbers, HasOptionNumbers, HasStatementNumbers, HaveStatementNumbers, HasMaybeNumbers}
-use Rattle.pw_tree.specs.WellTypedExpressions.{HasSmallNumbers, Throughout, expressions_in}
+use Rattle.pw_tree.specs.WellTypedExpressions.{HasSmallNumbers, Throughout}
 use Rattle.pw_tree.specs.WellTypedStatements.{IfPresent, Everywhere, EverywhereIn, EverywhereIf, LeavesLoops, AllLeaveLoops, MaybeLeavesLoops, HasSimpleParts, StatementHasSmallNumbers, expressions_in_option, phrases_in, phrases_in_all, phrases_in_maybe}
 use Rattle.pw_tree.specs.WellTypedStatements as typed
 use Rattle.pw_types.specs.declared.role.Role.{Role}
 use Rattle.pw_types.specs.declared.role.Role.TheVariants.{Value, Assigned}
 use Rattle.pw_types.specs.Scopes.{Scope}
 use Rattle.pw_types.specs.Blocks.{Setting, part, body, head, Block, inner, after, after_maybe}
-use Rattle.pw_types.specs.TypedStatements.{typed_expression, bracket_line, typed_set, typed_statement, typed_statements, optional_typed_statement}
+use Rattle.pw_types.specs.TypedStatements.{typed_expression, typed_statement, typed_statements, optional_typed_statement}
 use Rattle.pw_types.proofs.StandingExpressions.{placed_within}
 use Rattle.pw_types.proofs.StandingStatements.{name_after, statement_within}
 use Rattle.pw_types.proofs.Fitting.{numbers_small, expression_counted}
-use Rattle.pw_types.proofs.SoundStatements.{IsTypedAs, IsWhole, IsOptionWhole, SoundSet, set_to_local, set_to_variable, set_to_element, ReturnsWell, Returns, DeclaresWell, IsSound, AreSound, IsMaybeSound}
+use Rattle.pw_types.proofs.SoundStatements.{IsOptionWhole, SoundSet, set_to_local, set_to_variable, set_to_element, Returns, IsSound, AreSound, IsMaybeSound}
 
 -- ---- loops
 
@@ -50,11 +50,13 @@ mutual
   leaves_loops x b (breaks at) h = h
   leaves_loops x b (continues at) h = h
 
-  pub all_leave_loops : (x : Setting) (b : Block) (ss : Statements) → AreSound x b ss → AllLeaveLoops x.in_loop (typed_statements x b ss)
+  pub all_leave_loops : (x : Setting) (b : Block) (ss : Statements) → AreSound x b ss →
+      AllLeaveLoops x.in_loop (typed_statements x b ss)
   all_leave_loops x b nil h = tt
   all_leave_loops x b (cons s ss) h = (leaves_loops x b s h.0, all_leave_loops x (after s b) ss h.1)
 
-  maybe_leaves_loops : (x : Setting) (b : Block) (s : OptionalStatement) → IsMaybeSound x b s → MaybeLeavesLoops x.in_loop (optional_typed_statement x b s)
+  maybe_leaves_loops : (x : Setting) (b : Block) (s : OptionalStatement) → IsMaybeSound x b s →
+      MaybeLeavesLoops x.in_loop (optional_typed_statement x b s)
   maybe_leaves_loops x b absent h = tt
   maybe_leaves_loops x b (present s) h = leaves_loops x b s h
 
@@ -79,7 +81,8 @@ set_parts (set_to_local name l e is typed_as few) = tt
 set_parts (set_to_variable name f ty e is kind typed_as few) = tt
 set_parts (set_to_element name f ty size i e is kind index numeric value few) = tt
 
-simple_last : (x : Setting) (b : Block) (s : Statement) → IsSimpleStatement s → IsSound x b s → typed.IsSimpleTypedLast (typed_statement x b s)
+simple_last : (x : Setting) (b : Block) (s : Statement) → IsSimpleStatement s → IsSound x b s →
+    typed.IsSimpleTypedLast (typed_statement x b s)
 unfolding IsSound typed_statement
 simple_last x b (set at name i e) p h = set_simple h
 simple_last x b (evaluate at e) p h = tt
@@ -94,7 +97,8 @@ simple_last x b (returns at e) p h = absurd p
 simple_last x b (breaks at) p h = absurd p
 simple_last x b (continues at) p h = absurd p
 
-simple_first : (x : Setting) (b : Block) (s : Statement) → IsSimpleOrDeclaration s → IsSound x b s → typed.IsSimpleTyped (typed_statement x b s)
+simple_first : (x : Setting) (b : Block) (s : Statement) → IsSimpleOrDeclaration s → IsSound x b s →
+    typed.IsSimpleTyped (typed_statement x b s)
 unfolding IsSound typed_statement
 simple_first x b (local at ty name e) p h = tt
 simple_first x b (set at name i e) p h = set_simple_first h
@@ -109,18 +113,21 @@ simple_first x b (returns at e) p h = absurd p
 simple_first x b (breaks at) p h = absurd p
 simple_first x b (continues at) p h = absurd p
 
-first_part : (x : Setting) (b : Block) (s : OptionalStatement) → IsFirstPart s → IsMaybeSound x b s → typed.IsTypedFirstPart (optional_typed_statement x b s)
+first_part : (x : Setting) (b : Block) (s : OptionalStatement) → IsFirstPart s → IsMaybeSound x b s →
+    typed.IsTypedFirstPart (optional_typed_statement x b s)
 unfolding IsSound typed_statement
 first_part x b absent p h = tt
 first_part x b (present s) p h = simple_first x b s p h
 
-last_part : (x : Setting) (b : Block) (s : OptionalStatement) → IsLastPart s → IsMaybeSound x b s → typed.IsTypedLastPart (optional_typed_statement x b s)
+last_part : (x : Setting) (b : Block) (s : OptionalStatement) → IsLastPart s → IsMaybeSound x b s →
+    typed.IsTypedLastPart (optional_typed_statement x b s)
 unfolding IsSound typed_statement
 last_part x b absent p h = tt
 last_part x b (present s) p h = simple_last x b s p h
 
 -- a simple statement has no `for` in it
-last_parts : (x : Setting) (b : Block) (s : Statement) → IsSimpleStatement s → IsSound x b s → Everywhere HasSimpleParts (typed_statement x b s)
+last_parts : (x : Setting) (b : Block) (s : Statement) → IsSimpleStatement s → IsSound x b s →
+    Everywhere HasSimpleParts (typed_statement x b s)
 unfolding IsSound typed_statement Everywhere
 last_parts x b (set at name i e) p h = set_parts h
 last_parts x b (evaluate at e) p h = tt
@@ -144,7 +151,8 @@ maybe_last_parts x b (present s) p h = last_parts x b s p h
 mutual
   unfolding IsSound typed_statement Everywhere IsProper
 
-  simple_parts : (x : Setting) (b : Block) (s : Statement) → IsProper s → IsSound x b s → Everywhere HasSimpleParts (typed_statement x b s)
+  simple_parts : (x : Setting) (b : Block) (s : Statement) → IsProper s → IsSound x b s →
+      Everywhere HasSimpleParts (typed_statement x b s)
   simple_parts x b (empty at) p h = (tt, tt)
   simple_parts x b (block at ss) p h = (tt, all_simple_parts (part x) (inner b) ss p h)
   simple_parts x b (local at ty name e) p h = tt
@@ -163,7 +171,8 @@ mutual
   simple_parts x b (breaks at) p h = tt
   simple_parts x b (continues at) p h = tt
 
-  pub all_simple_parts : (x : Setting) (b : Block) (ss : Statements) → AreProper ss → AreSound x b ss → EverywhereIn HasSimpleParts (typed_statements x b ss)
+  pub all_simple_parts : (x : Setting) (b : Block) (ss : Statements) → AreProper ss → AreSound x b ss →
+      EverywhereIn HasSimpleParts (typed_statements x b ss)
   all_simple_parts x b nil p h = tt
   all_simple_parts x b (cons s ss) p h = (simple_parts x b s p.0 h.0, all_simple_parts x (after s b) ss p.1 h.1)
 
@@ -229,23 +238,27 @@ mutual
   small_numbers x b (breaks at) l n h = record { line = tt; expressions = tt }
   small_numbers x b (continues at) l n h = record { line = tt; expressions = tt }
 
-  pub all_small_numbers : (x : Setting) (b : Block) (ss : Statements) → AreSmallLines x.lines → HaveStatementNumbers ss → AreSound x b ss →
+  pub all_small_numbers : (x : Setting) (b : Block) (ss : Statements) → AreSmallLines x.lines → HaveStatementNumbers ss →
+      AreSound x b ss →
       EverywhereIn StatementHasSmallNumbers (typed_statements x b ss)
   all_small_numbers x b nil l n h = tt
   all_small_numbers x b (cons s ss) l n h = (small_numbers x b s l n.0 h.0, all_small_numbers x (after s b) ss l n.1 h.1)
 
-  maybe_small_numbers : (x : Setting) (b : Block) (s : OptionalStatement) → AreSmallLines x.lines → HasMaybeNumbers s → IsMaybeSound x b s →
+  maybe_small_numbers : (x : Setting) (b : Block) (s : OptionalStatement) → AreSmallLines x.lines → HasMaybeNumbers s →
+      IsMaybeSound x b s →
       EverywhereIf StatementHasSmallNumbers (optional_typed_statement x b s)
   maybe_small_numbers x b absent l n h = tt
   maybe_small_numbers x b (present s) l n h = small_numbers x b s l n h
 
 -- ---- values held
 
-option_few : (scope : Scope) (role : Role) (e : Option Expression) → IsOptionWhole scope role e → held_option (option_map (typed_expression scope) e) ≤ 100
+option_few : (scope : Scope) (role : Role) (e : Option Expression) → IsOptionWhole scope role e →
+    held_option (option_map (typed_expression scope) e) ≤ 100
 option_few scope role None h = omega arith
 option_few scope role (Some e) h = h.few
 
-return_few : (result : Ty) (scope : Scope) (e : Option Expression) → Returns result scope e → held_option (option_map (typed_expression scope) e) ≤ 100
+return_few : (result : Ty) (scope : Scope) (e : Option Expression) → Returns result scope e →
+    held_option (option_map (typed_expression scope) e) ≤ 100
 return_few result scope None h = omega arith
 return_few result scope (Some e) h = h.whole.few
 
@@ -285,7 +298,8 @@ mutual
   all_few_held x b nil h = omega arith
   all_few_held x b (cons s ss) h = omega (arith, few_held x b s h.0, all_few_held x (after s b) ss h.1)
 
-  maybe_few_held : (x : Setting) (b : Block) (s : OptionalStatement) → IsMaybeSound x b s → held_by_maybe (optional_typed_statement x b s) ≤ 100
+  maybe_few_held : (x : Setting) (b : Block) (s : OptionalStatement) → IsMaybeSound x b s →
+      held_by_maybe (optional_typed_statement x b s) ≤ 100
   maybe_few_held x b absent h = omega arith
   maybe_few_held x b (present s) h = few_held x b s h
 
@@ -296,19 +310,22 @@ abbrev extra : Bool → ℕ
 extra true = 1
 extra false = 0
 
-option_counted : (scope : Scope) (role : Role) (e : Option Expression) (low high : ℕ) → IsOptionWhole scope role e → IsOptionPlaced low high e →
+option_counted : (scope : Scope) (role : Role) (e : Option Expression) (low high : ℕ) → IsOptionWhole scope role e →
+    IsOptionPlaced low high e →
     expressions_in_option (option_map (typed_expression scope) e) + low ≤ token_after_option low e
 option_counted scope role None low high h p = omega arith
 option_counted scope role (Some e) low high h p =
     let w = placed_within e p in omega (arith, expression_counted low high h.typed_as.sound p, w.from)
 
-return_counted : (result : Ty) (scope : Scope) (e : Option Expression) (low high : ℕ) → Returns result scope e → IsOptionPlaced low high e →
+return_counted : (result : Ty) (scope : Scope) (e : Option Expression) (low high : ℕ) → Returns result scope e →
+    IsOptionPlaced low high e →
     expressions_in_option (option_map (typed_expression scope) e) + low ≤ token_after_option low e
 return_counted result scope None low high h p = omega arith
 return_counted result scope (Some e) low high h p =
     let w = placed_within e p in omega (arith, expression_counted low high h.whole.typed_as.sound p, w.from)
 
-option_within : (e : Option Expression) (low high : ℕ) → low ≤ suc high → IsOptionPlaced low high e → token_after_option low e ≤ suc high
+option_within : (e : Option Expression) (low high : ℕ) → low ≤ suc high → IsOptionPlaced low high e →
+    token_after_option low e ≤ suc high
 option_within None low high l p = l
 option_within (Some e) low high l p = let w = placed_within e p in omega (arith, w.to)
 
@@ -316,12 +333,14 @@ option_from : (e : Option Expression) (low high : ℕ) → IsOptionPlaced low hi
 option_from None low high p = omega arith
 option_from (Some e) low high p = let w = placed_within e p in omega (arith, w.from, w.some)
 
-maybe_within : (in_head : Bool) (s : OptionalStatement) (low high : ℕ) → low ≤ suc high → IsMaybePlaced in_head low high s → token_after_maybe low s ≤ suc high
+maybe_within : (in_head : Bool) (s : OptionalStatement) (low high : ℕ) → low ≤ suc high → IsMaybePlaced in_head low high s →
+    token_after_maybe low s ≤ suc high
 unfolding IsStatementPlaced
 maybe_within in_head absent low high l p = l
 maybe_within in_head (present s) low high l p = let w = statement_within in_head s p in omega (arith, w.to)
 
-maybe_from : (in_head : Bool) (s : OptionalStatement) (low high : ℕ) → IsMaybePlaced in_head low high s → low ≤ token_after_maybe low s
+maybe_from : (in_head : Bool) (s : OptionalStatement) (low high : ℕ) → IsMaybePlaced in_head low high s →
+    low ≤ token_after_maybe low s
 unfolding IsStatementPlaced
 maybe_from in_head absent low high p = omega arith
 maybe_from in_head (present s) low high p = let w = statement_within in_head s p in omega (arith, w.from, w.some)
@@ -351,7 +370,8 @@ set_counted {x = x} {at = at} p (set_to_element name f ty size i e is kind index
 mutual
   unfolding IsSound typed_statement phrases_in IsStatementPlaced
 
-  counted : (x : Setting) (b : Block) (s : Statement) (low high : ℕ) → 1 ≤ low → IsStatementPlaced x.in_head low high s → IsSound x b s →
+  counted : (x : Setting) (b : Block) (s : Statement) (low high : ℕ) → 1 ≤ low → IsStatementPlaced x.in_head low high s →
+      IsSound x b s →
       phrases_in (typed_statement x b s) + (statement_span s).first ≤ token_after_statement s + extra x.in_head
   counted x b (empty at) low high l p h = omega (arith, p.some)
   counted x b (block at ss) low high l p h =
@@ -417,7 +437,8 @@ mutual
       (counted x b s low high l (subst (λ k. IsStatementPlaced k low high s) (sym e) p.0) h.0) in
       omega (arith, n, all_counted x (after s b) ss _ _ (omega arith) (omega (arith, w.to)) e p.1 h.1, w.from)
 
-  maybe_counted : (x : Setting) (b : Block) (s : OptionalStatement) (low high : ℕ) → 1 ≤ low → IsMaybePlaced x.in_head low high s → IsMaybeSound x b s →
+  maybe_counted : (x : Setting) (b : Block) (s : OptionalStatement) (low high : ℕ) → 1 ≤ low →
+      IsMaybePlaced x.in_head low high s → IsMaybeSound x b s →
       phrases_in_maybe (optional_typed_statement x b s) + low ≤ token_after_maybe low s + extra x.in_head
   maybe_counted x b absent low high l p h = omega arith
   maybe_counted x b (present s) low high l p h =

@@ -22,7 +22,7 @@ use Rattle.pw_types.specs.declared.names.File.{File}
 use Rattle.pw_types.specs.declared.names.Local.{Local}
 use Rattle.pw_types.specs.Faults.{broken, broken_by}
 use Rattle.pw_types.specs.Reserved.{is_reserved}
-use Rattle.pw_types.specs.Scopes.{Scope, Meaning, missing, a_local, declared, meaning, variable_reference}
+use Rattle.pw_types.specs.Scopes.{Scope, Meaning, missing, a_local, declared, name_meaning, variable_reference}
 use Rattle.pw_types.specs.Typed.{typed, Array, array_named, array_of_meaning, array_of_kind, function_named, function_of_meaning, function_of_kind}
 use Rattle.pw_types.specs.Expressions.{is_base, is_missing, has_type, end_of}
 use Rattle.pw_types.specs.Steps.ExpressionFaults.{faults}
@@ -64,13 +64,15 @@ not_not : (b : Bool) → not b ≡ false → b ≡ true
 not_not true h = refl
 not_not false h = cc
 
-not_base : (scope : Scope) (role : Role) (e : Expression) → is_base role ≡ false → faults scope role e ≡ [] → SoundOf scope role e
+not_base : (scope : Scope) (role : Role) (e : Expression) → is_base role ≡ false → faults scope role e ≡ [] →
+    SoundOf scope role e
 not_base scope role e other none = sound_of scope role e none (λ h. let c : true ≡ false = sym h ∙ other in cc)
 
 few_held : (n : ℕ) → nat_lt 100 n ≡ false → n ≤ 100
 few_held n h = grind (arith, nat_tests)
 
-is_whole : (scope : Scope) (role : Role) (e : Expression) → is_base role ≡ false → faults_of_whole scope role e ≡ [] → IsWhole scope role e
+is_whole : (scope : Scope) (role : Role) (e : Expression) → is_base role ≡ false → faults_of_whole scope role e ≡ [] →
+    IsWhole scope role e
 is_whole scope role e other none =
     let s = not_base scope role e other (left_empty _ _ none) in
     let few : holds_too_many (typed scope e) ≡ false = not_broken _ (end_of e) (holds_too_many (typed scope e)) (right_empty _ _ none) in
@@ -79,7 +81,8 @@ is_whole scope role e other none =
       few = subst (λ t. held t ≤ 100) (tree_is scope role e s) (few_held _ (sym (ap holds_too_many s.typed_is) ∙ few));
     }
 
-is_option_whole : (scope : Scope) (role : Role) (e : Option Expression) → is_base role ≡ false → faults_of_option scope role e ≡ [] → IsOptionWhole scope role e
+is_option_whole : (scope : Scope) (role : Role) (e : Option Expression) → is_base role ≡ false →
+    faults_of_option scope role e ≡ [] → IsOptionWhole scope role e
 is_option_whole scope role None other none = tt
 is_option_whole scope role (Some e) other none = is_whole scope role e other none
 
@@ -87,12 +90,14 @@ is_option_whole scope role (Some e) other none = is_whole scope role e other non
 
 -- An assignment without faults, and its typed statement.
 pub data SoundSet (x : Setting) (scope : Scope) (at : Span) : List ℕ → Option Expression → Expression → TypedStatement → Type 0 where
-  set_to_local : (name : List ℕ) (l : Local) (e : Expression) → meaning scope name ≡ a_local l → IsTypedAs scope (Assigned (Some l.ty)) e →
+  set_to_local : (name : List ℕ) (l : Local) (e : Expression) → name_meaning scope name ≡ a_local l →
+      IsTypedAs scope (Assigned (Some l.ty)) e →
       held (typed_expression scope e) ≤ 100 → SoundSet x scope at name None e (tree.set_local l.number (Some (typed_expression scope e)))
-  set_to_variable : (name : List ℕ) (f : File) (ty : Ty) (e : Expression) → meaning scope name ≡ declared f → f.kind ≡ Variable ty None →
+  set_to_variable : (name : List ℕ) (f : File) (ty : Ty) (e : Expression) → name_meaning scope name ≡ declared f →
+      f.kind ≡ Variable ty None →
       IsTypedAs scope (Assigned (Some ty)) e → held (typed_expression scope e) ≤ 100 →
       SoundSet x scope at name None e (tree.set_variable (variable_reference scope f) (typed_expression scope e))
-  set_to_element : (name : List ℕ) (f : File) (ty : Ty) (size : ℕ) (i e : Expression) → meaning scope name ≡ declared f →
+  set_to_element : (name : List ℕ) (f : File) (ty : Ty) (size : ℕ) (i e : Expression) → name_meaning scope name ≡ declared f →
       f.kind ≡ Variable ty (Some size) → IsTypedAs scope Value i → IsNumeric (typed_expression scope i) → IsTypedAs scope (Assigned (Some ty)) e →
       held_element (typed_expression scope i) (typed_expression scope e) ≤ 100 →
       SoundSet x scope at name (Some i) e
@@ -104,7 +109,7 @@ module _ (x : Setting) (scope : Scope) (at : Span) (name : List ℕ) where
     target_faults : faults_of_target scope name at.first ≡ []
     target_faults = left_empty _ _ none
 
-    value_faults : faults scope (Assigned (type_of_target (meaning scope name))) e ≡ []
+    value_faults : faults scope (Assigned (type_of_target (name_meaning scope name))) e ≡ []
     value_faults = left_empty _ _ (right_empty _ _ none)
 
     deep_faults : set_holds_too_many scope name e ≡ false
@@ -120,32 +125,33 @@ module _ (x : Setting) (scope : Scope) (at : Span) (name : List ℕ) where
     no_function = not_broken _ at.first (is_function_target scope name) (right_empty _ _ (right_empty _ _ target_faults))
 
     -- where the target has this type
-    value_sound : (ty : Ty) → type_of_target (meaning scope name) ≡ Some ty → SoundOf scope (Assigned (Some ty)) e
+    value_sound : (ty : Ty) → type_of_target (name_meaning scope name) ≡ Some ty → SoundOf scope (Assigned (Some ty)) e
     value_sound ty is =
         not_base scope (Assigned (Some ty)) e refl (subst (λ w. faults scope (Assigned w) e ≡ []) is value_faults)
 
-    value_few : (ty : Ty) (s : SoundOf scope (Assigned (Some ty)) e) → type_of_target (meaning scope name) ≡ Some ty →
+    value_few : (ty : Ty) (s : SoundOf scope (Assigned (Some ty)) e) → type_of_target (name_meaning scope name) ≡ Some ty →
         held (typed_expression scope e) ≤ 100
     value_few ty s is =
         let few : holds_too_many (typed scope e) ≡ false =
         sym (ap (λ t. is_some t && holds_too_many (typed scope e)) is) ∙ deep_faults in
         subst (λ t. held t ≤ 100) (tree_is scope (Assigned (Some ty)) e s) (few_held _ (sym (ap holds_too_many s.typed_is) ∙ few))
 
-    file_set : (f : File) (k : Kind) → meaning scope name ≡ declared f → f.kind ≡ k → SoundSet x scope at name None e (typed_set x scope at name None e)
+    file_set : (f : File) (k : Kind) → name_meaning scope name ≡ declared f → f.kind ≡ k →
+        SoundSet x scope at name None e (typed_set x scope at name None e)
     file_set f (Function sig) is kind =
         let c : true ≡ false = sym (ap is_some (ap (function_of_meaning scope) is ∙ ap (function_of_kind scope f) kind)) ∙ no_function in cc
     file_set f (Variable ty None) is kind =
-        let type : type_of_target (meaning scope name) ≡ Some ty = ap type_of_target is ∙ ap type_of_kind kind in
+        let type : type_of_target (name_meaning scope name) ≡ Some ty = ap type_of_target is ∙ ap type_of_kind kind in
         let s = value_sound ty type in
         subst (λ m. SoundSet x scope at name None e (assigned scope m (typed_expression scope e))) (sym is)
         (set_to_variable name f ty e is kind (as_typed scope (Assigned (Some ty)) e s) (value_few ty s type))
     file_set f (Variable ty (Some size)) is kind =
         let c : true ≡ false = sym (ap is_some (ap (array_of_meaning scope) is ∙ ap (array_of_kind scope f) kind)) ∙ no_array in cc
 
-    name_set : (m : Meaning) → meaning scope name ≡ m → SoundSet x scope at name None e (typed_set x scope at name None e)
+    name_set : (m : Meaning) → name_meaning scope name ≡ m → SoundSet x scope at name None e (typed_set x scope at name None e)
     name_set missing is = let c : true ≡ false = sym (ap is_missing is) ∙ known_target in cc
     name_set (a_local l) is =
-        let type : type_of_target (meaning scope name) ≡ Some l.ty = ap type_of_target is in
+        let type : type_of_target (name_meaning scope name) ≡ Some l.ty = ap type_of_target is in
         let s = value_sound l.ty type in
         subst (λ m. SoundSet x scope at name None e (assigned scope m (typed_expression scope e))) (sym is)
         (set_to_local name l e is (as_typed scope (Assigned (Some l.ty)) e s) (value_few l.ty s type))
@@ -165,7 +171,7 @@ module _ (x : Setting) (scope : Scope) (at : Span) (name : List ℕ) where
     an_array : is_no_array_target scope name ≡ false
     an_array = not_broken _ at.first (is_no_array_target scope name) (right_empty _ _ (left_empty (faults_of_array scope name at.first) _ none))
 
-    array_set : (f : File) (ty : Ty) (size : ℕ) → meaning scope name ≡ declared f → f.kind ≡ Variable ty (Some size) →
+    array_set : (f : File) (ty : Ty) (size : ℕ) → name_meaning scope name ≡ declared f → f.kind ≡ Variable ty (Some size) →
         array_named scope name ≡ Some (record { reference = variable_reference scope f; ty = ty; size = size }) →
         SoundSet x scope at name (Some i) e (typed_set x scope at name (Some i) e)
     array_set f ty size means kind is =
@@ -193,22 +199,24 @@ module _ (x : Setting) (scope : Scope) (at : Span) (name : List ℕ) where
     no_array_here : {A : Type 0} → array_named scope name ≡ None → A
     no_array_here is = let c : true ≡ false = sym (ap is_none is) ∙ an_array in cc
 
-    element_in : (f : File) (k : Kind) → meaning scope name ≡ declared f → f.kind ≡ k →
+    element_in : (f : File) (k : Kind) → name_meaning scope name ≡ declared f → f.kind ≡ k →
         SoundSet x scope at name (Some i) e (typed_set x scope at name (Some i) e)
     element_in f (Function sig) is kind = no_array_here (ap (array_of_meaning scope) is ∙ ap (array_of_kind scope f) kind)
     element_in f (Variable ty None) is kind = no_array_here (ap (array_of_meaning scope) is ∙ ap (array_of_kind scope f) kind)
     element_in f (Variable ty (Some size)) is kind =
         array_set f ty size is kind (ap (array_of_meaning scope) is ∙ ap (array_of_kind scope f) kind)
 
-    element_set : (m : Meaning) → meaning scope name ≡ m → SoundSet x scope at name (Some i) e (typed_set x scope at name (Some i) e)
+    element_set : (m : Meaning) → name_meaning scope name ≡ m →
+        SoundSet x scope at name (Some i) e (typed_set x scope at name (Some i) e)
     element_set missing is = no_array_here (ap (array_of_meaning scope) is)
     element_set (a_local l) is = no_array_here (ap (array_of_meaning scope) is)
     element_set (declared f) is = element_in f f.kind is refl
 
-sound_set : (x : Setting) (scope : Scope) (at : Span) (name : List ℕ) (i : Option Expression) (e : Expression) → faults_of_set x scope at name i e ≡ [] →
+sound_set : (x : Setting) (scope : Scope) (at : Span) (name : List ℕ) (i : Option Expression) (e : Expression) →
+    faults_of_set x scope at name i e ≡ [] →
     SoundSet x scope at name i e (typed_set x scope at name i e)
-sound_set x scope at name None e none = name_set x scope at name e none (meaning scope name) refl
-sound_set x scope at name (Some i) e none = element_set x scope at name i e none (meaning scope name) refl
+sound_set x scope at name None e none = name_set x scope at name e none (name_meaning scope name) refl
+sound_set x scope at name (Some i) e none = element_set x scope at name i e none (name_meaning scope name) refl
 
 -- ---- all statements
 

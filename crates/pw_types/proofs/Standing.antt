@@ -80,7 +80,8 @@ pub record Orderly (depth low high : ℕ) (ms : List Nested) : Type 0 where
 abbrev pub at_depth : ℕ → Fault → Nested
 at_depth depth f = record { depth = depth; fault = f }
 
-before_own : {at low high : ℕ} {fs : List Fault} (depth : ℕ) (f : Fault) → f.at ≡ at → rank f.rule ≤ low → Rises at low high fs →
+before_own : {at low high : ℕ} {fs : List Fault} (depth : ℕ) (f : Fault) → f.at ≡ at → rank f.rule ≤ low →
+    Rises at low high fs →
     Each (Precedes (at_depth depth f)) (map (at_depth depth) fs)
 before_own depth f e h (ends k) = nil
 before_own depth f e h (goes {f = g} {fs = gs} same k r) =
@@ -97,7 +98,8 @@ record Own (depth at : ℕ) (m : Nested) : Type 0 where
   pub shallow : m.depth ≡ depth
   pub here : m.fault.at ≡ at
 
-each_own : {at low high : ℕ} {fs : List Fault} (depth : ℕ) → Rises at low high fs → Each (Own depth at) (map (at_depth depth) fs)
+each_own : {at low high : ℕ} {fs : List Fault} (depth : ℕ) → Rises at low high fs →
+    Each (Own depth at) (map (at_depth depth) fs)
 each_own depth (ends k) = nil
 each_own depth (goes e k r) = cons (record { shallow = refl; here = e }) (each_own depth r)
 
@@ -123,7 +125,8 @@ mutual
             (each_also (λ m o. record { deep = omega (arith, o.shallow); from = omega (arith, o.here); to = omega (arith, o.here) }) (each_own depth own));
       }
 
-  pub walk_all_orderly : {low high : ℕ} {ns : Nests} (depth : ℕ) → AllStand low high ns → Orderly depth low high (walk_all depth ns)
+  pub walk_all_orderly : {low high : ℕ} {ns : Nests} (depth : ℕ) → AllStand low high ns →
+      Orderly depth low high (walk_all depth ns)
   walk_all_orderly depth no_more = record { sorted = nil; among = nil }
   walk_all_orderly depth (one_more middle n to ns) =
       let first = walk_orderly depth n in

@@ -82,7 +82,8 @@ placed_within (index at b i) p = p.0
 placed_within (input at) p = p
 placed_within (output at e) p = p.0
 
-stand_unless : {low middle high : ℕ} {n : Nest} {ns : Nests} (g : Option Designated) → Stands low middle n → low ≤ middle → middle ≤ high →
+stand_unless : {low middle high : ℕ} {n : Nest} {ns : Nests} (g : Option Designated) → Stands low middle n → low ≤ middle →
+    middle ≤ high →
     AllStand (suc middle) high ns → AllStand low high (unless_named g n ns)
 stand_unless {middle = middle} None n h k ns = one_more middle n k ns
 stand_unless {low = low} (Some g) n h k ns = all_from low (omega arith) ns
@@ -103,7 +104,8 @@ before scope role e lower low high l p ns others =
 mutual
   unfolding parts IsPlaced
 
-  parts_stand : (scope : Scope) (e : Expression) (low high : ℕ) → IsPlaced low high e → AllStand (span_of e).first (end_of e) (parts scope e)
+  parts_stand : (scope : Scope) (e : Expression) (low high : ℕ) → IsPlaced low high e →
+      AllStand (span_of e).first (end_of e) (parts scope e)
   parts_stand scope (constant at v unsigned) low high p = no_more
   parts_stand scope (word at name) low high p = no_more
   parts_stand scope (unary at op e) low high p = before scope Value e _ _ _ (omega arith) p.1 (parts_stand scope e _ _ p.1) no_more
@@ -128,16 +130,19 @@ mutual
       before scope (Argument (first_parameter params)) e _ _ _ (omega arith) p.0 (parts_stand scope e _ _ p.0)
       (arguments_stand scope (other_parameters params) es _ _ p.1)
 
-pub expression_stands : (scope : Scope) (role : Role) (e : Expression) (low high : ℕ) → IsPlaced low high e → Stands low (end_of e) (expression scope role e)
+pub expression_stands : (scope : Scope) (role : Role) (e : Expression) (low high : ℕ) → IsPlaced low high e →
+    Stands low (end_of e) (expression scope role e)
 expression_stands scope role e low high p = from_parts scope role e low high p (parts_stand scope e low high p)
 
-pub whole_stands : (scope : Scope) (role : Role) (e : Expression) (low high : ℕ) → IsPlaced low high e → Stands low (end_of e) (whole scope role e)
+pub whole_stands : (scope : Scope) (role : Role) (e : Expression) (low high : ℕ) → IsPlaced low high e →
+    Stands low (end_of e) (whole scope role e)
 whole_stands scope role e low high p =
     let e_in = placed_within e p in
     stands (end_of e) (omega arith) (omega arith) (all_from low e_in.from (parts_stand scope e low high p))
     (rises_append (rises_own scope role e) (rises_broken 11 rules.TooDeep (end_of e) (holds_too_many (typed scope e)) (omega arith)))
 
-pub option_stands : (scope : Scope) (role : Role) (e : Option Expression) (low high : ℕ) (ns : Nests) → IsOptionPlaced low high e →
+pub option_stands : (scope : Scope) (role : Role) (e : Option Expression) (low high : ℕ) (ns : Nests) →
+    IsOptionPlaced low high e →
     AllStand (token_after_option low e) high ns → AllStand low high (option scope role e ns)
 option_stands scope role None low high ns p others = others
 option_stands scope role (Some e) low high ns p others =

@@ -11,7 +11,7 @@ use Rattle.pw_types.specs.declared.role.Role.{Role}
 use Rattle.pw_types.specs.declared.role.Role.TheVariants as roles
 use Rattle.pw_types.specs.declared.fault.Fault.{Fault}
 use Rattle.pw_types.specs.Faults.{broken}
-use Rattle.pw_types.specs.Scopes.{Scope, meaning}
+use Rattle.pw_types.specs.Scopes.{Scope, name_meaning}
 use Rattle.pw_types.specs.Typed.{array_named}
 use Rattle.pw_types.specs.Expressions.{end_of}
 use Rattle.pw_types.specs.Steps.ExpressionFaults.{faults}
@@ -30,7 +30,7 @@ set_faults : (x : Setting) (scope : Scope) (at : Span) (name : List ℕ) (i : Op
     flat (assignment x scope at name i e) ≡ faults_of_set x scope at name i e
 unfolding flat
 set_faults x scope at name None e =
-    both refl (both (expression_faults scope (roles.Assigned (type_of_target (meaning scope name))) e) refl)
+    both refl (both (expression_faults scope (roles.Assigned (type_of_target (name_meaning scope name))) e) refl)
 set_faults x scope at name (Some i) e =
     let target = faults_of_array scope name at.first in
     let index = faults scope roles.Value i in
@@ -110,7 +110,7 @@ set_stands x scope at name None e low h p =
     stands (set_end x.in_head at) (omega arith) end
     (one_more at.first (leaf_stands low h (rises_target scope name at.first)) (omega arith)
     (all_from (suc at.first) (omega arith)
-    (one_more (end_of e) (expression_stands scope (roles.Assigned (type_of_target (meaning scope name))) e _ _ p) e_in.to no_more)))
+    (one_more (end_of e) (expression_stands scope (roles.Assigned (type_of_target (name_meaning scope name))) e _ _ p) e_in.to no_more)))
     (rises_broken 0 rules.TooDeep (set_end x.in_head at) (set_holds_too_many scope name e) (omega arith))
 set_stands x scope at name (Some i) e low h p =
     let i_in = placed_within i p.0 in
@@ -208,7 +208,8 @@ mutual
       (statement_stands x b s low high (subst (λ in_head. IsStatementPlaced in_head low high s) (sym e) p.0)) s_in.to
       (statements_stand x (after s b) ss _ _ e p.1)
 
-  maybe_stands : (x : Setting) (b : Block) (s : OptionalStatement) (low high : ℕ) (ns : Nests) → IsMaybePlaced x.in_head low high s →
+  maybe_stands : (x : Setting) (b : Block) (s : OptionalStatement) (low high : ℕ) (ns : Nests) →
+      IsMaybePlaced x.in_head low high s →
       AllStand (token_after_maybe low s) high ns → AllStand low high (maybe x b s ns)
   maybe_stands x b absent low high ns p others = others
   maybe_stands x b (present s) low high ns p others =

@@ -13,10 +13,11 @@ use Rattle.pw_types.specs.declared.fault.Fault.{Fault}
 use Rattle.pw_types.specs.Faults.{broken, broken_by}
 use Rattle.pw_types.specs.Reserved.{is_reserved}
 use Rattle.pw_types.specs.Scopes.{Scope, file_named}
-use Rattle.pw_types.specs.Declarations.{faults_of_parameter_name, local_of, parameters_in, is_definition_of_function, conflicts, elements_of, is_too_large, room, outermost, setting, declared_by, is_redefined, Whole, file_scope}
+use Rattle.pw_tree.specs.WellTypedUnits.{room}
+use Rattle.pw_types.specs.Declarations.{faults_of_parameter_name, local_of, parameters_in, is_definition_of_function, conflicts, elements_of, is_too_large, outermost, setting, declared_by, is_redefined, Whole, file_scope}
 use Rattle.pw_types.specs.Steps.UnitFaults.{faults_of_parameters, faults_of_elements, faults_of_form, faults_of_declaration, faults_of_declarations, faults_in_order}
 use Rattle.pw_types.specs.Units.{whole_of, files_after, lacks_definition, faults_of_lacking}
-use Rattle.pw_types.specs.Nests.{parameters, elements, form, declarator, declaration, declarations, unit}
+use Rattle.pw_types.specs.Nests.{nested_parameters, elements, form, declarator, declaration, declarations, unit}
 use Rattle.pw_types.proofs.OwnFaults.{rises_append, rises_broken, rises_broken_by, rises_parameter, rises_element, rises_lacking}
 use Rattle.pw_types.proofs.Standing.{Stands, stands, AllStand, no_more, one_more}
 use Rattle.pw_types.proofs.Gathering.{flat, gather, both}
@@ -25,8 +26,8 @@ use Rattle.pw_types.proofs.StandingStatements.{leaf_stands, outer_stands, statem
 -- ---- parameters
 
 parameters_faults : (is_definition : Bool) (before : List Local) (ps : List Param) (own : List Fault) →
-    gather (parameters is_definition before ps) own ≡ faults_of_parameters is_definition before ps ++ own
-unfolding flat parameters faults_of_parameters
+    gather (nested_parameters is_definition before ps) own ≡ faults_of_parameters is_definition before ps ++ own
+unfolding flat nested_parameters faults_of_parameters
 parameters_faults is_definition before [] own = refl
 parameters_faults is_definition before (p ∷ ps) own =
     let name = faults_of_parameter_name is_definition (length before) before p.last p.name in
@@ -36,9 +37,10 @@ parameters_faults is_definition before (p ∷ ps) own =
     ∙ append_assoc name many (others ++ own)
     ∙ both refl (sym (append_assoc many others own)) ∙ sym (append_assoc name (many ++ others) own)
 
-parameters_stand : (is_definition : Bool) (before : List Local) (ps : List Param) (low high : ℕ) → AreParametersPlaced low high ps →
-    AllStand low high (parameters is_definition before ps)
-unfolding parameters AreParametersPlaced
+parameters_stand : (is_definition : Bool) (before : List Local) (ps : List Param) (low high : ℕ) →
+    AreParametersPlaced low high ps →
+    AllStand low high (nested_parameters is_definition before ps)
+unfolding nested_parameters AreParametersPlaced
 parameters_stand is_definition before [] low high p = no_more
 parameters_stand is_definition before (q ∷ qs) low high p =
     one_more q.last
@@ -61,7 +63,8 @@ unfolding flat elements faults_of_elements
 elements_faults scope ty size number [] = refl
 elements_faults scope ty size number (item ∷ items) = both refl (elements_faults scope ty size (suc number) items)
 
-elements_stand : (scope : Scope) (ty : Ty) (size number : ℕ) (items : List InitItem) (low high : ℕ) → AreElementsPlaced low high items →
+elements_stand : (scope : Scope) (ty : Ty) (size number : ℕ) (items : List InitItem) (low high : ℕ) →
+    AreElementsPlaced low high items →
     AllStand low high (elements scope ty size number items)
 unfolding elements AreElementsPlaced
 elements_stand scope ty size number [] low high p = no_more
@@ -69,7 +72,8 @@ elements_stand scope ty size number (item ∷ items) low high p =
     one_more item.last (leaf_stands low (omega (arith, p.0, p.1)) (rises_element scope ty size number item)) p.2
     (elements_stand scope ty size (suc number) items _ _ p.3)
 
-form_faults : (lines : List ℕ) (scope : Scope) (f : DeclarationForm) → gather (form lines scope f) [] ≡ faults_of_form lines scope f
+form_faults : (lines : List ℕ) (scope : Scope) (f : DeclarationForm) →
+    gather (form lines scope f) [] ≡ faults_of_form lines scope f
 unfolding flat
 form_faults lines scope (prototype result params) = refl
 form_faults lines scope (definition result params body) = statements_faults (setting lines result) (outermost scope params) body
@@ -118,7 +122,8 @@ declarator_stands files before d low high p =
     (rises_broken_by 0 rules.Conflict d.declarator d.name (conflicts d (file_named d.name files)) (omega arith))
     (rises_broken 3 rules.ArraySize d.declarator (is_too_large before d) (omega arith)))
 
-declaration_stands : (w : Whole) (files : List File) (before : ℕ) (d : Declaration) (low high : ℕ) → IsDeclarationPlaced low high d →
+declaration_stands : (w : Whole) (files : List File) (before : ℕ) (d : Declaration) (low high : ℕ) →
+    IsDeclarationPlaced low high d →
     Stands low d.last (declaration w files before d)
 declaration_stands w files before d low high p =
     outer_stands low d.last _ (omega (arith, p.from, p.name, p.declarator, p.end))
@@ -133,7 +138,8 @@ declarations_faults w files before (d ∷ ds) own =
     both (declaration_faults w files before d) (declarations_faults w (declared_by d files) (before + elements_of d) ds own)
     ∙ sym (append_assoc (faults_of_declaration w files before d) (faults_of_declarations w (declared_by d files) (before + elements_of d) ds) own)
 
-declarations_stand : (w : Whole) (files : List File) (before : ℕ) (ds : List Declaration) (low high : ℕ) → AreDeclarationsPlaced low high ds →
+declarations_stand : (w : Whole) (files : List File) (before : ℕ) (ds : List Declaration) (low high : ℕ) →
+    AreDeclarationsPlaced low high ds →
     AllStand low (high - 1) (declarations w files before ds)
 unfolding declarations AreDeclarationsPlaced
 declarations_stand w files before [] low high p = no_more

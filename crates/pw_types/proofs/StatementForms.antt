@@ -20,7 +20,8 @@ use Rattle.pw_types.specs.Steps.Refusals.{Fails}
 abbrev pub place_at : Stmt → Span
 place_at s = record { first = (out-Stmt s).first; last = (out-Stmt s).last; line = (out-Stmt s).line }
 
-of_kind : (s : Stmt) (k : StmtKind) (f : Span → Statement) → (out-Stmt s).kind ≡ k → statement_form_of k ≡ f → statement_of s ≡ f (place_at s)
+of_kind : (s : Stmt) (k : StmtKind) (f : Span → Statement) → (out-Stmt s).kind ≡ k → statement_form_of k ≡ f →
+    statement_of s ≡ f (place_at s)
 of_kind s k f is form =
     statement_of-out s
     ∙ (ap (λ (l : StmtKind). statement_form_of l (place_at s)) is ∙ ap (λ (g : Span → Statement). g (place_at s)) form)
@@ -28,7 +29,8 @@ of_kind s k f is form =
 pub is_empty : (s : Stmt) → (out-Stmt s).kind ≡ kinds.Empty → statement_of s ≡ empty (place_at s)
 is_empty s is = of_kind s _ _ is statement_form_of-Empty
 
-pub is_block : (s : Stmt) (body given : List Stmt) → (out-Stmt s).kind ≡ kinds.Block body → given ≡ body → statement_of s ≡ block (place_at s) (statements_of given)
+pub is_block : (s : Stmt) (body given : List Stmt) → (out-Stmt s).kind ≡ kinds.Block body → given ≡ body →
+    statement_of s ≡ block (place_at s) (statements_of given)
 is_block s body given is given_is =
     of_kind s _ _ is (statement_form_of-Block body) ∙ ap (λ (ss : List Stmt). block (place_at s) (statements_of ss)) (sym given_is)
 
@@ -40,7 +42,8 @@ pub is_set : (s : Stmt) (name : List ℕ) (i : Option Expr) (e : Expr) → (out-
     → statement_of s ≡ set (place_at s) name (option_map expression_of i) (expression_of e)
 is_set s name i e is = of_kind s _ _ is (statement_form_of-Set name i e)
 
-pub is_evaluate : (s : Stmt) (e : Expr) → (out-Stmt s).kind ≡ kinds.Eval e → statement_of s ≡ evaluate (place_at s) (expression_of e)
+pub is_evaluate : (s : Stmt) (e : Expr) → (out-Stmt s).kind ≡ kinds.Eval e →
+    statement_of s ≡ evaluate (place_at s) (expression_of e)
 is_evaluate s e is = of_kind s _ _ is (statement_form_of-Eval e)
 
 pub is_if : (s : Stmt) (c : Expr) (a given : Stmt) (b : Option Stmt) → (out-Stmt s).kind ≡ kinds.If c a b → given ≡ a
@@ -59,14 +62,16 @@ pub is_do : (s : Stmt) (body given : Stmt) (c : Expr) → (out-Stmt s).kind ≡ 
 is_do s body given c is given_is =
     of_kind s _ _ is (statement_form_of-Do body c) ∙ ap (λ (u : Stmt). do_loop (place_at s) (statement_of u) (expression_of c)) (sym given_is)
 
-pub is_for : (s : Stmt) (first : Option Stmt) (c : Option Expr) (last : Option Stmt) (body given : Stmt) → (out-Stmt s).kind ≡ kinds.For first c last body
+pub is_for : (s : Stmt) (first : Option Stmt) (c : Option Expr) (last : Option Stmt) (body given : Stmt) →
+    (out-Stmt s).kind ≡ kinds.For first c last body
     → given ≡ body
     → statement_of s ≡ for_loop (place_at s) (optional_statement (option_map statement_of first)) (option_map expression_of c) (optional_statement (option_map statement_of last)) (statement_of given)
 is_for s first c last body given is given_is =
     of_kind s _ _ is (statement_form_of-For first c last body)
     ∙ ap (λ (u : Stmt). for_loop (place_at s) (optional_statement (option_map statement_of first)) (option_map expression_of c) (optional_statement (option_map statement_of last)) (statement_of u)) (sym given_is)
 
-pub is_return : (s : Stmt) (e : Option Expr) → (out-Stmt s).kind ≡ kinds.Return e → statement_of s ≡ returns (place_at s) (option_map expression_of e)
+pub is_return : (s : Stmt) (e : Option Expr) → (out-Stmt s).kind ≡ kinds.Return e →
+    statement_of s ≡ returns (place_at s) (option_map expression_of e)
 is_return s e is = of_kind s _ _ is (statement_form_of-Return e)
 
 pub is_break : (s : Stmt) → (out-Stmt s).kind ≡ kinds.Break → statement_of s ≡ breaks (place_at s)
@@ -77,12 +82,14 @@ is_continue s is = of_kind s _ _ is statement_form_of-Continue
 
 -- ---- what is said of a form is said of the statement
 
-pub finished_steps : (w : WalkResult) (new : Walk) (r : Result TStmt Refusal) (r' : Result StatementStep Refusal) → IsWhole r r' → Finishes w new r → Steps w new r'
+pub finished_steps : (w : WalkResult) (new : Walk) (r : Result TStmt Refusal) (r' : Result StatementStep Refusal) →
+    IsWhole r r' → Finishes w new r → Steps w new r'
 finished_steps w new (Ok t) (Ok step) whole holds = subst (λ (s : StatementStep). Leads w new s) (sym whole) holds
 finished_steps w new (Ok t) (Err stop) whole holds = subst (λ (s : Refusal). Fails w.faults s) (sym whole) tt
 finished_steps w new (Err stop) r' whole holds = subst (λ (u : Result StatementStep Refusal). Steps w new u) (sym whole) holds
 
-pub nothing_left : (n : ℕ) (r : Result TStmt Refusal) (r' : Result StatementStep Refusal) → IsWhole r r' → 0 < n → IfOk r' (λ step. weight_of_step step < n)
+pub nothing_left : (n : ℕ) (r : Result TStmt Refusal) (r' : Result StatementStep Refusal) → IsWhole r r' → 0 < n →
+    IfOk r' (λ step. weight_of_step step < n)
 nothing_left n (Ok t) (Ok step) whole some = subst (λ (s : StatementStep). weight_of_step s < n) (sym whole) some
 nothing_left n (Ok t) (Err stop) whole some = tt
 nothing_left n (Err stop) r' whole some = subst (λ (u : Result StatementStep Refusal). IfOk u (λ step. weight_of_step step < n)) (sym whole) tt
@@ -95,12 +102,15 @@ module _ (x : Given) (old new : Walk) (s y : Statement) (is : s ≡ y) where
   steps_as r holds = subst (λ (z : Statement). Steps (outcome_at x old z) new r) (sym is) holds
 
   -- a statement without parts
-  pub whole_as : (r : Result TStmt Refusal) (r' : Result StatementStep Refusal) → IsWhole r r' → Finishes (outcome_at x old y) new r → Steps (outcome_at x old s) new r'
+  pub whole_as : (r : Result TStmt Refusal) (r' : Result StatementStep Refusal) → IsWhole r r' →
+      Finishes (outcome_at x old y) new r → Steps (outcome_at x old s) new r'
   whole_as r r' whole holds = steps_as r' (finished_steps _ new r r' whole holds)
 
-pub less_as : (s y : Statement) (r : Result StatementStep Refusal) → s ≡ y → IfOk r (λ step. weight_of_step step < weight y) → IfOk r (λ step. weight_of_step step < weight s)
+pub less_as : (s y : Statement) (r : Result StatementStep Refusal) → s ≡ y → IfOk r (λ step. weight_of_step step < weight y) →
+    IfOk r (λ step. weight_of_step step < weight s)
 less_as s y r is holds = subst (λ (z : Statement). IfOk r (λ step. weight_of_step step < weight z)) (sym is) holds
 
-pub whole_less : (s y : Statement) (r : Result TStmt Refusal) (r' : Result StatementStep Refusal) → s ≡ y → IsWhole r r' → 0 < weight y
+pub whole_less : (s y : Statement) (r : Result TStmt Refusal) (r' : Result StatementStep Refusal) → s ≡ y → IsWhole r r' →
+    0 < weight y
     → IfOk r' (λ step. weight_of_step step < weight s)
 whole_less s y r r' is whole some = less_as s y r' is (nothing_left (weight y) r r' whole some)

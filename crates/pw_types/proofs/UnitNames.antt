@@ -43,7 +43,8 @@ without_known names name (other ∷ others) there =
 
 -- ---- leaving out one name more
 
-has_more : (names : List (List ℕ)) (name other : List ℕ) → has (names ++ name ∷ []) other ≡ (has names other || (bytes_eq name other || false))
+has_more : (names : List (List ℕ)) (name other : List ℕ) →
+    has (names ++ name ∷ []) other ≡ (has names other || (bytes_eq name other || false))
 has_more names name other = list_any-append (λ o. bytes_eq o other) names (name ∷ [])
 
 or_false : (b : Bool) → (b || (false || false)) ≡ b

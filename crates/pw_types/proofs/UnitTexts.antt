@@ -29,7 +29,8 @@ unfolding HaveValueTypes AreValueTypes
 value_types [] have = tt
 value_types (p ∷ ps) have = (have.0, value_types ps have.1)
 
-array_size : (ty : Ty) (size : Option ℕ) (init : Option (List InitItem)) → has_bad_size (variable ty size init) ≡ false → IsArraySize size
+array_size : (ty : Ty) (size : Option ℕ) (init : Option (List InitItem)) → has_bad_size (variable ty size init) ≡ false →
+    IsArraySize size
 array_size ty None init good = tt
 array_size ty (Some size) init good = (grind (arith, nat_tests), grind (arith, nat_tests))
 
@@ -69,7 +70,8 @@ declaration_text w files elements d have none =
 
 -- ---- all names
 
-marked_texts : (name : List ℕ) (is_definition : Bool) (files : List File) → HaveTexts files → HaveTexts (map (marked name is_definition) files)
+marked_texts : (name : List ℕ) (is_definition : Bool) (files : List File) → HaveTexts files →
+    HaveTexts (map (marked name is_definition) files)
 unfolding HaveTexts
 marked_texts name is_definition [] have = tt
 marked_texts name is_definition (f ∷ fs) have = (

@@ -1,23 +1,20 @@
 -- The typed unit of a unit without faults is well typed.
-use Rattle.std.proofs.Common.{◌≡◌, ℕ, zero, suc, ◌+◌, ◌-◌, ◌≤◌, Bool, true, false, ◌||◌, if◌then◌else◌, List, [], ◌∷◌, ◌++◌, length, map, find, Option, Some, None, refl, sym, ap, subst, ◌∙◌, arith, bytes_eq, eq-eqb, inl, inr}
+use Rattle.std.proofs.Common.{◌≡◌, ℕ, ◌+◌, ◌-◌, ◌≤◌, Bool, true, false, ◌||◌, if◌then◌else◌, List, [], ◌∷◌, ◌++◌, length, find, Option, None, refl, sym, ap, subst, ◌∙◌, arith, bytes_eq, eq-eqb, inl, inr}
 use Rattle.std.specs.Prelude.{⊤, nat_eq}
 use Rattle.std.specs.List.{list_any, AllByRecursion, IsDistinct}
 use Rattle.std.proofs.lemmas.Bool.{cases_Bool}
 use Rattle.pw_tree.specs.declared.ty.Ty.{Ty}
-use Rattle.pw_tree.specs.declared.tunit.TVar.{TVar}
-use Rattle.pw_tree.specs.declared.decl.Param.{Param}
 use Rattle.pw_tree.specs.declared.decl.InitItem.{InitItem}
 use Rattle.pw_tree.specs.Declarations.{Declaration, DeclarationForm, prototype, definition, variable, UntypedUnit}
-use Rattle.pw_tree.specs.Placed.{IsFormPlaced, AreDeclarationsPlaced, IsDeclarationPlaced, HasTypes, HaveTypes}
+use Rattle.pw_tree.specs.Placed.{IsFormPlaced, AreDeclarationsPlaced, IsDeclarationPlaced, HaveTypes}
 use Rattle.pw_tree.specs.Proper.{IsProperDeclaration, IsFormProper, IsShort, HasFormNumbers, IsRead}
 use Rattle.pw_tree.specs.Units.{Function as TypedFunction, TypedUnit}
 use Rattle.pw_tree.specs.WellTypedUnits.{IsWellTypedFunction, IsWellTypedVariable, IsWellTyped}
-use Rattle.pw_types.specs.declared.names.Kind.{Kind}
 use Rattle.pw_types.specs.declared.names.File.{File}
 use Rattle.pw_types.specs.Declarations.{is_extern, kind_of, parameters_in, is_definition_of_function, elements_of, Whole, file_scope, declared_by}
 use Rattle.pw_types.specs.Steps.UnitFaults.{faults_of_parameters, faults_of_form, faults_of_declaration, faults_of_declarations, faults_in_order}
-use Rattle.pw_types.specs.Steps.Uses.{uses_of_form, uses_of_declarations, names_by_number}
-use Rattle.pw_types.specs.Units.{whole_of, files_after, lacks_definition, faults_of_lacking, typed_variable, typed_functions_of, typed_variables_of, typed_functions, typed_variables}
+use Rattle.pw_types.specs.Steps.Uses.{uses_of_form, uses_of_declarations}
+use Rattle.pw_types.specs.Units.{whole_of, files_after, lacks_definition, typed_variable, typed_functions_of, typed_variables_of, typed_functions, typed_variables}
 use Rattle.pw_types.specs.Steps.Texts.{HasText, HaveTexts}
 use Rattle.pw_types.specs.Laws.{UnitsWithoutFaultsAreWellTyped}
 use Rattle.pw_types.proofs.Empty.{left_empty, right_empty}
@@ -30,13 +27,14 @@ use Rattle.pw_types.proofs.NotedUnits.{no_names, names_after, typed_unit_is}
 use Rattle.pw_types.specs.Steps.CheckingUnits.{unit_by_number}
 use Rattle.pw_types.proofs.NamedTexts.{names_apart, texts_are}
 use Rattle.pw_types.proofs.DefinedNames.{NoFaultOf, declares_well, function_entries, variable_entries, StandsIn, AreDefined, all_defined, none_defined}
-use Rattle.pw_types.proofs.FittingUnits.{fit_before, entry_of_function, entry_of_variable, function_entries_are, variable_entries_are, fit_at_end, functions_named, variables_named, function_names, variable_names, none_lacks}
+use Rattle.pw_types.proofs.FittingUnits.{fit_before, function_entries_are, variable_entries_are, fit_at_end, functions_named, variables_named, function_names, variable_names, none_lacks}
 use Rattle.pw_types.proofs.FittingFunctions.{function_well_typed}
 use Rattle.pw_types.proofs.FittingVariables.{variable_well_typed, few_elements}
 
 -- ---- lists
 
-both_all : {A : Type 0} (P : A → Type 0) (xs ys : List A) → AllByRecursion P xs → AllByRecursion P ys → AllByRecursion P (xs ++ ys)
+both_all : {A : Type 0} (P : A → Type 0) (xs ys : List A) → AllByRecursion P xs → AllByRecursion P ys →
+    AllByRecursion P (xs ++ ys)
 both_all P [] ys h k = k
 both_all P (x ∷ xs) ys h k = (h.0, both_all P xs ys h.1 k)
 
@@ -58,7 +56,8 @@ among_themselves (x ∷ xs) =
 -- ---- each declaration
 
 module _ (unit : TypedUnit) (used : List ℕ) (w : Whole) (lines : AreSmallLines w.lines) where
-  functions_by : (files : List File) (elements : ℕ) (d : Declaration) (f : DeclarationForm) → d.form ≡ f → FilesFit unit used (file_scope w (declared_by d files)) →
+  functions_by : (files : List File) (elements : ℕ) (d : Declaration) (f : DeclarationForm) → d.form ≡ f →
+      FilesFit unit used (file_scope w (declared_by d files)) →
       NoFaultOf w files elements d → HasText (kind_of f) → IsProperDeclaration d → IsFormPlaced d f → d.declarator ≤ d.last →
       AreAmong used (uses_of_form (file_scope w (declared_by d files)) f) →
       AllByRecursion (IsWellTypedFunction unit) (typed_functions_of w (declared_by d files) d f)
@@ -78,7 +77,8 @@ module _ (unit : TypedUnit) (used : List ℕ) (w : Whole) (lines : AreSmallLines
   defined_variable files d ty size items true h = tt
   defined_variable files d ty size items false h = (h, tt)
 
-  variables_by : (files : List File) (elements : ℕ) (d : Declaration) (f : DeclarationForm) → d.form ≡ f → FilesFit unit used (file_scope w (declared_by d files)) →
+  variables_by : (files : List File) (elements : ℕ) (d : Declaration) (f : DeclarationForm) → d.form ≡ f →
+      FilesFit unit used (file_scope w (declared_by d files)) →
       NoFaultOf w files elements d → HasText (kind_of f) → IsProperDeclaration d → AreAmong used (uses_of_form (file_scope w (declared_by d files)) f) →
       AllByRecursion (IsWellTypedVariable unit) (typed_variables_of w (declared_by d files) d f)
   variables_by files elements d (variable ty size items) is fit good text proper u =
@@ -93,7 +93,8 @@ module _ (unit : TypedUnit) (used : List ℕ) (w : Whole) (lines : AreSmallLines
     pub functions : AllByRecursion (IsWellTypedFunction unit) (typed_functions w files ds)
     pub variables : AllByRecursion (IsWellTypedVariable unit) (typed_variables w files ds)
 
-  all_well_typed : (files : List File) (elements : ℕ) (ds : List Declaration) (low high : ℕ) → FilesFit unit used (file_scope w (files_after files ds)) →
+  all_well_typed : (files : List File) (elements : ℕ) (ds : List Declaration) (low high : ℕ) →
+      FilesFit unit used (file_scope w (files_after files ds)) →
       faults_of_declarations w files elements ds ≡ [] → HaveTypes ds → AreDeclarationsPlaced low high ds → AllByRecursion IsProperDeclaration ds →
       AreAmong used (uses_of_declarations w files ds) → AreWellTyped files ds
   unfolding files_after faults_of_declarations HaveTypes AreDeclarationsPlaced uses_of_declarations typed_functions typed_variables

@@ -6,9 +6,10 @@ use Rattle.pw_types.specs.declared.expression_word.NamedArray.{NamedArray}
 use Rattle.pw_types.specs.Scopes.{Scope}
 use Rattle.pw_types.specs.Typed.{array_named, array_of, function_named, function_of}
 use Rattle.pw_types.specs.Steps.Uses.{uses, uses_of_name}
-use Rattle.pw_types.specs.Steps.Words.{word_in, IsFunction, IsArray}
+use Rattle.pw_types.specs.Steps.Words.{word_in, IsNamedFunction, IsNamedArray}
 
-of_word : (P : Expression → Type 0) (p : Expression) (name : List ℕ) → word_in p ≡ Some name → ((at : Span) → P (word at name)) → P p
+of_word : (P : Expression → Type 0) (p : Expression) (name : List ℕ) → word_in p ≡ Some name →
+    ((at : Span) → P (word at name)) → P p
 of_word P (word at n) name h found = let e : name ≡ n = cc in subst (λ m. P (word at m)) e (found at)
 of_word P (constant at value unsigned) name h found = cc
 of_word P (unary at op e) name h found = cc
@@ -20,11 +21,11 @@ of_word P (input at) name h found = cc
 of_word P (output at e) name h found = cc
 
 pub function_by_word : (scope : Scope) (p : Expression) (name : List ℕ) (r : Option NamedFunction) → word_in p ≡ Some name
-    → IsFunction scope (function_named scope name) (uses_of_name scope name) r → IsFunction scope (function_of scope p) (uses scope p) r
+    → IsNamedFunction scope (function_named scope name) (uses_of_name scope name) r → IsNamedFunction scope (function_of scope p) (uses scope p) r
 unfolding uses
-function_by_word scope p name r is found = of_word (λ q. IsFunction scope (function_of scope q) (uses scope q) r) p name is (λ at. found)
+function_by_word scope p name r is found = of_word (λ q. IsNamedFunction scope (function_of scope q) (uses scope q) r) p name is (λ at. found)
 
 pub array_by_word : (scope : Scope) (p : Expression) (name : List ℕ) (r : Option NamedArray) → word_in p ≡ Some name
-    → IsArray scope (array_named scope name) (uses_of_name scope name) r → IsArray scope (array_of scope p) (uses scope p) r
+    → IsNamedArray scope (array_named scope name) (uses_of_name scope name) r → IsNamedArray scope (array_of scope p) (uses scope p) r
 unfolding uses
-array_by_word scope p name r is found = of_word (λ q. IsArray scope (array_of scope q) (uses scope q) r) p name is (λ at. found)
+array_by_word scope p name r is found = of_word (λ q. IsNamedArray scope (array_of scope q) (uses scope q) r) p name is (λ at. found)

@@ -19,7 +19,7 @@ use Rattle.pw_types.specs.Reserved.{is_reserved}
 use Rattle.pw_types.specs.declared.names.Kind.{Kind}
 use Rattle.pw_types.specs.declared.names.File.{File}
 use Rattle.pw_types.specs.declared.names.Local.{Local}
-use Rattle.pw_types.specs.Scopes.{Scope, local_named, with_file, meaning}
+use Rattle.pw_types.specs.Scopes.{Scope, local_named, with_file, name_meaning}
 use Rattle.pw_types.specs.declared.names.Kind.TheVariants as kinds
 use Rattle.pw_types.specs.Typed.{function_named, Designated}
 use Rattle.pw_types.specs.Expressions.{is_missing}
@@ -170,7 +170,7 @@ does_not_initialise scope ty (Word name) = not (points_to ty (function_named sco
 -- an element is a name that nothing visible declares
 abbrev pub is_unknown_name : Scope → InitKind → Bool
 is_unknown_name scope (Num n) = false
-is_unknown_name scope (Word name) = is_missing (meaning scope name)
+is_unknown_name scope (Word name) = is_missing (name_meaning scope name)
 
 -- the name that an element is, where it is one
 abbrev pub name_in : InitKind → List ℕ
@@ -186,11 +186,6 @@ abbrev pub faults_of_element : Scope → Ty → ℕ → ℕ → InitItem → Lis
 faults_of_element scope ty size number item =
     broken_by rules.Unknown item.last (name_in item.kind) (is_unknown_name scope item.kind)
     ++ broken rules.Initialiser item.last (is_wrong_element scope ty size number item.kind)
-
--- a variable that is no array has one element
-abbrev pub room : Option ℕ → ℕ
-room None = 1
-room (Some size) = size
 
 -- ---- after the declarator
 

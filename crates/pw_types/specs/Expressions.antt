@@ -11,7 +11,7 @@ use Rattle.pw_types.specs.declared.role.Role.TheVariants.{Statement, Value, Call
 use Rattle.pw_types.specs.declared.fault.Fault.{Fault}
 use Rattle.pw_types.specs.Faults.{broken, broken_by}
 use Rattle.pw_tree.specs.Types.{is_number, is_void, is_pointer, converts, unary_type, binary_type, choice_type}
-use Rattle.pw_types.specs.Scopes.{Scope, Meaning, missing, a_local, declared, meaning}
+use Rattle.pw_types.specs.Scopes.{Scope, Meaning, missing, a_local, declared, name_meaning}
 use Rattle.pw_types.specs.Typed.{array_of, function_of, callee_of, parameters_of, typed, typed_all, Callee as Called}
 use Rattle.pw_tree.specs.TypedExpressions.{type_of}
 
@@ -100,7 +100,7 @@ how_many (cons e es) = suc (how_many es)
 
 -- Unknown: a name has no visible declaration
 abbrev pub is_unknown : Scope → Expression → Bool
-is_unknown scope e = is_word e && is_missing (meaning scope (word_of e))
+is_unknown scope e = is_word e && is_missing (name_meaning scope (word_of e))
 
 -- NotValue: void where a value is needed; a function of no pointer type as a value
 abbrev pub is_no_value : Scope → Role → Expression → Bool

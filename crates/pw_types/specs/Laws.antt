@@ -1,5 +1,5 @@
 -- Laws of the faults of a unit: in which order they stand, and where they are; and of the typed unit where there is none.
-use Rattle.std.specs.Prelude.{◌≡◌, ◌⊎◌, ℕ, ◌<◌, ◌≤◌, [], length, map, Some, All, AllPairs}
+use Rattle.std.specs.Prelude.{◌≡◌, ◌⊎◌, ℕ, ◌<◌, ◌≤◌, [], length, Some, All, AllPairs}
 use Rattle.pw_tree.specs.Declarations.{UntypedUnit}
 use Rattle.pw_tree.specs.Placed.{IsParsed}
 use Rattle.pw_tree.specs.Proper.{IsRead}

@@ -16,12 +16,13 @@ use Rattle.pw_types.specs.declared.names.Local.{Local}
 use Rattle.pw_types.specs.declared.fault.Fault.{Fault}
 use Rattle.pw_types.specs.Faults.{broken, broken_by}
 use Rattle.pw_types.specs.Reserved.{is_reserved}
-use Rattle.pw_types.specs.Scopes.{Scope, file_named, meaning}
+use Rattle.pw_types.specs.Scopes.{Scope, file_named, name_meaning}
 use Rattle.pw_types.specs.Typed.{Designated, typed, array_named, function_of, parameters_of}
 use Rattle.pw_types.specs.Expressions.{end_of, own, callee_in, first_parameter, other_parameters}
 use Rattle.pw_types.specs.Blocks.{Setting, part, body, head, Block, inner, after, after_maybe}
 use Rattle.pw_types.specs.Statements.{holds_too_many, has_other_index, set_holds_too_many, set_element_holds_too_many, is_outside_loop, faults_of_name, type_of_target, faults_of_target, faults_of_array, returns_other}
-use Rattle.pw_types.specs.Declarations.{Whole, is_parameter_too_many, file_scope, faults_of_parameter_name, local_of, parameters_in, is_definition_of_function, conflicts, is_redefined, is_too_large, elements_of, faults_of_element, room, outermost, setting, declared_by}
+use Rattle.pw_tree.specs.WellTypedUnits.{room}
+use Rattle.pw_types.specs.Declarations.{Whole, is_parameter_too_many, file_scope, faults_of_parameter_name, local_of, parameters_in, is_definition_of_function, conflicts, is_redefined, is_too_large, elements_of, faults_of_element, outermost, setting, declared_by}
 use Rattle.pw_types.specs.Units.{whole_of, files_after, lacks_definition, faults_of_lacking}
 
 -- A phrase: its parts in order of text, and the faults of its own.
@@ -90,7 +91,7 @@ leaf own = nest none own
 abbrev pub assignment : Setting → Scope → Span → List ℕ → Option Expression → Expression → Nest
 assignment x scope at name None e =
     nest (more (leaf (faults_of_target scope name at.first))
-    (more (expression scope (roles.Assigned (type_of_target (meaning scope name))) e) none))
+    (more (expression scope (roles.Assigned (type_of_target (name_meaning scope name))) e) none))
     (broken rules.TooDeep (set_end x.in_head at) (set_holds_too_many scope name e))
 assignment x scope at name (Some i) e =
     nest (more (nest (more (leaf (faults_of_array scope name at.first)) (more (expression scope roles.Value i) none))
@@ -134,12 +135,12 @@ unfoldable mutual
 -- ---- declarations
 
 -- the parameters of a function, after those that stand before them
-unfoldable pub parameters : Bool → List Local → List Param → Nests
-parameters is_definition before [] = none
-parameters is_definition before (p ∷ ps) =
+unfoldable pub nested_parameters : Bool → List Local → List Param → Nests
+nested_parameters is_definition before [] = none
+nested_parameters is_definition before (p ∷ ps) =
     more (leaf (faults_of_parameter_name is_definition (length before) before p.last p.name
     ++ broken rules.TooManyParameters p.last (is_parameter_too_many (length before))))
-    (parameters is_definition (before ++ local_of (length before) p ∷ []) ps)
+    (nested_parameters is_definition (before ++ local_of (length before) p ∷ []) ps)
 
 -- the elements of an initialiser, from this number on
 unfoldable pub elements : Scope → Ty → ℕ → ℕ → List InitItem → Nests
@@ -163,7 +164,7 @@ abbrev pub declarator : List File → ℕ → Declaration → Nest
 declarator files before d =
     nest (more (leaf (broken_by rules.Redeclared d.name_at d.name (is_redefined d (file_named d.name files))
     ++ broken_by rules.Reserved d.name_at d.name (is_reserved d.name)))
-    (parameters (is_definition_of_function d.form) [] (parameters_in d.form)))
+    (nested_parameters (is_definition_of_function d.form) [] (parameters_in d.form)))
     (broken_by rules.Conflict d.declarator d.name (conflicts d (file_named d.name files))
     ++ broken rules.ArraySize d.declarator (is_too_large before d))
 

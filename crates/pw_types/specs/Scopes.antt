@@ -55,8 +55,8 @@ local_or (Some l) other = a_local l
 local_or None other = other
 
 -- a local hides a name at file scope
-unfoldable pub meaning : Scope → List ℕ → Meaning
-meaning scope name = local_or (local_named name scope.locals) (declared_or_missing (file_named name scope.files))
+unfoldable pub name_meaning : Scope → List ℕ → Meaning
+name_meaning scope name = local_or (local_named name scope.locals) (declared_or_missing (file_named name scope.files))
 
 -- how many names stand before this one
 abbrev pub number_of : List ℕ → List (List ℕ) → ℕ

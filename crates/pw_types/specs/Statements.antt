@@ -12,7 +12,7 @@ use Rattle.pw_tree.specs.Types.{is_number, is_void, converts}
 use Rattle.pw_types.specs.Reserved.{is_reserved}
 use Rattle.pw_types.specs.declared.names.Kind.{Kind}
 use Rattle.pw_types.specs.declared.names.Kind.TheVariants.{Function, Variable}
-use Rattle.pw_types.specs.Scopes.{Scope, Meaning, missing, a_local, declared, meaning}
+use Rattle.pw_types.specs.Scopes.{Scope, Meaning, missing, a_local, declared, name_meaning}
 use Rattle.pw_types.specs.Typed.{array_named, function_named, typed}
 use Rattle.pw_tree.specs.Held.{held, held_element}
 use Rattle.pw_types.specs.Expressions.{has_type, is_missing}
@@ -57,7 +57,7 @@ type_of_target (declared f) = type_of_kind f.kind
 
 -- Unknown, of the name that is assigned to, or whose element is
 abbrev pub is_unknown_target : Scope → List ℕ → Bool
-is_unknown_target scope name = is_missing (meaning scope name)
+is_unknown_target scope name = is_missing (name_meaning scope name)
 
 -- NeedsIndex: an array's name is assigned to
 abbrev pub is_array_target : Scope → List ℕ → Bool
@@ -77,7 +77,7 @@ has_other_index scope name i = is_some (array_named scope name) && has_type (λ 
 
 -- TooDeep, of an assignment to a name
 abbrev pub set_holds_too_many : Scope → List ℕ → Expression → Bool
-set_holds_too_many scope name e = is_some (type_of_target (meaning scope name)) && holds_too_many (typed scope e)
+set_holds_too_many scope name e = is_some (type_of_target (name_meaning scope name)) && holds_too_many (typed scope e)
 
 -- TooDeep, of an assignment to an element
 abbrev pub set_element_holds_too_many : Scope → List ℕ → Expression → Expression → Bool

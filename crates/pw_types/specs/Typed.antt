@@ -7,13 +7,13 @@ use Rattle.pw_tree.specs.declared.ty.Sig.{Sig}
 use Rattle.pw_tree.specs.declared.operator.Un.{Un}
 use Rattle.pw_tree.specs.declared.operator.Bin.{Bin}
 use Rattle.pw_tree.specs.Expressions.{Span, Expression, Expressions, constant, word, unary, binary, conditional, call, index, input, output, nil, cons}
-use Rattle.pw_tree.specs.TypedExpressions.{Mark, TypedExpression, TypedExpressions, mark_of, type_of}
+use Rattle.pw_tree.specs.TypedExpressions.{Mark, TypedExpression, TypedExpressions, type_of}
 use Rattle.pw_tree.specs.TypedExpressions as tree
 use Rattle.pw_tree.specs.Types.{is_number, unary_type, binary_type, choice_type, pointer_to}
 use Rattle.pw_types.specs.declared.names.Kind.{Kind}
 use Rattle.pw_types.specs.declared.names.Kind.TheVariants.{Function, Variable}
 use Rattle.pw_types.specs.declared.names.File.{File}
-use Rattle.pw_types.specs.Scopes.{Scope, Meaning, missing, a_local, declared, meaning, function_reference, variable_reference}
+use Rattle.pw_types.specs.Scopes.{Scope, Meaning, missing, a_local, declared, name_meaning, function_reference, variable_reference}
 
 -- the mark of a phrase that has a type
 abbrev pub mark : Ty → Span → Mark
@@ -53,7 +53,7 @@ array_of_meaning scope (declared f) = array_of_kind scope f f.kind
 
 -- the array that a name designates in a scope
 abbrev pub array_named : Scope → List ℕ → Option Array
-array_named scope name = array_of_meaning scope (meaning scope name)
+array_named scope name = array_of_meaning scope (name_meaning scope name)
 
 -- A function that a name designates: how the unit names it, and its signature.
 pub record Designated : Type 0 where
@@ -73,7 +73,7 @@ function_of_meaning scope (declared f) = function_of_kind scope f f.kind
 
 -- the function that a name designates in a scope
 abbrev pub function_named : Scope → List ℕ → Option Designated
-function_named scope name = function_of_meaning scope (meaning scope name)
+function_named scope name = function_of_meaning scope (name_meaning scope name)
 
 -- ---- phrases that are names
 
@@ -179,7 +179,7 @@ unfoldable mutual
   -- the typed tree of an expression
   pub typed : Scope → Expression → Option TypedExpression
   typed scope (constant at value unsigned) = Some (tree.constant (mark (constant_type unsigned) at) value)
-  typed scope (word at name) = typed_name scope at (meaning scope name)
+  typed scope (word at name) = typed_name scope at (name_meaning scope name)
   typed scope (unary at op e) = option_and_then (typed_unary at op) (typed scope e)
   typed scope (binary at op l r) = with_both (typed_binary at op) (typed scope l) (typed scope r)
   typed scope (conditional at c a b) = with_three (typed_choice at) (typed scope c) (typed scope a) (typed scope b)

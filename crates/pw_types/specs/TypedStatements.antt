@@ -6,7 +6,7 @@ use Rattle.pw_tree.specs.TypedExpressions.{TypedExpression, constant}
 use Rattle.pw_tree.specs.Statements.{Statement, Statements, OptionalStatement, empty, block, local, set, evaluate, if_else, while_loop, do_loop, for_loop, returns, breaks, continues, nil, cons, absent, present}
 use Rattle.pw_tree.specs.TypedStatements.{TypedStatement, TypedStatements}
 use Rattle.pw_tree.specs.TypedStatements as tree
-use Rattle.pw_types.specs.Scopes.{Scope, Meaning, missing, a_local, declared, meaning, variable_reference}
+use Rattle.pw_types.specs.Scopes.{Scope, Meaning, missing, a_local, declared, name_meaning, variable_reference}
 use Rattle.pw_types.specs.Typed.{Array, array_named, typed}
 use Rattle.pw_types.specs.Blocks.{Setting, part, body, head, Block, inner, after, after_maybe}
 
@@ -35,7 +35,7 @@ bracket_line x at = slice_index_or x.lines (suc at.first) 0
 
 -- an assignment to a name or to an element
 abbrev pub typed_set : Setting → Scope → Span → List ℕ → Option Expression → Expression → TypedStatement
-typed_set x scope at name None e = assigned scope (meaning scope name) (typed_expression scope e)
+typed_set x scope at name None e = assigned scope (name_meaning scope name) (typed_expression scope e)
 typed_set x scope at name (Some i) e =
     element_assigned (array_named scope name) (bracket_line x at) (typed_expression scope i) (typed_expression scope e)
 

@@ -57,7 +57,7 @@ pub(crate) fn input(alloc: Global, head: Head) -> Result<Typed, Refusal>
 /// A unary operator and its operand (C17, 6.5.3.3).
 #[tactic(auto, using(crate::proofs::Trees::unary))]
 pub(crate) fn unary(alloc: Global, head: Head, op: Un, e: Typed) -> Result<Typed, Refusal>
-    ensures { Gives (spec.unary_value head op (valued e)) result }
+    ensures { Gives (spec.unary_operation_value head op (valued e)) result }
 {
     match unary_type(op, type_of(&e)) {
         None => Err(fault(head, Rule::Operands)),
@@ -110,7 +110,7 @@ pub(crate) fn binary(
     l: Typed,
     r: Typed,
 ) -> Result<Typed, Refusal>
-    ensures { Gives (spec.binary_value head op (valued l) (valued r)) result }
+    ensures { Gives (spec.binary_operation_value head op (valued l) (valued r)) result }
 {
     match binary_type(op, type_of(&l), type_of(&r)) {
         None => Err(fault(head, Rule::Operands)),

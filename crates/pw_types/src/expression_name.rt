@@ -1,7 +1,7 @@
 //! Names in expressions.
 ghost use Rattle.std.specs.Prelude.{◌≡◌, [], ◌∷◌, ◌++◌, OnOk};
 ghost use Rattle.pw_types.specs.declared.rule.Rule.TheVariants.{Unknown};
-ghost use Rattle.pw_types.specs.Scopes.{meaning};
+ghost use Rattle.pw_types.specs.Scopes.{name_meaning};
 ghost use Rattle.pw_tree.specs.Types as types;
 ghost use Rattle.pw_types.specs.Steps.Judging.{refuse};
 ghost use Rattle.pw_types.specs.Steps.CheckingExpressions as spec;
@@ -136,7 +136,7 @@ pub(crate) fn named_value(
     head: Head,
     name: &Name,
 ) -> Result<Typed, Refusal>
-    ensures { GivesWith (spec.named_value scope.now head name.now (meaning scope.now name.now)) used.old.items used.new.items result }
+    ensures { GivesWith (spec.named_value scope.now head name.now (name_meaning scope.now name.now)) used.old.items used.new.items result }
 {
     match scope.meaning(name.bytes()) {
         Meaning::Missing => unknown(alloc, head, name),

@@ -3,7 +3,7 @@ ghost use Rattle.std.specs.Prelude.{◌≡◌, option_copied};
 ghost use Rattle.pw_tree.specs.Expressions.{expression_of};
 ghost use Rattle.pw_types.specs.Typed as typed;
 ghost use Rattle.pw_types.specs.Steps.Uses.{uses, uses_of_name};
-ghost use Rattle.pw_types.specs.Steps.Words.{word_in, IsFunction, IsArray};
+ghost use Rattle.pw_types.specs.Steps.Words.{word_in, IsNamedFunction, IsNamedArray};
 
 use crate::meaning::Meaning;
 use crate::names::{File, Kind};
@@ -48,7 +48,7 @@ fn word(e: &Expr) -> Option<&Name>
 
 /// The function that a name designates, where it is one's.
 fn function_named<'a>(scope: &'a Scope<'_>, name: &Name) -> Option<NamedFunction<'a>>
-    ensures { IsFunction scope.now (typed.function_named scope.now name.now) (uses_of_name scope.now name.now) result }
+    ensures { IsNamedFunction scope.now (typed.function_named scope.now name.now) (uses_of_name scope.now name.now) result }
 {
     match scope.meaning(name.bytes()) {
         Meaning::Missing | Meaning::Local(_) => None,
@@ -61,7 +61,7 @@ fn function_named<'a>(scope: &'a Scope<'_>, name: &Name) -> Option<NamedFunction
 
 /// The function that an expression designates by its name, where it is one's.
 pub(crate) fn function<'a>(scope: &'a Scope<'_>, e: &Expr) -> Option<NamedFunction<'a>>
-    ensures { IsFunction scope.now (typed.function_of scope.now (expression_of e.now)) (uses scope.now (expression_of e.now)) result }
+    ensures { IsNamedFunction scope.now (typed.function_of scope.now (expression_of e.now)) (uses scope.now (expression_of e.now)) result }
 {
     match word(e) {
         None => None,
@@ -71,7 +71,7 @@ pub(crate) fn function<'a>(scope: &'a Scope<'_>, e: &Expr) -> Option<NamedFuncti
 
 /// The array that a name designates, where it is one's.
 fn array_named<'a>(scope: &'a Scope<'_>, name: &Name) -> Option<NamedArray<'a>>
-    ensures { IsArray scope.now (typed.array_named scope.now name.now) (uses_of_name scope.now name.now) result }
+    ensures { IsNamedArray scope.now (typed.array_named scope.now name.now) (uses_of_name scope.now name.now) result }
 {
     match scope.meaning(name.bytes()) {
         Meaning::Missing | Meaning::Local(_) => None,
@@ -89,7 +89,7 @@ fn array_named<'a>(scope: &'a Scope<'_>, name: &Name) -> Option<NamedArray<'a>>
 
 /// The array that an expression designates by its name, where it is one's.
 pub(crate) fn array<'a>(scope: &'a Scope<'_>, e: &Expr) -> Option<NamedArray<'a>>
-    ensures { IsArray scope.now (typed.array_of scope.now (expression_of e.now)) (uses scope.now (expression_of e.now)) result }
+    ensures { IsNamedArray scope.now (typed.array_of scope.now (expression_of e.now)) (uses scope.now (expression_of e.now)) result }
 {
     match word(e) {
         None => None,

@@ -2,7 +2,7 @@
 ghost use Rattle.std.specs.Prelude.{◌≡◌, IfOk, is_some, option_copied, find, reverse};
 ghost use Rattle.std.specs.Str.{bytes_eq};
 ghost use Rattle.pw_types.specs.Scopes.{local_named, function_reference, variable_reference};
-ghost use Rattle.pw_types.specs.Steps.Lookups.{Means};
+ghost use Rattle.pw_types.specs.Steps.Lookups.{FindsMeaning};
 
 use crate::declared_names::Names;
 use crate::file_scope::FileScope;
@@ -62,7 +62,7 @@ pub fn has_local(locals: &[Local], name: &[u8]) -> bool
 impl<'a> Scope<'a> {
     /// What a name means: the newest local of the name, which hides the others and a name at file scope.
     pub fn meaning(&self, name: &[u8]) -> Meaning<'_>
-        ensures { Means self.now name.now result }
+        ensures { FindsMeaning self.now name.now result }
     {
         match newest(&self.locals, name) {
             Some(local) => Meaning::Local(local),

@@ -5,7 +5,7 @@ ghost use Rattle.pw_tree.specs.Expressions.{expression_of};
 ghost use Rattle.pw_tree.specs.Placed as placed;
 ghost use Rattle.pw_tree.specs.Statements as statement;
 ghost use Rattle.pw_types.specs.Statements.{faults_of_name};
-ghost use Rattle.pw_types.specs.Steps.CheckingStatements.{Finishes, block_of, outcome_at, place_of};
+ghost use Rattle.pw_types.specs.Steps.CheckingStatements.{Finishes, block_of, outcome_at, span_of_statement};
 ghost use Rattle.pw_types.specs.Steps.StatementValues.{Declares};
 ghost use Rattle.pw_types.specs.Steps.Refusals.{Judges};
 
@@ -35,7 +35,7 @@ fn own_locals(locals: &[Local], start: usize) -> &[Local]
 
 /// The token of a local's name: its type has one token, or two.
 fn local_name_at(at: StatementSpan, ty: Ty) -> u64
-    ensures { result ≡ placed.local_name_at (place_of at) ty }
+    ensures { result ≡ placed.local_name_at (span_of_statement at) ty }
 {
     match ty {
         Ty::Ulong => u64::from(at.first) + 2,
@@ -86,7 +86,7 @@ impl<'a> Walk<'a> {
         name: &Name,
         value: &Option<Expr>,
     ) -> Result<TStmt, Refusal>
-        ensures { Finishes (outcome_at setting.now self.old (statement.local (place_of at) ty name.now (option_map expression_of value.now))) self.new result }
+        ensures { Finishes (outcome_at setting.now self.old (statement.local (span_of_statement at) ty name.now (option_map expression_of value.now))) self.new result }
     {
         self.declarable(name, local_name_at(at, ty))?;
         let value = self.maybe_value(Role::Assigned(Some(ty)), value)?;

@@ -4,7 +4,7 @@ ghost use Rattle.pw_tree.specs.Expressions.{expression_of};
 ghost use Rattle.pw_tree.specs.Placed as placed;
 ghost use Rattle.pw_tree.specs.Statements as statement;
 ghost use Rattle.pw_types.specs.Statements.{faults_of_target, faults_of_array};
-ghost use Rattle.pw_types.specs.Steps.CheckingStatements.{Finishes, outcome_at, place_of};
+ghost use Rattle.pw_types.specs.Steps.CheckingStatements.{Finishes, outcome_at, span_of_statement};
 ghost use Rattle.pw_types.specs.Steps.StatementTargets.{IsTarget, IsArray, JudgesIndex, JudgesElementValue};
 ghost use Rattle.pw_types.specs.Steps.Refusals.{Judges};
 
@@ -43,7 +43,7 @@ pub(crate) struct Array {
 
 /// The last token of an assignment: a part of a `for` has no `;` of its own.
 fn set_end(in_head: bool, at: StatementSpan) -> u64
-    ensures { result ≡ placed.set_end in_head (place_of at) }
+    ensures { result ≡ placed.set_end in_head (span_of_statement at) }
 {
     if in_head {
         u64::from(at.last)
@@ -55,7 +55,7 @@ fn set_end(in_head: bool, at: StatementSpan) -> u64
 /// The `]` after the index of an assignment: as many brackets stand round the index after it as before it.
 #[tactic(auto, using(crate::proofs::PhrasePlaces::place_is))]
 fn index_end(at: StatementSpan, i: &Expr) -> u64
-    ensures { result ≡ placed.index_end (place_of at) (expression_of i.now) }
+    ensures { result ≡ placed.index_end (span_of_statement at) (expression_of i.now) }
 {
     let before = u64::from(i.first).saturating_sub(u64::from(at.first) + 2);
     u64::from(i.last) + before + 1
@@ -114,7 +114,7 @@ impl<'a> Walk<'a> {
 
     /// An index: a number. Refusal: `Operands`, at the `]`.
     fn index(&mut self, at: StatementSpan, i: &Expr) -> Result<Typed, Refusal>
-        ensures { JudgesIndex (place_of at) (expression_of i.now) self.old self.new result }
+        ensures { JudgesIndex (span_of_statement at) (expression_of i.now) self.old self.new result }
     {
         let typed = judge(self.alloc, &self.scope, &mut self.used, Role::Value, i)?;
         if !is_number(typed.tree.get().ty) {
@@ -148,7 +148,7 @@ impl<'a> Walk<'a> {
         name: &Name,
         value: &Expr,
     ) -> Result<TStmt, Refusal>
-        ensures { Finishes (outcome_at setting.now self.old (statement.set (place_of at) name.now None (expression_of value.now))) self.new result }
+        ensures { Finishes (outcome_at setting.now self.old (statement.set (span_of_statement at) name.now None (expression_of value.now))) self.new result }
     {
         let end = set_end(setting.in_head, at);
         match self.target(name, at.first)? {
@@ -175,7 +175,7 @@ impl<'a> Walk<'a> {
         index: &Expr,
         value: &Expr,
     ) -> Result<TStmt, Refusal>
-        ensures { Finishes (outcome_at setting.now self.old (statement.set (place_of at) name.now (Some (expression_of index.now)) (expression_of value.now))) self.new result }
+        ensures { Finishes (outcome_at setting.now self.old (statement.set (span_of_statement at) name.now (Some (expression_of index.now)) (expression_of value.now))) self.new result }
     {
         let end = set_end(setting.in_head, at);
         let array = self.array(name, at.first)?;
@@ -197,7 +197,7 @@ impl<'a> Walk<'a> {
         index: &Option<Expr>,
         value: &Expr,
     ) -> Result<TStmt, Refusal>
-        ensures { Finishes (outcome_at setting.now self.old (statement.set (place_of at) name.now (option_map expression_of index.now) (expression_of value.now))) self.new result }
+        ensures { Finishes (outcome_at setting.now self.old (statement.set (span_of_statement at) name.now (option_map expression_of index.now) (expression_of value.now))) self.new result }
     {
         match index {
             None => self.set(setting, at, name, value),

@@ -4,7 +4,7 @@ ghost use Rattle.pw_tree.specs.Expressions.{expression_of};
 ghost use Rattle.pw_tree.specs.Statements as statement;
 ghost use Rattle.pw_tree.specs.TypedStatements.{typed_statement_of};
 ghost use Rattle.pw_types.specs.Faults.{broken};
-ghost use Rattle.pw_types.specs.Steps.CheckingStatements.{Finishes, outcome_at, judged_at, place_of};
+ghost use Rattle.pw_types.specs.Steps.CheckingStatements.{Finishes, outcome_at, judged_at, span_of_statement};
 ghost use Rattle.pw_types.specs.Steps.Refusals.{Judges};
 
 use crate::fault::Refusal;
@@ -20,7 +20,7 @@ use sqlite_items::Items;
 /// `;`
 #[tactic(auto, using(crate::proofs::SimpleStatements::empty_is), unfolding(crate::specs::Steps::StatementFaults::faults_by))]
 pub(crate) fn empty(walk: &Walk<'_>, setting: &Setting<'_>, at: StatementSpan) -> TStmt
-    ensures { outcome_at setting.now walk.now (statement.empty (place_of at)) ≡ judged_at (typed_statement_of result) walk.now }
+    ensures { outcome_at setting.now walk.now (statement.empty (span_of_statement at)) ≡ judged_at (typed_statement_of result) walk.now }
 {
     TStmt::Block(Items::new(walk.alloc))
 }
@@ -32,7 +32,7 @@ pub(crate) fn break_off(
     setting: &Setting<'_>,
     at: StatementSpan,
 ) -> Result<TStmt, Refusal>
-    ensures { Finishes (outcome_at setting.now walk.now (statement.breaks (place_of at))) walk.now result }
+    ensures { Finishes (outcome_at setting.now walk.now (statement.breaks (span_of_statement at))) walk.now result }
 {
     if !setting.in_loop {
         return Err(broken(Rule::OutsideLoop, u64::from(at.last)));
@@ -47,7 +47,7 @@ pub(crate) fn go_on(
     setting: &Setting<'_>,
     at: StatementSpan,
 ) -> Result<TStmt, Refusal>
-    ensures { Finishes (outcome_at setting.now walk.now (statement.continues (place_of at))) walk.now result }
+    ensures { Finishes (outcome_at setting.now walk.now (statement.continues (span_of_statement at))) walk.now result }
 {
     if !setting.in_loop {
         return Err(broken(Rule::OutsideLoop, u64::from(at.last)));
@@ -64,7 +64,7 @@ impl<'a> Walk<'a> {
         at: StatementSpan,
         e: &Expr,
     ) -> Result<TStmt, Refusal>
-        ensures { Finishes (outcome_at setting.now self.old (statement.evaluate (place_of at) (expression_of e.now))) self.new result }
+        ensures { Finishes (outcome_at setting.now self.old (statement.evaluate (span_of_statement at) (expression_of e.now))) self.new result }
     {
         let value = self.value(Role::Statement, e)?;
         Ok(TStmt::Eval(value.into_inner()))
@@ -73,7 +73,7 @@ impl<'a> Walk<'a> {
     /// `return ;`. Refusal: `ReturnType`.
     #[tactic(auto, using(crate::proofs::SimpleStatements::returns_none), unfolding(crate::specs::Steps::StatementFaults::faults_by))]
     fn return_none(&self, setting: &Setting<'_>, at: StatementSpan) -> Result<TStmt, Refusal>
-        ensures { Finishes (outcome_at setting.now self.now (statement.returns (place_of at) None)) self.now result }
+        ensures { Finishes (outcome_at setting.now self.now (statement.returns (span_of_statement at) None)) self.now result }
     {
         if !is_void(setting.result) {
             return Err(broken(Rule::ReturnType, u64::from(at.last)));
@@ -89,7 +89,7 @@ impl<'a> Walk<'a> {
         at: StatementSpan,
         e: &Expr,
     ) -> Result<TStmt, Refusal>
-        ensures { Finishes (outcome_at setting.now self.old (statement.returns (place_of at) (Some (expression_of e.now)))) self.new result }
+        ensures { Finishes (outcome_at setting.now self.old (statement.returns (span_of_statement at) (Some (expression_of e.now)))) self.new result }
     {
         let value = self.value(Role::Value, e)?;
         if is_void(setting.result) || !converts(value.get().ty, setting.result) {
@@ -105,7 +105,7 @@ impl<'a> Walk<'a> {
         at: StatementSpan,
         value: &Option<Expr>,
     ) -> Result<TStmt, Refusal>
-        ensures { Finishes (outcome_at setting.now self.old (statement.returns (place_of at) (option_map expression_of value.now))) self.new result }
+        ensures { Finishes (outcome_at setting.now self.old (statement.returns (span_of_statement at) (option_map expression_of value.now))) self.new result }
     {
         match value {
             None => self.return_none(setting, at),

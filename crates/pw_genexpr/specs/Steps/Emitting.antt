@@ -8,7 +8,7 @@ use Rattle.pw_tree.specs.declared.operator.Bin.TheVariants.{AndAnd, OrOr}
 use Rattle.pw_tree.specs.declared.ty.Ref.{Ref}
 use Rattle.pw_tree.specs.TypedExpressions.{TypedExpression, TypedExpressions, local}
 use Rattle.pw_tree.specs.Held.{held, held_arguments, holds_left, count}
-use Rattle.pw_tree.specs.WellTypedExpressions.{Throughout, ThroughoutAll, expressions_in, expressions_in_all}
+use Rattle.pw_tree.specs.WellTypedExpressions.{Throughout, ThroughoutAll, expressions_in_all}
 use Rattle.pw_code.specs.declared.frame.Frame.{Frame}
 use Rattle.pw_code.specs.Items.{Part, instruction, address}
 use Rattle.pw_code.specs.Frames.{held_slot}

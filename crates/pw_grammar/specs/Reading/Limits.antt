@@ -4,14 +4,14 @@
 use Rattle.std.specs.Prelude.{ℕ, suc, ◌+◌, Bool, false, ◌||◌, ◌&&◌, if◌then◌else◌, ◌==◌, nat_le, List, [], ◌∷◌, Option, Some, None}
 use Rattle.pw_grammar.specs.declared.sort.Sort.TheVariants as s
 use Rattle.pw_grammar.specs.Terminals.{sort, is_same}
-use Rattle.pw_grammar.specs.Faults.{opens, bracket}
+use Rattle.pw_grammar.specs.Faults.{opens_bracket, bracket}
 use Rattle.pw_base.specs.Limits.{open_brackets, function_tokens}
 use Rattle.pw_lex.specs.declared.token.Token.{Token}
 
 -- the first token that opens a bracket where as many are open as may be; the first of the tokens has the number `at`, and n are open
 unfoldable pub first_nested : ℕ → ℕ → List Token → Option ℕ
 first_nested at n [] = None
-first_nested at n (t ∷ ts) = if opens t && nat_le open_brackets n then Some at else first_nested (suc at) (bracket n t) ts
+first_nested at n (t ∷ ts) = if opens_bracket t && nat_le open_brackets n then Some at else first_nested (suc at) (bracket n t) ts
 
 -- where a reader of declarations stands
 pub record Walk : Type 0 where

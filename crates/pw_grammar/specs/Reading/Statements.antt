@@ -73,12 +73,12 @@ local expr = do
   finish_statement first line (k.Local ty x a)
 
 -- the name that an expression is, if its first token has this number: so that no brackets stand round it
-abbrev pub word_at : ℕ → ℕ → ExprKind-F ExprKind Expr → Option (List ℕ)
-word_at first at (ExprKind-F.Word x) = if at == first then Some x else None
-word_at first at _ = None
+abbrev pub unbracketed_word : ℕ → ℕ → ExprKind-F ExprKind Expr → Option (List ℕ)
+unbracketed_word first at (ExprKind-F.Word x) = if at == first then Some x else None
+unbracketed_word first at _ = None
 
 abbrev pub word_of : ℕ → Expr → Option (List ℕ)
-word_of first a = word_at first (out-Expr a).first (out-ExprKind (out-Expr a).kind)
+word_of first a = unbracketed_word first (out-Expr a).first (out-ExprKind (out-Expr a).kind)
 
 abbrev pub with_index : Option Expr → Option (List ℕ) → Option (List ℕ × Option Expr)
 with_index x None = None

@@ -24,13 +24,13 @@ ReadResult A = Result (A × Position) SyntaxError
 abbrev pub Parser : Type 0 → Type 0
 Parser A = Position → ReadResult A
 
-abbrev pub and_then : {A B : Type 0} → ReadResult A → (A → Parser B) → ReadResult B
-and_then (Ok p) f = f p.0 p.1
-and_then (Err e) f = Err e
+abbrev pub read_then : {A B : Type 0} → ReadResult A → (A → Parser B) → ReadResult B
+read_then (Ok p) f = f p.0 p.1
+read_then (Err e) f = Err e
 
 infixl 10 ◌>>=◌
 abbrev pub ◌>>=◌ : {A B : Type 0} → Parser A → (A → Parser B) → Parser B
-p >>= f = λ i. and_then (p i) f
+p >>= f = λ i. read_then (p i) f
 
 abbrev pub pure : {A : Type 0} → A → Parser A
 pure a = λ i. Ok (a, i)

@@ -4,8 +4,8 @@ use Rattle.pw_parse.specs.declared.cursor.Cursor.TheInside.{Inside}
 use Rattle.pw_grammar.specs.Reading.Steps.{Position}
 
 -- a cursor is seen as the position where it stands
-abbrev pub place_of : Inside → Position
-place_of c = record { at = c.at; rest = c.rest.now }
+abbrev pub position_of : Inside → Position
+position_of c = record { at = c.at; rest = c.rest.now }
 
 -- the number of each token, and of the end, has 32 bits
 abbrev pub IsNumbered : Inside → Type 0

@@ -2,7 +2,7 @@
 use Rattle.std.specs.Prelude.{◌≡◌, ◌≢◌, ℕ, ◌-◌, List, [], ◌∷◌, length, Option, Some, None, Result, Ok, Err}
 use Rattle.pw_grammar.specs.declared.error.SyntaxError.{SyntaxError}
 use Rattle.pw_grammar.specs.declared.error.SyntaxError.TheVariants.{NoMemory}
-use Rattle.pw_grammar.specs.Reading.Steps.{Parser, Position, ReadResult, and_then}
+use Rattle.pw_grammar.specs.Reading.Steps.{Parser, Position, ReadResult, read_then}
 use Rattle.pw_grammar.specs.Reading.Expressions.{expression}
 use Rattle.pw_grammar.specs.Reading.Statements.{statement}
 use Rattle.pw_parse.specs.Steps.Heads.{close}
@@ -16,7 +16,7 @@ close_at n = close (expression n) (statement (n - 1))
 -- the outcome of the outermost statement, from that of the innermost; the outermost head comes first, at depth n
 unfoldable pub resume : ℕ → List Head → ReadResult Stmt → ReadResult Stmt
 resume n [] o = o
-resume n (h ∷ hs) o = and_then (resume (n - 1) hs o) (close_at n h)
+resume n (h ∷ hs) o = read_then (resume (n - 1) hs o) (close_at n h)
 
 -- where the innermost statement is still to be read
 abbrev pub unread : ℕ → List Head → Position → ReadResult Stmt

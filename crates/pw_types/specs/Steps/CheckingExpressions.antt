@@ -19,7 +19,7 @@ use Rattle.pw_types.specs.declared.names.Kind.TheVariants.{Function, Variable}
 use Rattle.pw_types.specs.declared.names.File.{File}
 use Rattle.pw_types.specs.declared.expression_step.Head.{Head}
 use Rattle.pw_tree.specs.Types.{is_number, is_void, is_pointer, converts, unary_type, binary_type, choice_type, pointer_to}
-use Rattle.pw_types.specs.Scopes.{Scope, Meaning, missing, a_local, declared, meaning, function_reference, variable_reference}
+use Rattle.pw_types.specs.Scopes.{Scope, Meaning, missing, a_local, declared, name_meaning, function_reference, variable_reference}
 use Rattle.pw_tree.specs.Held.{holds_left, held_both}
 use Rattle.pw_types.specs.Typed.{Array, array_of, Designated, function_of, constant_type}
 use Rattle.pw_tree.specs.TypedExpressions.{type_of}
@@ -147,12 +147,12 @@ input_value h = leaf h (tree.input (mark_under h Long))
 abbrev pub of_type : {A : Type 0} → Head → Option A → (A → Valued) → Judge Valued
 of_type h ty v = on_option ty (refuse (fault_under h rules.Operands)) (λ a. finished h (v a))
 
-abbrev pub unary_value : Head → Un → Valued → Judge Valued
-unary_value h op e =
+abbrev pub unary_operation_value : Head → Un → Valued → Judge Valued
+unary_operation_value h op e =
     of_type h (unary_type op (type_of e.tree)) (λ ty. record { tree = tree.unary (mark_under h ty) op e.tree; held = e.held })
 
-abbrev pub binary_value : Head → Bin → Valued → Valued → Judge Valued
-binary_value h op l r = of_type h (binary_type op (type_of l.tree) (type_of r.tree)) (λ o. record {
+abbrev pub binary_operation_value : Head → Bin → Valued → Valued → Judge Valued
+binary_operation_value h op l r = of_type h (binary_type op (type_of l.tree) (type_of r.tree)) (λ o. record {
   tree = tree.binary (mark_under h o.ty) op o.unsigned l.tree r.tree;
   held = capped (held_both (holds_left op) l.held r.held);
 })
@@ -251,10 +251,10 @@ unfoldable mutual
   -- an expression in its role
   pub checked : Scope → Role → Expression → Judge Valued
   checked scope role (constant at value unsigned) = constant_value (head role at) value unsigned
-  checked scope role (word at name) = named_value scope (head role at) name (meaning scope name)
-  checked scope role (unary at op e) = checked scope Value e >>= unary_value (head role at) op
+  checked scope role (word at name) = named_value scope (head role at) name (name_meaning scope name)
+  checked scope role (unary at op e) = checked scope Value e >>= unary_operation_value (head role at) op
   checked scope role (binary at op l r) =
-      checked scope Value l >>= (λ a. checked scope Value r >>= binary_value (head role at) op a)
+      checked scope Value l >>= (λ a. checked scope Value r >>= binary_operation_value (head role at) op a)
   checked scope role (conditional at c a b) =
       checked scope Value c >>= (λ x. checked scope Value a >>= (λ y. checked scope Value b >>= choice_value (head role at) x y))
   checked scope role (call at f es) = on_option (function_of scope f)

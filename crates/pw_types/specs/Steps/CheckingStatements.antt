@@ -98,7 +98,8 @@ rest_of_do out c w = record {
 }
 
 -- a `for`, whose first part is judged, and after whose last part stands `w`
-abbrev pub rest_of_for : Setting → (Block → Block) → tree.OptionalTypedStatement → Option TypedExpression → tree.OptionalTypedStatement → Statement → WalkResult → WalkResult
+abbrev pub rest_of_for : Setting → (Block → Block) → tree.OptionalTypedStatement → Option TypedExpression →
+    tree.OptionalTypedStatement → Statement → WalkResult → WalkResult
 rest_of_for x out first c last s w = record {
   faults = w.faults ++ faults_by (body x) w.block s;
   typed = tree.for_loop first c last (typed_statement (body x) w.block s);
@@ -108,7 +109,8 @@ rest_of_for x out first c last s w = record {
 }
 
 -- a `for`, after whose first part stands `w`
-abbrev pub after_first : Setting → (Block → Block) → tree.OptionalTypedStatement → Option Expression → OptionalStatement → Statement → WalkResult → WalkResult
+abbrev pub after_first : Setting → (Block → Block) → tree.OptionalTypedStatement → Option Expression → OptionalStatement →
+    Statement → WalkResult → WalkResult
 after_first x out first c last s w = record {
   faults = w.faults
       ++ (faults_of_option w.block.scope roles.Value c
@@ -164,8 +166,8 @@ resume (f ∷ fs) w = resume fs (resumed f w)
 
 -- ---- what judging answers
 
-abbrev pub place_of : StatementSpan → Span
-place_of at = record { first = at.first; last = at.last; line = at.line }
+abbrev pub span_of_statement : StatementSpan → Span
+span_of_statement at = record { first = at.first; last = at.last; line = at.line }
 
 abbrev pub block_of : Walk → Block
 block_of w = record { scope = w.scope; start = w.start; count = w.count }
@@ -187,7 +189,8 @@ block_at done rest o w =
     rest_of_block (setting_of o.setting) (leave o.start o.visible) (map tree.typed_statement_of done) (statements_of rest) w
 
 -- a `for`, from after its first part in this state
-abbrev pub after_first_at : Outer → tree.OptionalTypedStatement → Option Expression → OptionalStatement → Statement → Walk → WalkResult
+abbrev pub after_first_at : Outer → tree.OptionalTypedStatement → Option Expression → OptionalStatement → Statement → Walk →
+    WalkResult
 after_first_at o first c last s w =
     after_first (setting_of o.setting) (leave o.start o.visible) first c last s (judged_at (tree.block tree.nil) w)
 

@@ -8,13 +8,13 @@ JudgeResult A = Result (A × List ℕ) Fault
 abbrev pub Judge : Type 0 → Type 0
 Judge A = List ℕ → JudgeResult A
 
-abbrev pub and_then : {A B : Type 0} → JudgeResult A → (A → Judge B) → JudgeResult B
-and_then (Ok p) f = f p.0 p.1
-and_then (Err e) f = Err e
+abbrev pub judge_then : {A B : Type 0} → JudgeResult A → (A → Judge B) → JudgeResult B
+judge_then (Ok p) f = f p.0 p.1
+judge_then (Err e) f = Err e
 
 infixl 10 ◌>>=◌
 abbrev pub ◌>>=◌ : {A B : Type 0} → Judge A → (A → Judge B) → Judge B
-p >>= f = λ used. and_then (p used) f
+p >>= f = λ used. judge_then (p used) f
 
 abbrev pub pure : {A : Type 0} → A → Judge A
 pure a = λ used. Ok (a, used)

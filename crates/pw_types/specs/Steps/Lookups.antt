@@ -5,7 +5,7 @@ use Rattle.std.specs.List.{AllByRecursion}
 use Rattle.pw_types.specs.declared.names.File.{File as Declared}
 use Rattle.pw_types.specs.declared.meaning.Meaning.{Meaning as Found}
 use Rattle.pw_types.specs.declared.meaning.Meaning.TheVariants.{Missing, Local, File}
-use Rattle.pw_types.specs.Scopes.{Scope, missing, a_local, declared, meaning, file_named}
+use Rattle.pw_types.specs.Scopes.{Scope, missing, a_local, declared, name_meaning, file_named}
 use Rattle.pw_types.specs.Steps.Uses.{file_number}
 
 -- each name at file scope stands at its own bytes
@@ -19,12 +19,12 @@ Finds name files (Some found) = (file_named name files ≡ Some found.1.now) × 
 
 -- The name means this name at file scope, whose number is n.
 pub record IsDeclared (scope : Scope) (name : List ℕ) (n : ℕ) (f : Declared) : Type 0 where
-  pub means : meaning scope name ≡ declared f
+  pub means : name_meaning scope name ≡ declared f
   pub number : n ≡ file_number f.name scope.files
   pub name_is : f.name ≡ name
 
 -- what a name means
-abbrev pub Means : Scope → List ℕ → Found → Type 0
-Means scope name Missing = meaning scope name ≡ missing
-Means scope name (Local l) = meaning scope name ≡ a_local l.now
-Means scope name (File n f) = IsDeclared scope name n f.now
+abbrev pub FindsMeaning : Scope → List ℕ → Found → Type 0
+FindsMeaning scope name Missing = name_meaning scope name ≡ missing
+FindsMeaning scope name (Local l) = name_meaning scope name ≡ a_local l.now
+FindsMeaning scope name (File n f) = IsDeclared scope name n f.now

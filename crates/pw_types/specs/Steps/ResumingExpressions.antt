@@ -24,8 +24,8 @@ use Rattle.pw_types.specs.declared.expression_step.ExpressionStep.TheVariants.{P
 use Rattle.pw_types.specs.Scopes.{Scope}
 use Rattle.pw_types.specs.Typed.{Array, array_of, Designated, function_of}
 use Rattle.pw_types.specs.Steps.Uses.{uses}
-use Rattle.pw_types.specs.Steps.Judging.{JudgeResult, Judge, and_then, ◌>>=◌, pure, refuse, noting, on_option}
-use Rattle.pw_types.specs.Steps.CheckingExpressions.{Valued, Aim, named, through, Calling, Taken, unary_value, binary_value, choice_value, element_value, output_value, taking, none_taken, calling, direct_call, pointer_call, checked, checked_arguments}
+use Rattle.pw_types.specs.Steps.Judging.{JudgeResult, Judge, judge_then, ◌>>=◌, pure, refuse, noting, on_option}
+use Rattle.pw_types.specs.Steps.CheckingExpressions.{Valued, Aim, named, through, Calling, Taken, unary_operation_value, binary_operation_value, choice_value, element_value, output_value, taking, none_taken, calling, direct_call, pointer_call, checked, checked_arguments}
 
 -- ---- plain values
 
@@ -76,9 +76,9 @@ index_from scope h b i = on_option (array_of scope b) (checked scope Base b)
 
 -- what comes after the part that a frame waits for
 abbrev pub resumed : Scope → ExpressionFrame → Valued → Judge Valued
-resumed scope (Operand h op) v = unary_value h op v
-resumed scope (Left h op r) v = checked scope Value (expression_of r.now) >>= binary_value h op v
-resumed scope (Right h op l) v = binary_value h op (valued l) v
+resumed scope (Operand h op) v = unary_operation_value h op v
+resumed scope (Left h op r) v = checked scope Value (expression_of r.now) >>= binary_operation_value h op v
+resumed scope (Right h op l) v = binary_operation_value h op (valued l) v
 resumed scope (Condition h a b) v =
     checked scope Value (expression_of a.now) >>= (λ x. checked scope Value (expression_of b.now) >>= choice_value h v x)
 resumed scope (First h c b) v = checked scope Value (expression_of b.now) >>= choice_value h (valued c) v
@@ -92,7 +92,7 @@ resumed scope (Written h) v = output_value h v
 -- the outcome of the whole, where the innermost frame, which is the last, waits for a part of this outcome
 unfoldable pub resume : Scope → List ExpressionFrame → JudgeResult Valued → JudgeResult Valued
 resume scope [] outcome = outcome
-resume scope (f ∷ fs) outcome = and_then (resume scope fs outcome) (resumed scope f)
+resume scope (f ∷ fs) outcome = judge_then (resume scope fs outcome) (resumed scope f)
 
 -- what a step leads to
 abbrev pub continued : Scope → ExpressionStep → Judge Valued

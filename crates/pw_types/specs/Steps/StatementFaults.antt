@@ -8,7 +8,7 @@ use Rattle.pw_types.specs.declared.role.Role.{Role}
 use Rattle.pw_types.specs.declared.role.Role.TheVariants as roles
 use Rattle.pw_types.specs.declared.fault.Fault.{Fault}
 use Rattle.pw_types.specs.Faults.{broken}
-use Rattle.pw_types.specs.Scopes.{Scope, meaning}
+use Rattle.pw_types.specs.Scopes.{Scope, name_meaning}
 use Rattle.pw_types.specs.Typed.{array_named, typed}
 use Rattle.pw_types.specs.Expressions.{end_of}
 use Rattle.pw_types.specs.Blocks.{Setting, part, body, head, Block, inner, after, after_maybe}
@@ -28,7 +28,7 @@ faults_of_option scope role (Some e) = faults_of_whole scope role e
 abbrev pub faults_of_set : Setting → Scope → Span → List ℕ → Option Expression → Expression → List Fault
 faults_of_set x scope at name None e =
     faults_of_target scope name at.first
-    ++ (faults scope (roles.Assigned (type_of_target (meaning scope name))) e
+    ++ (faults scope (roles.Assigned (type_of_target (name_meaning scope name))) e
     ++ broken rules.TooDeep (set_end x.in_head at) (set_holds_too_many scope name e))
 faults_of_set x scope at name (Some i) e =
     faults_of_array scope name at.first

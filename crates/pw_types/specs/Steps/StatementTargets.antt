@@ -19,7 +19,7 @@ use Rattle.pw_types.specs.declared.rule.Rule.TheVariants as rules
 use Rattle.pw_types.specs.declared.statement_set.AssignTarget.{AssignTarget}
 use Rattle.pw_types.specs.declared.statement_set.AssignTarget.TheVariants as targets
 use Rattle.pw_types.specs.declared.statement_set.Array.{Array}
-use Rattle.pw_types.specs.Scopes.{Scope, a_local, declared, meaning, variable_reference}
+use Rattle.pw_types.specs.Scopes.{Scope, a_local, declared, name_meaning, variable_reference}
 use Rattle.pw_types.specs.declared.statement_walk.Walk.{Walk}
 use Rattle.pw_types.specs.Faults.{broken}
 use Rattle.pw_tree.specs.Types.{is_number}
@@ -34,7 +34,7 @@ use Rattle.pw_types.specs.Steps.Refusals.{Judges}
 -- the name is a variable or array of the unit: its number among the names, and how the unit names it
 pub record IsFile (scope : Scope) (name : List ℕ) (n : ℕ) (r : Ref) (ty : Ty) (size : Option ℕ) : Type 0 where
   pub file : File
-  pub means : meaning scope name ≡ declared file
+  pub means : name_meaning scope name ≡ declared file
   pub kind : file.kind ≡ kinds.Variable ty size
   pub number : n ≡ file_number file.name scope.files
   pub reference : r ≡ variable_reference scope file
@@ -42,7 +42,7 @@ pub record IsFile (scope : Scope) (name : List ℕ) (n : ℕ) (r : Ref) (ty : Ty
 -- the name is a local
 pub record IsLocal (scope : Scope) (name : List ℕ) (n : ℕ) (ty : Ty) : Type 0 where
   pub local : Local
-  pub means : meaning scope name ≡ a_local local
+  pub means : name_meaning scope name ≡ a_local local
   pub number : n ≡ local.number
   pub type_is : ty ≡ local.ty
 

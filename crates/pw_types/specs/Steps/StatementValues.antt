@@ -27,18 +27,18 @@ pub record Notes (uses : List ℕ) (most : ℕ) (old new : Walk) : Type 0 where
   pub used : new.used.items ≡ old.used.items ++ uses
   pub held : new.held ≡ max old.held most
 
-pub record IsValue (e : Expression) (old new : Walk) (t : TExpr) : Type 0 where
+pub record IsJudgedValue (e : Expression) (old new : Walk) (t : TExpr) : Type 0 where
   pub tree : typed old.scope e ≡ Some (typed_expression_of t)
   pub notes : Notes (uses old.scope e) (held (typed_expression_of t)) old new
 
 -- an expression with nothing round it, and the token to blame where it holds too many values
 abbrev pub JudgesWhole : Role → Expression → ℕ → (old new : Walk) → Result TExpr Refusal → Type 0
 JudgesWhole role e end old new =
-    Judges (faults old.scope role e ++ broken rules.TooDeep end (holds_too_many (typed old.scope e))) (IsValue e old new)
+    Judges (faults old.scope role e ++ broken rules.TooDeep end (holds_too_many (typed old.scope e))) (IsJudgedValue e old new)
 
 -- a whole expression of a statement, which holds no more values than may be held at once
 abbrev pub JudgesValue : Role → Expression → (old new : Walk) → Result TExpr Refusal → Type 0
-JudgesValue role e old new = Judges (faults_of_whole old.scope role e) (IsValue e old new)
+JudgesValue role e old new = Judges (faults_of_whole old.scope role e) (IsJudgedValue e old new)
 
 pub record IsMaybeValue (e : Option Expression) (old new : Walk) (t : Option TExpr) : Type 0 where
   pub tree : option_map (typed_expression old.scope) e ≡ option_map typed_expression_of t

@@ -11,7 +11,8 @@ use Rattle.pw_types.specs.Reserved.{is_reserved}
 use Rattle.pw_types.specs.declared.names.File.{File}
 use Rattle.pw_types.specs.declared.names.Local.{Local}
 use Rattle.pw_types.specs.Scopes.{Scope, file_named}
-use Rattle.pw_types.specs.Declarations.{elements_of, outermost, setting, declared_by, Whole, file_scope, local_of, is_parameter_too_many, faults_of_parameter_name, parameters_in, is_definition_of_function, conflicts, is_redefined, is_too_large, faults_of_element, room}
+use Rattle.pw_tree.specs.WellTypedUnits.{room}
+use Rattle.pw_types.specs.Declarations.{elements_of, outermost, setting, declared_by, Whole, file_scope, local_of, is_parameter_too_many, faults_of_parameter_name, parameters_in, is_definition_of_function, conflicts, is_redefined, is_too_large, faults_of_element}
 use Rattle.pw_types.specs.Steps.StatementFaults.{faults_by_all}
 use Rattle.pw_types.specs.Units.{whole_of, files_after, lacks_definition, faults_of_lacking}
 

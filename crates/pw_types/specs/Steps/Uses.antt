@@ -3,7 +3,7 @@ use Rattle.std.specs.Prelude.{ℕ, not, List, [], ◌∷◌, ◌++◌, suc, Bool
 use Rattle.std.specs.List.{prefix_len, list_any}
 use Rattle.pw_tree.specs.Expressions.{Expression, Expressions, constant, word, unary, binary, conditional, call, index, input, output, nil, cons}
 use Rattle.pw_types.specs.declared.names.File.{File}
-use Rattle.pw_types.specs.Scopes.{Scope, Meaning, missing, a_local, declared, meaning}
+use Rattle.pw_types.specs.Scopes.{Scope, Meaning, missing, a_local, declared, name_meaning}
 use Rattle.pw_tree.specs.Statements.{Statement, Statements, OptionalStatement, empty, block, local, set, evaluate, if_else, while_loop, do_loop, for_loop, returns, breaks, continues, nil, cons, absent, present}
 use Rattle.pw_tree.specs.declared.decl.InitItem.{InitItem}
 use Rattle.pw_tree.specs.declared.decl.InitKind.{InitKind}
@@ -27,7 +27,7 @@ uses_of_meaning scope (declared f) = file_number f.name scope.files ∷ []
 
 -- the number that a name notes
 abbrev pub uses_of_name : Scope → List ℕ → List ℕ
-uses_of_name scope name = uses_of_meaning scope (meaning scope name)
+uses_of_name scope name = uses_of_meaning scope (name_meaning scope name)
 
 -- ---- expressions
 

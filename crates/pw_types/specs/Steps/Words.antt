@@ -23,15 +23,15 @@ pub record Designates (scope : Scope) (d : Option Designated) (uses : List ℕ) 
   pub function : d ≡ Some (record { reference = function_reference scope f.file.now; sig = f.sig.now })
   pub used : uses ≡ f.number ∷ []
 
-abbrev pub IsFunction : Scope → Option Designated → List ℕ → Option NamedFunction → Type 0
-IsFunction scope d uses None = d ≡ None
-IsFunction scope d uses (Some f) = Designates scope d uses f
+abbrev pub IsNamedFunction : Scope → Option Designated → List ℕ → Option NamedFunction → Type 0
+IsNamedFunction scope d uses None = d ≡ None
+IsNamedFunction scope d uses (Some f) = Designates scope d uses f
 
 -- the array that is designated, and its one use
 pub record HasElements (scope : Scope) (a : Option Array) (uses : List ℕ) (e : NamedArray) : Type 0 where
   pub array : a ≡ Some (record { reference = variable_reference scope e.file.now; ty = e.ty; size = e.size })
   pub used : uses ≡ e.number ∷ []
 
-abbrev pub IsArray : Scope → Option Array → List ℕ → Option NamedArray → Type 0
-IsArray scope a uses None = a ≡ None
-IsArray scope a uses (Some e) = HasElements scope a uses e
+abbrev pub IsNamedArray : Scope → Option Array → List ℕ → Option NamedArray → Type 0
+IsNamedArray scope a uses None = a ≡ None
+IsNamedArray scope a uses (Some e) = HasElements scope a uses e

@@ -1,3 +1,4 @@
+-- The answers to the goals of `fields_are_read_as_they_are_written` in `src/file_laws.rt`.
 use Rattle.pw_base.proofs.Fields.{field_is_the_number_there, written_field_is_read, read_field_is_written}
 use Rattle.pw_base.proofs.file_laws.fields_are_read_as_they_are_written.Goals as goal
 

@@ -4,7 +4,7 @@ use Rattle.std.proofs.lemmas.Result.{err_from_is_err_and}
 use Rattle.pw_first.specs.declared.writer.Writer.{Writer}
 use Rattle.pw_first_agree.specs.Image.{CanPlace}
 use Rattle.pw_cmd.specs.Stages.{Then, stopped, went_on}
-use Rattle.pw_cmd.specs.Primitives.{fills, runs}
+use Rattle.pw_cmd.specs.Primitives.{fills, runs_image}
 use Rattle.pw_cmd.proofs.Inversion.{regroup}
 use Rattle.pw_cmd.proofs.one.one.Goals as goal
 
@@ -17,7 +17,7 @@ pub returns-in_err-funs : goal.returns-in_err-funs
 returns-in_err-funs g c =
     let p = err_from_is_err_and c.from_residual-in_err-funs.result c.from_residual-in_err-funs.ensures.1 in
     rw (p.1, p.2) (went_on _ _ (c.in_ok-text.ensures.reads _ _ _)
-    (regroup {last = λ funs. Then (fills funs) (λ _. runs funs)} (stopped _ (c.in_err-funs.ensures.functions _) refl)))
+    (regroup {last = λ funs. Then (fills funs) (λ _. runs_image funs)} (stopped _ (c.in_err-funs.ensures.functions _) refl)))
 
 pub run_functions-requires : goal.run_functions-requires
 run_functions-requires g c = subst (λ (funs : List Writer). CanPlace funs) (sym c.as_slice.ensures) c.in_ok-funs.ensures.placed
@@ -26,4 +26,4 @@ pub returns : goal.returns
 returns g c =
     let run = rw c.as_slice.ensures at c.run_functions.ensures _ in
     went_on _ _ (c.in_ok-text.ensures.reads _ _ _)
-    (regroup {last = λ funs. Then (fills funs) (λ _. runs funs)} (went_on _ _ (c.in_ok-funs.ensures.functions _) run))
+    (regroup {last = λ funs. Then (fills funs) (λ _. runs_image funs)} (went_on _ _ (c.in_ok-funs.ensures.functions _) run))

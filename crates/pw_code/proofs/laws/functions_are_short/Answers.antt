@@ -1,3 +1,4 @@
+-- The answers to the goals of `functions_are_short` in `src/laws.rt`.
 use Rattle.pw_code.proofs.WellTyped.{function_is_short}
 use Rattle.pw_code.proofs.laws.functions_are_short.Goals as goal
 

@@ -1,3 +1,4 @@
+-- The answers to the goals of `ident_at` in `src/bytes.rt`.
 use Rattle.std.proofs.Common.{◌≡◌, ◌-◌, ℕ, List, Some, take, drop, ◌∙◌, ap, arith}
 use Rattle.pw_elf.proofs.SmallFields.{bytes_there, bytes_not_there}
 use Rattle.pw_elf.proofs.bytes.ident_at.Goals as goal

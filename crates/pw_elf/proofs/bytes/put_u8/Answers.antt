@@ -1,3 +1,4 @@
+-- The answers to the goals of `put_u8` in `src/bytes.rt`.
 use Rattle.std.proofs.Common.{ℕ, List, ◌∙◌, ◌++◌, ap, arith}
 use Rattle.pw_elf.proofs.SmallFields.{byte_is_written}
 use Rattle.pw_elf.proofs.bytes.put_u8.Goals as goal

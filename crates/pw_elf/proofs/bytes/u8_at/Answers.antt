@@ -1,4 +1,5 @@
-use Rattle.std.proofs.Common.{◌≡◌, ◌∙◌, ap, arith}
+-- The answers to the goals of `u8_at` in `src/bytes.rt`.
+use Rattle.std.proofs.Common.{◌≡◌, ◌∙◌, arith}
 use Rattle.pw_elf.proofs.SmallFields.{byte_is_field, no_byte}
 use Rattle.pw_elf.proofs.bytes.u8_at.Goals as goal
 

@@ -1,3 +1,4 @@
+-- The answers to the goals of `writers` in `src/unit.rt`.
 use Rattle.pw_tree.specs.Units.{unit_of}
 use Rattle.pw_first.proofs.Functions.{form_is_there, none_is_no_form}
 use Rattle.pw_first.proofs.unit.writers.Goals as goal

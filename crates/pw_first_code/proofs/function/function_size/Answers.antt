@@ -1,4 +1,5 @@
-use Rattle.std.proofs.Common.{arith, sym, ◌∙◌, ap, ◌+◌, ◌*◌, length}
+-- The answers to the goals of `function_size` in `src/function.rt`.
+use Rattle.std.proofs.Common.{sym, ◌∙◌, ap, ◌+◌, ◌*◌}
 use Rattle.pw_first_code.proofs.CodeWords.{size-function}
 use Rattle.pw_first_code.proofs.function.function_size.Goals as goal
 

@@ -1,5 +1,5 @@
 -- An output that is refused leaves a front of the words.
-use Rattle.std.proofs.Common.{take, drop, get_or, suc, ◌<◌, length, arith}
+use Rattle.std.proofs.Common.{take, drop, get_or, suc, ◌<◌, length}
 use Rattle.std.proofs.Math.Seq.{split_at}
 use Rattle.std.proofs.lemmas.Result.{err_from_is_err_and}
 use Rattle.pw_first_code.specs.Scheme.{output_words}

@@ -1,3 +1,4 @@
+-- What holds each time a loop of `put_outputs` in `src/function.rt` begins an iteration.
 use Rattle.std.proofs.Common.{◌≡◌, ◌++◌, flat_map, take}
 use Rattle.pw_first_code.specs.Scheme.{output_words}
 use Rattle.pw_first_code.proofs.function.put_outputs.Given as goal

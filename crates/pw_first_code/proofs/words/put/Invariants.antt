@@ -1,3 +1,4 @@
+-- What holds each time a loop of `put` in `src/words.rt` begins an iteration.
 use Rattle.std.proofs.Common.{◌≡◌, ◌++◌, map, take}
 use Rattle.pw_isa.specs.Encoding.{word_of}
 use Rattle.pw_first_code.proofs.words.put.Given as goal

@@ -1,3 +1,4 @@
+-- The answers to the goals of `check_index_words` in `src/checks.rt`.
 use Rattle.std.proofs.Common.{◌<◌, ◌^◌, arith}
 use Rattle.pw_code.proofs.Exports.{size_words_at_most}
 use Rattle.pw_genexpr.proofs.checks.check_index_words.Goals as goal

@@ -1,3 +1,4 @@
+-- The answers to the goals of `fault_words` in `src/checks.rt`.
 use Rattle.std.proofs.Common.{◌<◌, ◌^◌, arith}
 use Rattle.pw_code.proofs.Exports.{line_words_at_most}
 use Rattle.pw_genexpr.proofs.checks.fault_words.Goals as goal

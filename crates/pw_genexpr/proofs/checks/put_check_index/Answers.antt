@@ -1,5 +1,5 @@
 -- The size, the branch, and then the fault that it goes past.
-use Rattle.std.proofs.Common.{◌≡◌, ℕ, Ok, suc, ◌+◌, ◌*◌, ◌++◌, List, [], ◌∷◌, pos, arith, subst, sym, ◌∙◌}
+use Rattle.std.proofs.Common.{◌≡◌, ℕ, Ok, suc, ◌+◌, ◌*◌, ◌++◌, List, [], ◌∷◌, pos, subst, ◌∙◌}
 use Rattle.pw_isa.specs.declared.instruction.Inst.TheVariants.{Bltu}
 use Rattle.pw_isa.specs.Registers.{a0, t1}
 use Rattle.pw_code.specs.Items.{Part, instruction, size}
@@ -7,7 +7,7 @@ use Rattle.pw_code.specs.LoadImmediate.{load_immediate}
 use Rattle.pw_code.specs.Pieces.{fault, index_fault, past, bytes_of_words}
 use Rattle.pw_genexpr.specs.Appends.{AppendsPrefix, Appends}
 use Rattle.pw_genexpr.proofs.Distances.{past_fault}
-use Rattle.pw_genexpr.proofs.Appending.{prefix_of_more, prefix_after, appends_after, both_appended, gave_up}
+use Rattle.pw_genexpr.proofs.Appending.{prefix_of_more, prefix_after, appends_after, gave_up}
 use Rattle.pw_genexpr.proofs.checks.put_check_index.Goals as goal
 
 abbrev branch_code : ℕ → List Part

@@ -1,12 +1,12 @@
 -- The branch, and then the fault that it goes past.
-use Rattle.std.proofs.Common.{◌≡◌, Ok, suc, ◌+◌, ◌*◌, ◌++◌, List, [], ◌∷◌, pos, arith, subst, sym, ◌∙◌}
+use Rattle.std.proofs.Common.{◌≡◌, Ok, suc, ◌+◌, ◌*◌, ◌++◌, [], ◌∷◌, pos, subst, ◌∙◌}
 use Rattle.pw_isa.specs.declared.instruction.Inst.TheVariants.{Bne}
 use Rattle.pw_isa.specs.Registers.{x0}
-use Rattle.pw_code.specs.Items.{Part, instruction, size}
+use Rattle.pw_code.specs.Items.{instruction, size}
 use Rattle.pw_code.specs.Pieces.{fault, bytes_of_words}
 use Rattle.pw_genexpr.specs.Appends.{AppendsPrefix, Appends}
 use Rattle.pw_genexpr.proofs.Distances.{past_fault}
-use Rattle.pw_genexpr.proofs.Appending.{prefix_of_more, prefix_after, appends_after, both_appended, gave_up}
+use Rattle.pw_genexpr.proofs.Appending.{prefix_of_more, appends_after, gave_up}
 use Rattle.pw_genexpr.proofs.checks.put_check_nonzero.Goals as goal
 
 pub returns-in_err-put_instruction : goal.returns-in_err-put_instruction

@@ -1,5 +1,5 @@
 -- A fault's code is the load of its kind, that of its line, and the call.
-use Rattle.std.proofs.Common.{◌≡◌, ℕ, Ok, ◌+◌, ◌*◌, ◌++◌, List, [], ◌∷◌, pos, arith, subst, sym, ◌∙◌}
+use Rattle.std.proofs.Common.{◌≡◌, Ok, ◌+◌, ◌*◌, ◌++◌, List, [], ◌∷◌, pos, arith, subst, ◌∙◌}
 use Rattle.std.specs.Prelude.{ℤ}
 use Rattle.std.specs.Int.{w32}
 use Rattle.std.proofs.lemmas.Int.{ints}
@@ -10,7 +10,7 @@ use Rattle.pw_isa.specs.EnvironmentCalls.{fault_call}
 use Rattle.pw_code.specs.Items.{Part, instruction}
 use Rattle.pw_code.specs.LoadImmediate.{load_immediate}
 use Rattle.pw_genexpr.specs.Appends.{AppendsPrefix, Appends}
-use Rattle.pw_genexpr.proofs.Appending.{prefix_of_more, prefix_after, appends_after, both_appended, gave_up}
+use Rattle.pw_genexpr.proofs.Appending.{prefix_of_more, prefix_after, appends_after, gave_up}
 use Rattle.pw_genexpr.proofs.checks.put_fault.Goals as goal
 
 abbrev kind_code : ℤ → List Part

@@ -1,5 +1,5 @@
 -- The code of each form by its parts, and a prefix of it where one of them gives up.
-use Rattle.std.proofs.Common.{◌≡◌, ℕ, suc, ◌+◌, ◌*◌, ◌++◌, ◌≤◌, Ok, List, [], ◌∷◌, pos, ap, subst, sym, ◌∙◌, arith, add-one, length, drop}
+use Rattle.std.proofs.Common.{◌≡◌, suc, ◌+◌, ◌*◌, ◌++◌, ◌≤◌, Ok, [], ◌∷◌, pos, ap, subst, sym, ◌∙◌, arith, add-one, length, drop}
 use Rattle.std.specs.Int.RustNames.{FitsSigned}
 use Rattle.std.specs.Int.{w32}
 use Rattle.std.proofs.lemmas.Int.{to_z-of_z}
@@ -8,7 +8,7 @@ use Rattle.pw_isa.specs.Registers.{x0, sp, t0, a7}
 use Rattle.pw_isa.specs.EnvironmentCalls.{output_call}
 use Rattle.pw_tree.specs.TypedExpressions.{typed_expression_of, typed_expressions_of}
 use Rattle.pw_tree.specs.WellTypedExpressions.{expressions_in, expressions_in_all}
-use Rattle.pw_code.specs.Items.{Part, instruction}
+use Rattle.pw_code.specs.Items.{instruction}
 use Rattle.pw_code.specs.Frames.{held_slot}
 use Rattle.pw_code.specs.Pieces.{hold, skip, unless_zero, unless_nonzero, truth_code, unary_code, binary_code}
 use Rattle.pw_code.specs.ExpressionCode.{expression_words, expression_code, arguments_code}

@@ -1,5 +1,5 @@
 -- What is left of the arguments can be emitted, and what is done is code that comes before it.
-use Rattle.std.proofs.Common.{◌≡◌, ◌+◌, ◌*◌, ◌++◌, List, drop}
+use Rattle.std.proofs.Common.{◌≡◌, ◌+◌, ◌*◌, ◌++◌, drop}
 use Rattle.pw_tree.specs.TypedExpressions.{typed_expression_of, typed_expressions_of}
 use Rattle.pw_tree.specs.WellTypedExpressions.{expressions_in, expressions_in_all}
 use Rattle.pw_genexpr.specs.Steps.Emitting.{CanEmitAll}

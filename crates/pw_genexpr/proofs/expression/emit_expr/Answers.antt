@@ -1,3 +1,4 @@
+-- The answers to the goals of `emit_expr` in `src/expression.rt`.
 use Rattle.pw_tree.specs.TypedExpressions.{typed_expression_of}
 use Rattle.pw_genexpr.proofs.Emitting.{can_emit}
 use Rattle.pw_genexpr.proofs.expression.emit_expr.Goals as goal

@@ -1,11 +1,11 @@
 -- The check of the index, its bytes, the array's address, and the load.
-use Rattle.std.proofs.Common.{◌≡◌, ◌+◌, ◌*◌, ◌++◌, List, [], ◌∷◌, pos, arith, subst, sym, ◌∙◌}
+use Rattle.std.proofs.Common.{◌≡◌, ◌+◌, ◌*◌, ◌++◌, List, [], ◌∷◌, pos, ◌∙◌}
 use Rattle.pw_isa.specs.declared.instruction.Inst.TheVariants.{Slli, Add, Ld}
 use Rattle.pw_isa.specs.Registers.{t0, a0}
 use Rattle.pw_tree.specs.declared.ty.Ref.{Ref}
 use Rattle.pw_code.specs.Items.{Part, instruction, address}
 use Rattle.pw_code.specs.Pieces.{check_index}
-use Rattle.pw_genexpr.proofs.Appending.{prefix_of_more, prefix_after, appends_after, both_appended, gave_up}
+use Rattle.pw_genexpr.proofs.Appending.{prefix_of_more, prefix_after, appends_after, gave_up}
 use Rattle.pw_genexpr.proofs.forms.put_element.Goals as goal
 
 load_code : List Part

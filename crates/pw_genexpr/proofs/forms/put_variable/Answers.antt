@@ -1,8 +1,9 @@
-use Rattle.std.proofs.Common.{◌≡◌, ℕ, Ok, ◌+◌, ◌*◌, ◌++◌, List, [], ◌∷◌, pos, arith, subst, sym, ◌∙◌}
+-- The answers to the goals of `put_variable` in `src/forms.rt`.
+use Rattle.std.proofs.Common.{◌≡◌, ◌+◌, ◌*◌, ◌++◌, [], ◌∷◌, pos, ◌∙◌}
 use Rattle.pw_isa.specs.declared.instruction.Inst.TheVariants.{Ld}
 use Rattle.pw_isa.specs.Registers.{t0, a0}
 use Rattle.pw_code.specs.Items.{instruction, address}
-use Rattle.pw_genexpr.proofs.Appending.{prefix_of_more, prefix_after, appends_after, both_appended, gave_up}
+use Rattle.pw_genexpr.proofs.Appending.{prefix_of_more, gave_up}
 use Rattle.pw_genexpr.proofs.forms.put_variable.Goals as goal
 
 pub returns-in_err-put_address : goal.returns-in_err-put_address

@@ -1,14 +1,10 @@
 -- A number of 32 bits is loaded at once, and another one after its rest.
-use Rattle.std.proofs.Common.{◌≡◌, ◌∙◌, sym, subst, true, false, arith, ◌-◌, List, [], ◌∷◌}
-use Rattle.std.specs.Prelude.{ℤ}
+use Rattle.std.proofs.Common.{◌≡◌, ◌∙◌, sym, true, false, arith, ◌-◌, [], ◌∷◌}
 use Rattle.std.specs.Int.RustNames.{FitsSigned}
 use Rattle.std.specs.Int.{w32, w64}
 use Rattle.std.proofs.lemmas.Int.{to_z-of_z}
 use Rattle.std.proofs.lemmas.Result.{err_from_is_err_and}
-use Rattle.pw_isa.specs.declared.instruction.Inst.TheVariants.{Addi, Slli}
-use Rattle.pw_code.specs.Items.{Part, instruction}
 use Rattle.pw_code.specs.LoadImmediate.{is_within, lower, rest, load_signed}
-use Rattle.pw_genexpr.specs.Appends.{Appends}
 use Rattle.pw_code.proofs.Exports.{load_at_once, load_after_rest, shorter_rest, has_rest, narrow_fits}
 use Rattle.pw_genexpr.proofs.Appending.{appends_after, prefix_of_more}
 use Rattle.pw_genexpr.proofs.immediate.+put_signed.Goals as goal

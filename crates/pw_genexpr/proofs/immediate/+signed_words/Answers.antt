@@ -1,3 +1,4 @@
+-- The answers to the goals of `signed_words` in `src/immediate.rt`.
 use Rattle.std.proofs.Common.{◌≡◌, ◌∙◌, sym, true, false, arith, ap, ◌+◌, ◌-◌}
 use Rattle.std.specs.Int.RustNames.{FitsSigned}
 use Rattle.std.specs.Int.{w64}

@@ -1,3 +1,4 @@
+-- The answers to the goals of `rest` in `src/immediate.rt`.
 use Rattle.std.proofs.Common.{◌≡◌, ◌∙◌}
 use Rattle.std.specs.Int.RustNames.{FitsSigned}
 use Rattle.std.specs.Int.{w32, w64}

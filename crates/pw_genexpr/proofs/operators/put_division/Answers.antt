@@ -1,7 +1,7 @@
 -- The check, and then the division.
-use Rattle.std.proofs.Common.{◌≡◌, ◌+◌, ◌*◌, ◌++◌, List, [], ◌∷◌, pos, arith, subst, sym, ◌∙◌}
+use Rattle.std.proofs.Common.{◌≡◌, ◌+◌, ◌*◌, ◌++◌, [], ◌∷◌, ◌∙◌}
 use Rattle.pw_code.specs.Pieces.{check_divisor}
-use Rattle.pw_genexpr.proofs.Appending.{prefix_of_more, prefix_after, appends_after, both_appended, gave_up}
+use Rattle.pw_genexpr.proofs.Appending.{prefix_of_more, appends_after, gave_up}
 use Rattle.pw_genexpr.proofs.operators.put_division.Goals as goal
 
 pub returns-in_err-put_check_nonzero : goal.returns-in_err-put_check_nonzero

@@ -1,17 +1,16 @@
 -- The first load, and then the others.
-use Rattle.std.proofs.Common.{◌≡◌, ℕ, Ok, ◌+◌, ◌*◌, ◌++◌, List, [], ◌∷◌, pos, arith, ◌-◌, ◌≤◌, suc, zero, add-one, append-nil, ap, subst, sym, ◌∙◌}
+use Rattle.std.proofs.Common.{◌≡◌, Ok, ◌+◌, ◌*◌, ◌++◌, [], ◌∷◌, arith, ◌-◌, ◌≤◌, append-nil, subst, sym, ◌∙◌}
 use Rattle.pw_isa.specs.declared.instruction.Inst.TheVariants.{Ld}
 use Rattle.std.specs.Int.RustNames.{FitsSigned}
 use Rattle.std.specs.Int.{w32}
 use Rattle.std.proofs.lemmas.Int.{to_z-of_z}
 use Rattle.pw_isa.specs.Registers.{sp}
-use Rattle.pw_code.specs.declared.frame.Frame.{Frame}
-use Rattle.pw_code.specs.Items.{Part, instruction, items}
+use Rattle.pw_code.specs.Items.{instruction, items}
 use Rattle.pw_code.specs.Frames.{held_slot}
 use Rattle.pw_code.specs.Pieces.{load_held}
 use Rattle.pw_genexpr.specs.Appends.{AppendsPrefix, Appends}
 use Rattle.pw_genexpr.proofs.Held.{load_none, load_first}
-use Rattle.pw_genexpr.proofs.Appending.{prefix_of_more, prefix_after, appends_after, both_appended, gave_up}
+use Rattle.pw_genexpr.proofs.Appending.{prefix_of_more, appends_after, gave_up}
 use Rattle.pw_genexpr.proofs.slots.+put_load_held.Goals as goal
 
 pub returns-then-count-eq0 : goal.returns-then-count-eq0

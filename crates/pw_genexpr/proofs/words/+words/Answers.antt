@@ -1,8 +1,7 @@
 -- What is counted and what is left is the whole, and short.
-use Rattle.std.proofs.Common.{◌≡◌, ◌+◌, ◌*◌, ◌≤◌, ◌<◌, ◌∷◌, ap, subst, sym, ◌∙◌, arith, drop, length, rules}
+use Rattle.std.proofs.Common.{◌≡◌, ◌+◌, ◌*◌, ◌≤◌, ◌<◌, ◌∷◌, ap, subst, ◌∙◌, arith, length}
 use Rattle.pw_tree.specs.TypedExpressions.{typed_expression_of, typed_expressions_of}
 use Rattle.pw_tree.specs.WellTypedExpressions.{expressions_in_all}
-use Rattle.std.proofs.lemmas.Grind.{common_steps}
 use Rattle.pw_code.specs.ExpressionCode.{expression_words, arguments_words}
 use Rattle.pw_code.proofs.Exports.{arguments_are_short}
 use Rattle.pw_genexpr.specs.Steps.Emitting.{HaveShortCode}

@@ -1,3 +1,4 @@
+-- The answers to the goals of `resume` in `src/control_head.rt`.
 use Rattle.std.proofs.Common.{◌≡◌, ◌≢◌, Err, sym, ◌∙◌, ap, ◌-◌, length, Ok, arith}
 use Rattle.std.proofs.Common.{[], ◌∷◌, length-append, rules}
 use Rattle.std.proofs.lemmas.Grind.{common_steps}

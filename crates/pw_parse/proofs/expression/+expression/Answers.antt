@@ -1,3 +1,4 @@
+-- The answers to the goals of `expression` in `src/expression.rt`.
 use Rattle.std.proofs.Common.{◌∙◌, sym, ap, subst, arith, Err}
 use Rattle.pw_grammar.specs.Reading.Steps.{ReadResult, Reads}
 use Rattle.pw_tree.specs.declared.expr.Expr.{Expr}

@@ -1,3 +1,4 @@
+-- The answers to the goals of `more_initials` in `src/initialiser.rt`.
 use Rattle.std.proofs.Common.{rules, arith}
 use Rattle.std.proofs.lemmas.Grind.{common_steps}
 use Rattle.pw_grammar.specs.Reading.Declarations.{more_initials}

@@ -1,3 +1,4 @@
+-- The answers to the goals of `wrapped` in `src/operator.rt`.
 use Rattle.std.proofs.Common.{ℕ}
 use Rattle.pw_tree.specs.declared.operator.Un.{Un}
 use Rattle.pw_parse.proofs.Wrapping.{one_inner, none_inner}

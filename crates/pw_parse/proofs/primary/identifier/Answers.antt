@@ -1,3 +1,4 @@
+-- The answers to the goals of `identifier` in `src/primary.rt`.
 use Rattle.std.proofs.Common.{rules, arith}
 use Rattle.std.proofs.lemmas.Grind.{common_steps}
 use Rattle.pw_parse.proofs.Leaves.{name_read}

@@ -1,3 +1,4 @@
+-- The answers to the goals of `statement` in `src/statement.rt`.
 use Rattle.std.specs.Prelude.{IfNone}
 use Rattle.std.proofs.Common.{◌≡◌, ◌≢◌, sym, subst, ◌∙◌, ap, ◌-◌, ◌<◌, [], ◌∷◌, length, length-append, Ok, Err, rules, arith}
 use Rattle.std.proofs.lemmas.Grind.{common_steps}

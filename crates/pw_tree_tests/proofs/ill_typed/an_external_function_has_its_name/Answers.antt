@@ -1,3 +1,4 @@
+-- The answers to the goals of `an_external_function_has_its_name` in `src/ill_typed.rt`.
 use Rattle.pw_tree_tests.proofs.IllTyped.{external_without_name}
 use Rattle.pw_tree_tests.proofs.ill_typed.an_external_function_has_its_name.Goals as goal
 

@@ -1,3 +1,4 @@
+-- The answers to the goals of `units_of_two_modules_are_well_typed` in `src/well_typed.rt`.
 use Rattle.pw_tree_tests.proofs.ModuleUnits.{calling_unit_is_well_typed, called_unit_is_well_typed, letter_counter_is_well_typed, number_printer_is_well_typed}
 use Rattle.pw_tree_tests.proofs.well_typed.units_of_two_modules_are_well_typed.Goals as goal
 

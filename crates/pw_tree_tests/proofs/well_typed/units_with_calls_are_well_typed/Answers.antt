@@ -1,3 +1,4 @@
+-- The answers to the goals of `units_with_calls_are_well_typed` in `src/well_typed.rt`.
 use Rattle.pw_tree_tests.proofs.CallUnits.{empty_main_is_well_typed, null_callee_is_well_typed, thousand_calls_is_well_typed, one_call_more_is_well_typed}
 use Rattle.pw_tree_tests.proofs.well_typed.units_with_calls_are_well_typed.Goals as goal
 

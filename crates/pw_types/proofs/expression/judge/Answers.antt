@@ -1,3 +1,4 @@
+-- The answers to the goals of `judge` in `src/expression.rt`.
 use Rattle.pw_tree.specs.Expressions.{expression_of}
 use Rattle.pw_types.proofs.Resuming.{judged, at_base}
 use Rattle.pw_types.proofs.expression.judge.Goals as goal

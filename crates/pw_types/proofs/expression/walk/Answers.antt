@@ -1,3 +1,4 @@
+-- The answers to the goals of `walk` in `src/expression.rt`.
 use Rattle.std.proofs.Common.{Err, ap, sym, ◌∙◌}
 use Rattle.std.proofs.lemmas.Result.{err_from_is_err_and}
 use Rattle.pw_tree.specs.Expressions.{expression_of}

@@ -1,3 +1,4 @@
+-- The answers to the goals of `after_argument` in `src/expression_call.rt`.
 use Rattle.std.proofs.Common.{subst}
 use Rattle.pw_tree.specs.Expressions.{expressions_of}
 use Rattle.pw_types.specs.Steps.CheckingExpressions.{Taken, checked_arguments}

@@ -1,3 +1,4 @@
+-- The answers to the goals of `begin` in `src/expression_call.rt`.
 use Rattle.std.proofs.Common.{Bool, List, [], map, subst}
 use Rattle.pw_tree.specs.Expressions.{expressions_of}
 use Rattle.pw_tree.specs.TypedExpressions.{typed_expression_of}

@@ -1,3 +1,4 @@
+-- The answers to the goals of `call_through` in `src/expression_call.rt`.
 use Rattle.std.proofs.Common.{◌≡◌, sym, ◌∙◌, subst, replicate}
 use Rattle.pw_tree.specs.Expressions.{expressions_of}
 use Rattle.pw_tree.specs.declared.ty.Ty.{Ty}

@@ -1,3 +1,4 @@
+-- The answers to the goals of `down` in `src/expression_down.rt`.
 use Rattle.std.proofs.Common.{◌<◌, IfOk, ap, sym, subst}
 use Rattle.pw_tree.specs.Expressions.{Expression}
 use Rattle.pw_types.specs.Steps.CheckingExpressions.{checked}

@@ -1,3 +1,4 @@
+-- The answers to the goals of `up` in `src/expression_up.rt`.
 use Rattle.std.proofs.Common.{sym, subst}
 use Rattle.pw_types.specs.declared.expression_step.ExpressionFrame.{ExpressionFrame}
 use Rattle.pw_types.specs.Steps.ResumingExpressions.{valued, resumed, Continues}

@@ -1,3 +1,4 @@
+-- The answers to the goals of `array` in `src/expression_word.rt`.
 use Rattle.std.proofs.Common.{◌≡◌, Some, sym}
 use Rattle.pw_tree.specs.Expressions.{expression_of}
 use Rattle.pw_types.specs.Steps.Words.{word_in}

@@ -1,3 +1,4 @@
+-- The answers to the goals of `newest` in `src/scope.rt`.
 use Rattle.std.proofs.Common.{◌∙◌}
 use Rattle.pw_types.proofs.NewestLocals as locals
 use Rattle.pw_types.proofs.scope.newest.Goals as goal

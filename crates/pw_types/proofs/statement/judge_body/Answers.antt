@@ -1,3 +1,4 @@
+-- The answers to the goals of `judge_body` in `src/statement.rt`.
 use Rattle.std.proofs.Common.{refl}
 use Rattle.pw_types.specs.Declarations.{setting}
 use Rattle.pw_types.proofs.StatementSequences.{judged_body}

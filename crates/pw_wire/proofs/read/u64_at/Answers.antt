@@ -1,3 +1,4 @@
+-- The answers to the goals of `u64_at` in `src/read.rt`.
 use Rattle.std.proofs.Common.{◌≡◌, ◌∙◌, ap, Some, arith}
 use Rattle.pw_wire.proofs.Orders.{number_is_field, no_field}
 use Rattle.pw_wire.proofs.read.u64_at.Goals as goal

@@ -1,3 +1,4 @@
+-- The answers to the goals of `put_u64` in `src/write.rt`.
 use Rattle.std.proofs.Common.{ℕ, List, ◌∙◌, ◌++◌, ap}
 use Rattle.pw_wire.proofs.Orders.{bytes_are_field}
 use Rattle.pw_wire.proofs.write.put_u64.Goals as goal

@@ -1,3 +1,4 @@
+-- The answers to the goals of `ExpressionRules::+level` in `src/expression_rules.rt`.
 use Rattle.std.proofs.Common.{◌-◌, rules, arith}
 use Rattle.std.proofs.lemmas.Grind.{common_steps}
 use Rattle.pw_grammar.specs.Reading.Expressions.{expression, level, chain}

@@ -1,3 +1,4 @@
+-- The answers to the goals of `ExpressionRules::primary` in `src/expression_rules.rt`.
 use Rattle.std.proofs.Common.{sym, subst}
 use Rattle.pw_grammar.specs.Reading.Steps.{ReadResult, Reads}
 use Rattle.pw_grammar.specs.Reading.Expressions.{expression}

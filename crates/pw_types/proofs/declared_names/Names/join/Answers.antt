@@ -1,3 +1,4 @@
+-- The answers to the goals of `Names::join` in `src/declared_names.rt`.
 use Rattle.std.proofs.Common.{◌≡◌, ◌∙◌, sym, ap, subst, true}
 use Rattle.std.specs.List.{list_any}
 use Rattle.pw_types.specs.Scopes.{joined}

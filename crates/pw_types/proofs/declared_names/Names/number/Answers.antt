@@ -1,3 +1,4 @@
+-- The answers to the goals of `Names::number` in `src/declared_names.rt`.
 use Rattle.std.proofs.Common.{◌∙◌, sym, ap}
 use Rattle.pw_types.specs.Scopes.{number_of}
 use Rattle.pw_types.proofs.Keys.{bytes}

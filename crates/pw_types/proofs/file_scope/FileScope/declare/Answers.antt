@@ -1,3 +1,4 @@
+-- The answers to the goals of `FileScope::declare` in `src/file_scope.rt`.
 use Rattle.std.proofs.Common.{◌∙◌, sym, ap, subst, None, ◌≡◌}
 use Rattle.std.specs.Map.{lookup}
 use Rattle.pw_types.specs.Scopes.{with_file}
@@ -6,7 +7,8 @@ use Rattle.pw_types.proofs.Keys.{bytes}
 use Rattle.pw_types.proofs.KeyedFiles.{HasJoined, also, at_name, joins_known, joins_new}
 use Rattle.pw_types.proofs.file_scope.FileScope.declare.Goals as goal
 
-known : (c : goal.Joined-file) → HasJoined bytes c.args.file c.self.inside.by_name.entries (c.get_mut.follows.lender (also c.args.file.defined c.in-Some.known.now)).entries
+known : (c : goal.Joined-file) →
+    HasJoined bytes c.args.file c.self.inside.by_name.entries (c.get_mut.follows.lender (also c.args.file.defined c.in-Some.known.now)).entries
 known c =
     joins_known bytes c.args.file c.in-Some.known.now c.bytes.result.now _ _ c.bytes.ensures.bytes c.self.invariant c.get_mut.ensures.unique
     (sym c.in-Some.ensures.value) (c.get_mut.follows.holds (also c.args.file.defined c.in-Some.known.now)).0

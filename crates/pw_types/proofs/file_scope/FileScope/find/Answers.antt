@@ -1,3 +1,4 @@
+-- The answers to the goals of `FileScope::find` in `src/file_scope.rt`.
 use Rattle.std.proofs.Common.{◌∙◌, sym, ap, List, ℕ}
 use Rattle.pw_types.specs.Scopes.{file_named}
 use Rattle.pw_types.specs.Steps.Uses.{file_number}

@@ -1,3 +1,4 @@
+-- The answers to the goals of `Walk::after_first` in `src/statement_walk.rt`.
 use Rattle.std.proofs.Common.{arith}
 use Rattle.pw_types.specs.Steps.StatementWeights.{weight_of_maybe}
 use Rattle.pw_types.proofs.EnteringStatements.{goes_to_last, goes_to_body, is_present, is_absent}

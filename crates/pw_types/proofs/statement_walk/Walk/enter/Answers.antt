@@ -1,6 +1,6 @@
-use Rattle.std.proofs.Common.{Ok, lit<, sym, ◌∙◌, subst, ◌<◌, ap}
+-- The answers to the goals of `Walk::enter` in `src/statement_walk.rt`.
+use Rattle.std.proofs.Common.{Ok, lit<, sym, ◌∙◌, subst, ◌<◌}
 use Rattle.pw_tree.specs.Statements.{Statement}
-use Rattle.pw_types.specs.Steps.CheckingStatements.{outcome_at}
 use Rattle.pw_types.specs.Steps.StatementWeights.{weight, weight_of_step}
 use Rattle.pw_types.proofs.StatementForms.{place_at, is_empty, is_block, is_local, is_set, is_evaluate, is_if, is_while, is_do, is_for, is_return, is_break, is_continue, leads_as, steps_as, whole_as, less_as, whole_less}
 use Rattle.pw_types.proofs.statement_walk.Walk.enter.Goals as goal

@@ -1,3 +1,4 @@
+-- The answers to the goals of `Walk::enter_block` in `src/statement_walk.rt`.
 use Rattle.std.proofs.Common.{arith, Ok}
 use Rattle.pw_types.proofs.EnteringStatements.{enters_block, enters_no_block, parted, none_left}
 use Rattle.pw_types.specs.Steps.StatementWeights.{weight_of_all}

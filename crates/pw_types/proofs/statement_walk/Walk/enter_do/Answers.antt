@@ -1,3 +1,4 @@
+-- The answers to the goals of `Walk::enter_do` in `src/statement_walk.rt`.
 use Rattle.pw_types.proofs.EnteringStatements.{enters_do}
 use Rattle.pw_types.proofs.statement_walk.Walk.enter_do.Goals as goal
 

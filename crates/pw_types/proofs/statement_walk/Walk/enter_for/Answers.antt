@@ -1,3 +1,4 @@
+-- The answers to the goals of `Walk::enter_for` in `src/statement_walk.rt`.
 use Rattle.std.proofs.Common.{arith, sym, subst}
 use Rattle.pw_types.specs.Steps.StatementWeights.{weight_of_maybe}
 use Rattle.pw_types.specs.Steps.CheckingStatements.{WalkResult, Steps}

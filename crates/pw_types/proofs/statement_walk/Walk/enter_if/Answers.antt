@@ -1,3 +1,4 @@
+-- The answers to the goals of `Walk::enter_if` in `src/statement_walk.rt`.
 use Rattle.std.proofs.lemmas.Result.{err_from_is_err_and}
 use Rattle.pw_types.proofs.EnteringStatements.{enters_if, if_fails}
 use Rattle.pw_types.proofs.statement_walk.Walk.enter_if.Goals as goal

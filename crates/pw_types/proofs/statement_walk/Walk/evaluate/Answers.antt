@@ -1,3 +1,4 @@
+-- The answers to the goals of `Walk::evaluate` in `src/statement_walk.rt`.
 use Rattle.pw_types.proofs.SimpleStatements.{evaluates}
 use Rattle.pw_types.proofs.statement_walk.Walk.evaluate.Goals as goal
 

@@ -1,3 +1,4 @@
+-- The answers to the goals of `Walk::resume` in `src/statement_walk.rt`.
 use Rattle.std.proofs.Common.{Ok, lit<}
 use Rattle.pw_types.proofs.ResumingStatements.{resumed_as, less_resumed, resumed_whole, less_whole}
 use Rattle.pw_types.proofs.statement_walk.Walk.resume.Goals as goal

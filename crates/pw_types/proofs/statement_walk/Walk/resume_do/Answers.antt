@@ -1,3 +1,4 @@
+-- The answers to the goals of `Walk::resume_do` in `src/statement_walk.rt`.
 use Rattle.std.proofs.lemmas.Result.{err_from_is_err_and}
 use Rattle.pw_tree.specs.TypedStatements.{typed_statement_of}
 use Rattle.pw_types.proofs.ResumingStatements.{do_is_done, do_fails}

@@ -1,3 +1,4 @@
+-- The answers to the goals of `Walk::resume_else` in `src/statement_walk.rt`.
 use Rattle.pw_types.proofs.ResumingStatements.{else_is_done}
 use Rattle.pw_types.proofs.statement_walk.Walk.resume_else.Goals as goal
 

@@ -1,3 +1,4 @@
+-- The answers to the goals of `Walk::resume_then` in `src/statement_walk.rt`.
 use Rattle.std.proofs.Common.{arith, Ok, None}
 use Rattle.pw_types.specs.Steps.StatementWeights.{weight_of_maybe}
 use Rattle.pw_types.proofs.EnteringStatements.{is_present, is_absent}

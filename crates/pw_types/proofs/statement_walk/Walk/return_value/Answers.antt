@@ -1,3 +1,4 @@
+-- The answers to the goals of `Walk::return_value` in `src/statement_walk.rt`.
 use Rattle.std.proofs.Common.{sym, ◌∙◌}
 use Rattle.pw_types.proofs.SimpleStatements.{returns_value}
 use Rattle.pw_types.proofs.statement_walk.Walk.return_value.Goals as goal

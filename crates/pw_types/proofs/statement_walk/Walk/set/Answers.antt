@@ -1,3 +1,4 @@
+-- The answers to the goals of `Walk::set` in `src/statement_walk.rt`.
 use Rattle.pw_types.proofs.Assigning.{sets_local, sets_variable}
 use Rattle.pw_types.proofs.statement_walk.Walk.set.Goals as goal
 

@@ -1,3 +1,4 @@
+-- The answers to the goals of `Walk::set_element` in `src/statement_walk.rt`.
 use Rattle.std.proofs.lemmas.Result.{err_from_is_err_and}
 use Rattle.pw_tree.specs.Expressions.{expression_of}
 use Rattle.pw_tree.specs.declared.texpr.TExpr.{TExpr}

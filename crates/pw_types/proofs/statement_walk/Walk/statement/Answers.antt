@@ -1,3 +1,4 @@
+-- The answers to the goals of `Walk::statement` in `src/statement_walk.rt`.
 use Rattle.std.proofs.lemmas.Result.{err_from_is_err_and}
 use Rattle.pw_types.specs.declared.statement_step.StatementStep.TheVariants.{Done}
 use Rattle.pw_types.proofs.WaitingStatements.{none_wait, at_step, all_done, part_leads, part_stops, part_less, done_leads, done_stops, done_less}

@@ -1,3 +1,4 @@
+-- The answers to the goals of `Walk::statements` in `src/statement_walk.rt`.
 use Rattle.std.proofs.Common.{ap, ◌∙◌}
 use Rattle.std.proofs.lemmas.Result.{err_from_is_err_and}
 use Rattle.pw_tree.specs.Statements.{Statements, statement_of, statements_of}
