@@ -7,6 +7,8 @@
 mod dep_error;
 mod dep_laws;
 mod dep_table;
+mod kept_row;
+mod module;
 mod relocation;
 mod symbol;
 
@@ -15,5 +17,7 @@ pub use dep_laws::{
     a_read_table_is_spelled_so, a_spelled_table_is_read, a_table_or_its_first_fault_is_read,
 };
 pub use dep_table::{DepTable, FunRec, RootRec, TypeRec};
+pub use kept_row::{By, KeptBy, KeptRow};
+pub use module::{Def, Module};
 pub use relocation::{Reloc, RelocKind};
 pub use symbol::{SymKind, Symbol};
