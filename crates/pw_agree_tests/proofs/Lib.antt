@@ -5,3 +5,4 @@ pub mod StaticNames
 pub mod BreadthFirst
 pub mod Variables
 pub mod Binding
+pub mod ReadModules

@@ -6,3 +6,4 @@ pub mod StaticNames
 pub mod BreadthFirst
 pub mod Variables
 pub mod Binding
+pub mod ReadModules

@@ -6,6 +6,7 @@ ghost use Rattle.pw_agree_tests.specs.Binding.{IsBoundSo};
 ghost use Rattle.pw_agree_tests.specs.BreadthFirst.{SearchIsBreadthFirst};
 ghost use Rattle.pw_agree_tests.specs.Interposition.{ProgramInterposes};
 ghost use Rattle.pw_agree_tests.specs.PointerInLibrary.{PointerKeeps};
+ghost use Rattle.pw_agree_tests.specs.ReadModules.{ReadModulesAreSearched};
 ghost use Rattle.pw_agree_tests.specs.StaticNames.{StaticNamesAreOwn};
 ghost use Rattle.pw_agree_tests.specs.Variables.{InitialisedStandFirst};
 
@@ -37,4 +38,9 @@ pub fn initialised_variables_stand_first()
 /// A name that is used has one definition, with the type that it is declared with, or there is a fault.
 pub fn names_are_bound_or_faulty()
     ensures { IsBoundSo }
+{}
+
+/// Modules that were read are loaded breadth first, their names mean the first definition, and a function is kept by their tables.
+pub fn read_modules_are_searched()
+    ensures { ReadModulesAreSearched }
 {}
