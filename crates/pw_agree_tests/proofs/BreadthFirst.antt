@@ -11,7 +11,7 @@ use Rattle.pw_code.specs.Pieces.{load_held}
 use Rattle.pw_code.specs.ExpressionCode.{expression_words, expression_code}
 use Rattle.pw_code.specs.StatementCode.{statement_words, statement_code}
 use Rattle.pw_code.specs.FunctionCode.{store_parameters}
-use Rattle.pw_agree.specs.LoadOrder.{path_ends, ends_of_paths, each_number_once}
+use Rattle.pw_module.specs.LoadOrder.{path_ends, ends_of_paths, each_number_once}
 use Rattle.pw_agree.specs.Placing.{external_names, each_name_once}
 use Rattle.pw_agree.specs.Image.{words_at, functions_image, units_image, variables_image}
 use Rattle.pw_agree.specs.Kept.{IsKept, root, named, HasWay, IsLevel}

@@ -7,7 +7,7 @@ use Rattle.pw_tree.specs.Units.{TypedUnit}
 use Rattle.pw_tree.specs.Names.{Project, Definition, function, same_definition, resolved}
 use Rattle.pw_tree.specs.Depends.{defined}
 use Rattle.pw_mem.specs.Memory.{zeros}
-use Rattle.pw_agree.specs.LoadOrder.{ProjectModule, load_order, loaded_project}
+use Rattle.pw_agree.specs.LoadOrder.{ProjectModule, project_order, loaded_project}
 use Rattle.pw_agree.specs.Kept.{Keep, FindsKept, IsLevel, IsParent}
 use Rattle.pw_agree.specs.Placing.{function_address, slots_of}
 use Rattle.pw_agree.specs.Image.{text_image, data_image}
@@ -58,7 +58,7 @@ keep d = list_any (same_definition d) (main ∷ b_f ∷ [])
 
 -- Modules, names and places.
 pub record IsPlaced : Type 0 where
-  pub order : load_order project_modules ≡ 0 ∷ 3 ∷ 2 ∷ 1 ∷ []
+  pub order : project_order project_modules ≡ 0 ∷ 3 ∷ 2 ∷ 1 ∷ []
   pub is_loaded : loaded_project project_modules ≡ project
   pub meant : resolved project 0 0 (Global (codes "f")) ≡ Some (function b_f)
   pub main_at : function_address project main ≡ 0x5000018

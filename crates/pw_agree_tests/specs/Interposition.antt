@@ -7,7 +7,7 @@ use Rattle.pw_tree.specs.Units.{TypedUnit}
 use Rattle.pw_tree.specs.Names.{Project, Definition, function, same_definition, resolved}
 use Rattle.pw_tree.specs.Depends.{entry, defined}
 use Rattle.pw_mem.specs.Memory.{zeros}
-use Rattle.pw_agree.specs.LoadOrder.{ProjectModule, load_order, loaded_project}
+use Rattle.pw_agree.specs.LoadOrder.{ProjectModule, project_order, loaded_project}
 use Rattle.pw_agree.specs.Kept.{Keep, FindsKept, IsLevel, IsParent}
 use Rattle.pw_agree.specs.Placing.{function_address, slots_of}
 use Rattle.pw_agree.specs.Image.{text_image, data_image}
@@ -52,7 +52,7 @@ keep d = list_any (same_definition d) (program_f ∷ main ∷ library_g ∷ [])
 
 -- Modules, names and places.
 pub record IsPlaced : Type 0 where
-  pub order : load_order project_modules ≡ 0 ∷ 1 ∷ []
+  pub order : project_order project_modules ≡ 0 ∷ 1 ∷ []
   pub is_loaded : loaded_project project_modules ≡ project
   pub meant_in_library : resolved project 1 0 (Global (codes "f")) ≡ Some (function program_f)
   pub meant_in_program : resolved project 0 0 (Global (codes "g")) ≡ Some (function library_g)

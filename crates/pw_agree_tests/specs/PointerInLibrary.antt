@@ -8,7 +8,7 @@ use Rattle.pw_tree.specs.TypedExpressions.{constant}
 use Rattle.pw_tree.specs.Units.{TypedUnit}
 use Rattle.pw_tree.specs.Names.{Project, Definition, object, same_definition, resolved}
 use Rattle.pw_tree.specs.Depends.{defined}
-use Rattle.pw_agree.specs.LoadOrder.{ProjectModule, load_order, loaded_project}
+use Rattle.pw_agree.specs.LoadOrder.{ProjectModule, project_order, loaded_project}
 use Rattle.pw_agree.specs.Kept.{Keep, FindsKept, IsLevel, IsParent}
 use Rattle.pw_agree.specs.Placing.{function_address, variable_address, slots_of}
 use Rattle.pw_agree.specs.Image.{text_image, data_image}
@@ -48,7 +48,7 @@ keep d = list_any (same_definition d) (main ∷ callback ∷ [])
 
 -- Modules, names and places.
 pub record IsPlaced : Type 0 where
-  pub order : load_order project_modules ≡ 0 ∷ 1 ∷ []
+  pub order : project_order project_modules ≡ 0 ∷ 1 ∷ []
   pub is_loaded : loaded_project project_modules ≡ project
   pub meant : resolved project 0 0 (Global (codes "hook")) ≡ Some (object hook)
   pub main_at : function_address project main ≡ 0x5000018

@@ -7,7 +7,7 @@ use Rattle.pw_tree.specs.Units.{TypedUnit}
 use Rattle.pw_tree.specs.Names.{Project, Definition, function, same_definition, definition_of, resolved, text_at}
 use Rattle.pw_tree.specs.Depends.{defined, Depends}
 use Rattle.pw_mem.specs.Memory.{zeros}
-use Rattle.pw_agree.specs.LoadOrder.{ProjectModule, load_order, loaded_project}
+use Rattle.pw_agree.specs.LoadOrder.{ProjectModule, project_order, loaded_project}
 use Rattle.pw_agree.specs.Kept.{Keep, FindsKept, IsLevel, IsParent}
 use Rattle.pw_agree.specs.Placing.{function_address, slots_of}
 use Rattle.pw_agree.specs.Image.{text_image, data_image}
@@ -50,7 +50,7 @@ keep d = list_any (same_definition d) (first_h ∷ main ∷ [])
 
 -- Names and places.
 pub record IsPlaced : Type 0 where
-  pub order : load_order project_modules ≡ 0 ∷ []
+  pub order : project_order project_modules ≡ 0 ∷ []
   pub is_loaded : loaded_project project_modules ≡ project
   pub meant_in_first : resolved project 0 0 (LocalFun 0) ≡ Some (function first_h)
   pub meant_in_second : resolved project 0 1 (LocalFun 0) ≡ Some (function second_h)
