@@ -74,7 +74,9 @@ fn add_file(
     ensures { WritesFile files.old.items name.now bytes.items files.new.items result }
 {
     let copy = name.copy(alloc)?;
-    files.push((copy, bytes)).map_err(|_| NoMemory)?;
+    let Ok(()) = files.push((copy, bytes)) else {
+        return Err(NoMemory);
+    };
     Ok(())
 }
 
