@@ -1,12 +1,11 @@
 -- Bytes put at the start of a region of a memory that is not sealed.
-use Rattle.std.proofs.Common.{◌≡◌, ℕ, zero, suc, ◌+◌, ◌-◌, ◌*◌, ◌/◌, ◌%◌, ◌<◌, ◌≤◌, ◌^◌, Bool, true, false, not, ◌&&◌, List, [], ◌∷◌, ◌++◌, length, take, drop, get_or, append_assoc, refl, ap, sym, subst, ◌∙◌, arith, zero-add, append-nil, lit<, length-append, length-drop, Result, Ok, Err, ◌==◌, nat_le}
+use Rattle.std.proofs.Common.{◌≡◌, ℕ, ◌+◌, ◌-◌, ◌*◌, ◌/◌, ◌%◌, ◌<◌, ◌≤◌, ◌^◌, true, false, List, [], ◌∷◌, ◌++◌, length, take, drop, get_or, append_assoc, refl, ap, sym, subst, ◌∙◌, arith, zero-add, lit<, length-append, length-drop, Result, Ok, Err, ◌==◌}
 use Rattle.std.proofs.lemmas.Bool.Decides.{nat_tests}
-use Rattle.std.specs.Prelude.{replicate}
 use Rattle.pw_base.specs.Bytes.{le_bytes}
-use Rattle.pw_base.proofs.Bytes.{length-le_bytes}
 use Rattle.pw_mem.specs.declared.errors.Access.{Access}
 use Rattle.pw_mem.specs.Regions.{MappedRegion, holds, with_bytes, written}
-use Rattle.pw_mem.specs.Memory.{Mem, zeros, put, seal, Writes}
+use Rattle.pw_mem.specs.Memory.{Mem, zeros, put, seal}
+use Rattle.pw_mem.specs.States.{MemoryState, with_mem, Writes}
 use Rattle.pw_mem.specs.Map.{mapped}
 use Rattle.pw_mem.specs.Words.{text_bytes}
 use Rattle.pw_mem.specs.declared.rights.Rights.{Rights}
@@ -16,11 +15,11 @@ use Rattle.pw_first_agree.specs.Image.{text_start, data_start, stack_start, stac
 use Rattle.pw_build.specs.Built.{regions_of, memory_of, rounded}
 
 -- what a put that is not refused leaves
-pub wrote_ok : (r : Result Mem Access) (old new after : Mem) (result : Result (Unit {0}) Access) → Writes r old new result → r ≡ Ok after → new ≡ after
-wrote_ok r old new after result writes is = ok old new after result (subst (λ q. Writes q old new result) is writes) where
-  ok : (old new after : Mem) (result : Result (Unit {0}) Access) → Writes (Ok after) old new result → new ≡ after
-  ok old new after (Ok _) h = h
-  ok old new after (Err _) h = absurd h
+wrote_ok : (r : Result Mem Access) (old new : MemoryState) (after : Mem) (result : Result (Unit {0}) Access) → Writes r old new result → r ≡ Ok after → new ≡ with_mem old after
+wrote_ok r old new after result writes is = ok result (subst (λ q. Writes q old new result) is writes) where
+  ok : (result : Result (Unit {0}) Access) → Writes (Ok after) old new result → new ≡ with_mem old after
+  ok (Ok _) h = h
+  ok (Err _) h = absurd h
 
 -- the region with other bytes at its start
 abbrev pub starting : MappedRegion → List ℕ → MappedRegion
@@ -72,18 +71,21 @@ pub regions_filled : (text : List ℕ) (main : ℕ) → starting (fresh_text tex
 regions_filled text main = rw (drop-zeros (length text) (rounded (length text)), drop-zeros 8 8, zeros_none) refl
 
 -- the memory once the text and the slot are put
-pub filled : (text : List ℕ) (main : ℕ) (m0 m1 m2 : Mem) (r1 r2 : Result (Unit {0}) Access) → 0 < length text → length text ≤ 2 ^ 24 → m0 ≡ mapped (regions_of (length text)) → Writes (put m0 text_start text) m0 m1 r1 → Writes (put m1 data_start (le_bytes 8 main)) m1 m2 r2 → seal m2 ≡ memory_of text main
-filled text main m0 m1 m2 r1 r2 some fits is first second =
+pub filled : (text : List ℕ) (main : ℕ) (s0 s1 s2 : MemoryState) (r1 r2 : Result (Unit {0}) Access) → 0 < length text → length text ≤ 2 ^ 24 → s0.mem ≡ mapped (regions_of (length text))
+    → Writes (put s0.mem text_start text) s0 s1 r1 → Writes (put s1.mem data_start (le_bytes 8 main)) s1 s2 r2 → with_mem s2 (seal s2.mem) ≡ with_mem s0 (memory_of text main)
+filled text main s0 s1 s2 r1 r2 some fits is first second =
     let n : length (zeros (rounded (length text))) ≡ rounded (length text) = length-zeros (rounded (length text)) in
     let room : length text ≤ length (zeros (rounded (length text))) = omega (arith, n) in
     let slot_room : 8 ≤ length (zeros 8) = omega (arith, length-zeros 8) in
     let whole : length (text ++ drop (length text) (zeros (rounded (length text)))) ≡ rounded (length text) = omega (arith, length-append text (drop (length text) (zeros (rounded (length text)))), length-drop (length text) (zeros (rounded (length text))), n) in
     let apart : text_start + length (text ++ drop (length text) (zeros (rounded (length text)))) ≤ data_start = omega (arith, whole, fits) in
-    let fresh_is : put m0 text_start text ≡ Ok (record { regions = starting (fresh_text text) text ∷ fresh_data ∷ fresh_stack ∷ []; sealed = false }) = ap (λ m. put m text_start text) is ∙ put_first (fresh_text text) (fresh_data ∷ fresh_stack ∷ []) text some room in
-    let one : m1 ≡ record { regions = starting (fresh_text text) text ∷ fresh_data ∷ fresh_stack ∷ []; sealed = false } = wrote_ok _ m0 m1 _ r1 first fresh_is in
-    let slot_is : put m1 data_start (le_bytes 8 main) ≡ Ok (record { regions = starting (fresh_text text) text ∷ starting fresh_data (le_bytes 8 main) ∷ fresh_stack ∷ []; sealed = false }) = ap (λ m. put m data_start (le_bytes 8 main)) one ∙ put_second (starting (fresh_text text) text) fresh_data (fresh_stack ∷ []) (le_bytes 8 main) (lit< tt) slot_room apart in
-    let two : m2 ≡ record { regions = starting (fresh_text text) text ∷ starting fresh_data (le_bytes 8 main) ∷ fresh_stack ∷ []; sealed = false } = wrote_ok _ m1 m2 _ r2 second slot_is in
-    ap seal two ∙ ap (λ regions. record { regions = regions; sealed = true }) (regions_filled text main)
+    let text_in : Mem = record { regions = starting (fresh_text text) text ∷ fresh_data ∷ fresh_stack ∷ []; sealed = false } in
+    let slot_in : Mem = record { regions = starting (fresh_text text) text ∷ starting fresh_data (le_bytes 8 main) ∷ fresh_stack ∷ []; sealed = false } in
+    let fresh_is : put s0.mem text_start text ≡ Ok text_in = ap (λ m. put m text_start text) is ∙ put_first (fresh_text text) (fresh_data ∷ fresh_stack ∷ []) text some room in
+    let one : s1 ≡ with_mem s0 text_in = wrote_ok _ s0 s1 _ r1 first fresh_is in
+    let slot_is : put s1.mem data_start (le_bytes 8 main) ≡ Ok slot_in = ap (λ s. put s.mem data_start (le_bytes 8 main)) one ∙ put_second (starting (fresh_text text) text) fresh_data (fresh_stack ∷ []) (le_bytes 8 main) (lit< tt) slot_room apart in
+    let two : s2 ≡ with_mem s0 slot_in = wrote_ok _ s1 s2 _ r2 second slot_is ∙ ap (λ s. with_mem s slot_in) one in
+    ap (λ s. with_mem s (seal s.mem)) two ∙ ap (λ regions. with_mem s0 (record { regions = regions; sealed = true })) (regions_filled text main)
 
 -- the bytes of words that follow one another
 pub text_bytes-append : (vs ws : List ℕ) → text_bytes (vs ++ ws) ≡ text_bytes vs ++ text_bytes ws

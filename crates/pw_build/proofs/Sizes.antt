@@ -1,12 +1,10 @@
 -- Sizes of functions, and of the first of them, are within the size of all.
-use Rattle.std.proofs.Common.{◌≡◌, ℕ, zero, suc, ◌+◌, ◌-◌, ◌*◌, ◌<◌, ◌≤◌, ◌^◌, Bool, true, false, not, List, [], ◌∷◌, ◌++◌, length, take, drop, get_or, Option, Some, None, refl, ap, sym, subst, ◌∙◌, arith}
-use Rattle.std.specs.Prelude.{find, sum_by, replicate}
+use Rattle.std.proofs.Common.{◌≡◌, ℕ, ◌+◌, ◌-◌, ◌<◌, ◌≤◌, ◌^◌, true, false, not, List, [], ◌∷◌, ◌++◌, length, take, drop, get_or, Some, refl, ap, sym, subst, ◌∙◌, arith}
+use Rattle.std.specs.Prelude.{find}
 use Rattle.std.specs.List.{prefix_len}
-use Rattle.std.proofs.lemmas.List.Sums.{sum_by_more, sum_by_more_le, sum_by-take-le}
+use Rattle.std.proofs.lemmas.List.Sums.{sum_by_more, sum_by_more_le}
 use Rattle.std.proofs.lemmas.List.{drop_more, length-replicate, drop-replicate, replicate-append-replicate}
 use Rattle.pw_first.specs.declared.writer.Writer.{Writer}
-use Rattle.pw_first_code.specs.Items.{size}
-use Rattle.pw_first_code.specs.Scheme.{function_items}
 use Rattle.pw_first_code.proofs.CodeWords.{size-function}
 use Rattle.pw_mem.specs.Memory.{zeros}
 use Rattle.pw_first_agree.specs.Image.{CanPlace, all_words, function_size, is_kept, main_writer}

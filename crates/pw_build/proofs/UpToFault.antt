@@ -1,16 +1,16 @@
 -- What was fetched up to a call that failed lies in kept code: by the run up to it, and at the call itself.
-use Rattle.std.proofs.Common.{◌≡◌, ℕ, suc, ◌+◌, ◌-◌, ◌<◌, List, [], ◌∷◌, ◌++◌, length, refl, ap, sym, subst, ◌∙◌, arith, append_assoc, length-append, Option, Some, None}
+use Rattle.std.proofs.Common.{◌≡◌, ℕ, suc, ◌+◌, ◌-◌, ◌<◌, List, [], ◌∷◌, ◌++◌, length, ap, sym, subst, ◌∙◌, arith, append_assoc}
 use Rattle.std.specs.Prelude.{All}
 use Rattle.std.proofs.lemmas.List.Elements.{All-nil, All-cons, All-head, All-tail}
 use Rattle.pw_first.specs.declared.writer.Writer.{Writer}
-use Rattle.pw_mem.specs.Fetches.{counted, Told}
+use Rattle.pw_mem.specs.States.{MemoryState, AddsFetches}
+use Rattle.pw_mem.proofs.States.{fetches_more}
 use Rattle.pw_hart.specs.declared.ends.End.TheVariants.{Limit}
 use Rattle.pw_hart.specs.State.{MachineState}
 use Rattle.pw_hart.specs.Run.{run}
 use Rattle.pw_first_agree.specs.KeptCode.{LiesInKeptCode}
 use Rattle.pw_first_agree.proofs.CutShort.{StopsAtLimit, limit_path}
 use Rattle.pw_first_agree.proofs.Reach.{run_along}
-use Rattle.pw_build.specs.Executed.{Given}
 use Rattle.pw_build.specs.Meant.{FetchesKeptCode}
 
 -- what is true of all is true of the first of them
@@ -38,23 +38,10 @@ kept_up_to funs s k n pc below stops pc_is kept =
     next.1 ∙ ap (λ q. ps ++ (q ∷ next.0)) pc_is ∙ sym (append_assoc ps (pc ∷ []) next.0) in
     first_part (LiesInKeptCode funs) (ps ++ pc ∷ []) next.0 (subst (All (LiesInKeptCode funs)) whole kept)
 
--- one fetch after others is counted and reported after them
-counted-counted : (f m n : ℕ) → counted (counted f m) n ≡ counted f (m + n)
-counted-counted f m n = omega arith
-
-told_more : (first mid last : Option (List ℕ)) (before after : List ℕ) → Told first before mid → Told mid after last → Told first (before ++ after) last
-told_more first mid None before after h g = tt
-told_more None None (Some list) before after h g = absurd (cc g)
-told_more (Some xs) None (Some list) before after h g = absurd (cc g)
-told_more None (Some ys) (Some list) before after h g = absurd (cc h)
-told_more (Some xs) (Some ys) (Some list) before after h g =
-    let e : xs ++ before ≡ ys = cc h in let d : ys ++ after ≡ list = cc g in
-    ap Some (sym (append_assoc xs before after) ∙ ap (λ l. l ++ after) e ∙ d)
-
-pub fetches_up_to : (funs : List Writer) (fetched : List ℕ) (pc fetches : ℕ) (told : Option (List ℕ)) (old new : Given) → All (LiesInKeptCode funs) (fetched ++ pc ∷ []) → fetches ≡ counted old.fetches (length fetched) → Told old.told fetched told → new.fetches ≡ counted fetches 1 → Told told (pc ∷ []) new.told → FetchesKeptCode funs old new
-fetches_up_to funs fetched pc fetches told old new kept counts tells more_counts more_tells = record {
+-- and that fetch is added to those of the run
+pub fetches_up_to : (funs : List Writer) (fetched : List ℕ) (pc : ℕ) (old mid new : MemoryState) → All (LiesInKeptCode funs) (fetched ++ pc ∷ []) → AddsFetches fetched old mid → AddsFetches (pc ∷ []) mid new → FetchesKeptCode funs old new
+fetches_up_to funs fetched pc old mid new kept before last = record {
   fetched = fetched ++ pc ∷ [];
   kept = kept;
-  counts = more_counts ∙ ap (λ f. counted f 1) counts ∙ counted-counted old.fetches (length fetched) 1 ∙ ap (counted old.fetches) (sym (length-append fetched (pc ∷ [])));
-  tells = told_more old.told told new.told fetched (pc ∷ []) tells more_tells;
+  added = fetches_more fetched (pc ∷ []) old mid new before last;
 }

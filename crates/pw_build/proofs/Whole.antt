@@ -1,20 +1,20 @@
 -- The parts that are put together are the image.
-use Rattle.std.proofs.Common.{◌≡◌, ℕ, ◌+◌, ◌-◌, ◌*◌, ◌<◌, ◌≤◌, ◌^◌, Bool, true, false, cond, List, [], ◌∷◌, ◌++◌, length, refl, ap, sym, subst, ◌∙◌, arith, length-append, Some, Result, Ok, Err}
+use Rattle.std.proofs.Common.{◌≡◌, ℕ, ◌+◌, ◌-◌, ◌*◌, ◌<◌, ◌≤◌, ◌^◌, Bool, true, false, cond, List, [], ◌∷◌, ◌++◌, length, refl, ap, sym, ◌∙◌, arith, length-append, Some, Result, Ok, Err}
 use Rattle.std.specs.Prelude.{sum_by}
 use Rattle.std.specs.List.{flat_map}
 use Rattle.std.proofs.lemmas.List.Concat.{flat_map-cons}
 use Rattle.std.proofs.lemmas.List.Sums.{sum_by-cons}
 use Rattle.pw_base.specs.Bytes.{le_bytes}
 use Rattle.pw_first.specs.declared.writer.Writer.{Writer}
-use Rattle.pw_first_code.specs.Items.{size}
-use Rattle.pw_first_code.specs.Scheme.{words, function_items, entry_words, entry_items}
+use Rattle.pw_first_code.specs.Scheme.{words, function_items, entry_words}
 use Rattle.pw_first_code.proofs.CodeWords.{length-words_at}
-use Rattle.pw_mem.specs.Memory.{Mem, zeros}
+use Rattle.pw_mem.specs.Memory.{zeros}
+use Rattle.pw_mem.specs.States.{MemoryState}
 use Rattle.pw_mem.specs.Words.{text_bytes}
 use Rattle.pw_first_agree.specs.Image.{CanPlace, image, image_words, text_words, text_start, data_start, all_words, function_size, is_kept, main_writer, main_address, data_region, stack_region, stack_len}
 use Rattle.pw_build.specs.declared.memory_image.ImageError.{ImageError}
 use Rattle.pw_build.specs.declared.memory_image.ImageError.TheVariants.{NoMain, NoMemory}
-use Rattle.pw_build.specs.Built.{Held, HoldsImage, HoldsParts, Places, LeavesImage, memory_of, rounded, text_region_of}
+use Rattle.pw_build.specs.Built.{Places, LeavesImage, memory_of, rounded}
 use Rattle.pw_build.proofs.Sizes.{length-zeros}
 use Rattle.pw_build.proofs.Parts.{length-text_bytes}
 
@@ -55,13 +55,12 @@ memory_is_image funs =
     }) (length-text funs)
 
 -- the parts of the functions, where they are placed, are the image
-pub image_from_parts : (funs : List Writer) (main : Writer) (text : List ℕ) (at : ℕ) (old new : Held) (r : Result (Unit {0}) ImageError) → main_writer funs ≡ Some main → at ≡ main_address funs → text ≡ text_bytes (text_words funs) → Places text at old new r → LeavesImage funs old new r
+pub image_from_parts : (funs : List Writer) (main : Writer) (text : List ℕ) (at : ℕ) (old new : MemoryState) (r : Result (Unit {0}) ImageError) → main_writer funs ≡ Some main → at ≡ main_address funs → text ≡ text_bytes (text_words funs) → Places text at old new r → LeavesImage funs old new r
 image_from_parts funs main text at old new (Ok _) has at_is text_is h = record {
   main = main;
   has_main = has;
   mem = h.mem ∙ ap (λ bytes. memory_of bytes at) text_is ∙ ap (memory_of (text_bytes (text_words funs))) at_is ∙ memory_is_image funs;
-  fetches = h.fetches;
-  told = h.told;
+  no_fetch = h.no_fetch;
 }
 image_from_parts funs main text at old new (Err NoMain) has at_is text_is h = absurd h
 image_from_parts funs main text at old new (Err NoMemory) has at_is text_is h = h

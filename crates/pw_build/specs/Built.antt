@@ -1,20 +1,15 @@
 -- What building an image answers, and what it leaves of the memory.
-use Rattle.std.specs.Prelude.{◌≡◌, ℕ, ◌+◌, ◌-◌, ◌*◌, ◌/◌, Bool, true, false, List, [], ◌∷◌, ◌++◌, length, Option, Some, None, Result, Ok, Err, IfSome}
+use Rattle.std.specs.Prelude.{◌≡◌, ℕ, ◌+◌, ◌-◌, ◌*◌, ◌/◌, true, false, List, [], ◌∷◌, ◌++◌, length, Option, Some, None, Result, Ok, Err}
 use Rattle.pw_base.specs.declared.no_memory.NoMemory.{NoMemory}
 use Rattle.pw_first.specs.declared.writer.Writer.{Writer}
 use Rattle.pw_base.specs.Bytes.{le_bytes}
 use Rattle.pw_mem.specs.declared.region.Region.{Region}
 use Rattle.pw_mem.specs.Regions.{MappedRegion}
 use Rattle.pw_mem.specs.Memory.{Mem, zeros}
+use Rattle.pw_mem.specs.States.{MemoryState, NoFetches}
 use Rattle.pw_first_agree.specs.Image.{image, main_writer, main_address, text_start, data_start, stack_start, stack_len, data_region, stack_region}
 use Rattle.pw_build.specs.declared.memory_image.ImageError.{ImageError}
 use Rattle.pw_build.specs.declared.memory_image.ImageError.TheVariants as errors
-
--- a memory with its fetches, at one moment
-pub record Held : Type 0 where
-  pub mem : Mem
-  pub fetches : ℕ
-  pub told : Option (List ℕ)
 
 -- the address of `main`, or that there is none
 abbrev pub IsMainAddress : List Writer → Option ℕ → Type 0
@@ -55,27 +50,25 @@ memory_of text main = record {
 }
 
 -- The memory holds these parts, sealed, and no fetch is counted since.
-pub record HoldsParts (text : List ℕ) (main : ℕ) (new : Held) : Type 0 where
+pub record HoldsParts (text : List ℕ) (main : ℕ) (new : MemoryState) : Type 0 where
   pub mem : new.mem ≡ memory_of text main
-  pub fetches : new.fetches ≡ 0
-  pub told : IfSome new.told (λ list. list ≡ [])
+  pub no_fetch : NoFetches new
 
 -- the parts are placed, or memory was refused, and it is as before
-abbrev pub Places : List ℕ → ℕ → Held → Held → Result (Unit {0}) ImageError → Type 0
+abbrev pub Places : List ℕ → ℕ → MemoryState → MemoryState → Result (Unit {0}) ImageError → Type 0
 Places text main old new (Ok _) = HoldsParts text main new
 Places text main old new (Err errors.NoMain) = ⊥
 Places text main old new (Err errors.NoMemory) = new ≡ old
 
 -- The memory holds the image, sealed, and no fetch is counted since.
-pub record HoldsImage (funs : List Writer) (new : Held) : Type 0 where
+pub record HoldsImage (funs : List Writer) (new : MemoryState) : Type 0 where
   pub main : Writer
   pub has_main : main_writer funs ≡ Some main
   pub mem : new.mem ≡ image funs
-  pub fetches : new.fetches ≡ 0
-  pub told : IfSome new.told (λ list. list ≡ [])
+  pub no_fetch : NoFetches new
 
 -- the image, or that there is no `main`; after a refusal the memory is as before
-abbrev pub LeavesImage : List Writer → Held → Held → Result (Unit {0}) ImageError → Type 0
+abbrev pub LeavesImage : List Writer → MemoryState → MemoryState → Result (Unit {0}) ImageError → Type 0
 LeavesImage funs old new (Ok _) = HoldsImage funs new
 LeavesImage funs old new (Err errors.NoMain) = (main_writer funs ≡ None) × (new ≡ old)
 LeavesImage funs old new (Err errors.NoMemory) = new ≡ old

@@ -1,5 +1,5 @@
 //! Where `main` stands in the text.
-ghost use Rattle.std.specs.Prelude.{◌≡◌, ◌≤◌, length};
+ghost use Rattle.std.specs.Prelude.{◌≡◌};
 ghost use Rattle.pw_first_agree.specs.Image.{is_kept, all_words, CanPlace};
 ghost use Rattle.pw_build.specs.Built.{IsMainAddress};
 

@@ -2,7 +2,8 @@
 ghost use Rattle.std.specs.Prelude.{bit_or, ◌≡◌, ◌<◌, ◌≤◌, ◌^◌, length};
 ghost use Rattle.pw_mem.specs.Map.{mapped};
 ghost use Rattle.pw_first_agree.specs.Image.{CanPlace};
-ghost use Rattle.pw_build.specs.Built.{Held, LeavesImage, Places, regions_of, memory_of};
+ghost use Rattle.pw_mem.specs.States.{with_mem};
+ghost use Rattle.pw_build.specs.Built.{LeavesImage, Places, regions_of, memory_of};
 
 use crate::entry::{DATA_START, TEXT_START, main_address};
 use crate::text::text_of;
@@ -30,9 +31,7 @@ pub enum ImageError {
 /// Refusals: `NoMain` exactly where no function is named so. After a refusal the memory is as before.
 pub fn image<M: Memory>(alloc: Global, funs: &[Writer], mem: &mut M) -> Result<(), ImageError>
     requires { CanPlace funs.now }
-    ensures { LeavesImage funs.now
-        (record { mem = M.mem mem.old; fetches = M.fetches mem.old; told = M.told mem.old })
-        (record { mem = M.mem mem.new; fetches = M.fetches mem.new; told = M.told mem.new }) result }
+    ensures { LeavesImage funs.now (M.state mem.old) (M.state mem.new) result }
 {
     let main = match main_address(funs) {
         Some(main) => main,
@@ -78,9 +77,7 @@ fn regions_of(text_len: u64) -> [Region; 3]
 /// Maps the regions, puts the text and the address in the slot, and seals.
 fn place<M: Memory>(mem: &mut M, text: &[u8], main: u64) -> Result<(), ImageError>
     requires { (0 < length text.now) × (length text.now ≤ 2 ^ 24) }
-    ensures { Places text.now main
-        (record { mem = M.mem mem.old; fetches = M.fetches mem.old; told = M.told mem.old })
-        (record { mem = M.mem mem.new; fetches = M.fetches mem.new; told = M.told mem.new }) result }
+    ensures { Places text.now main (M.state mem.old) (M.state mem.new) result }
 {
     if mem.map(&regions_of(text.len() as u64)).is_err() {
         return Err(ImageError::NoMemory);
@@ -91,9 +88,8 @@ fn place<M: Memory>(mem: &mut M, text: &[u8], main: u64) -> Result<(), ImageErro
 
 /// Puts the text and the address in the slot into fresh regions, and seals.
 fn fill<M: Memory>(mem: &mut M, text: &[u8], main: u64)
-    requires { (0 < length text.now) × (length text.now ≤ 2 ^ 24) × (M.mem mem.old ≡ mapped (regions_of (length text.now))) }
-    ensures filled { M.mem mem.new ≡ memory_of text.now main }
-    ensures no_fetch { (M.fetches mem.new ≡ M.fetches mem.old) × (M.told mem.new ≡ M.told mem.old) }
+    requires { (0 < length text.now) × (length text.now ≤ 2 ^ 24) × ((M.state mem.old).mem ≡ mapped (regions_of (length text.now))) }
+    ensures { M.state mem.new ≡ with_mem (M.state mem.old) (memory_of text.now main) }
 {
     let _ = mem.put(TEXT_START, text);
     let _ = mem.put(DATA_START, &main.to_le_bytes());

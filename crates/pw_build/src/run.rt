@@ -1,6 +1,9 @@
 //! Runs the image of a program.
 ghost use Rattle.std.specs.Prelude.{◌≡◌, ◌≤◌};
 ghost use Rattle.pw_base.specs.Limits.{given_steps};
+ghost use Rattle.pw_io.specs.Sink.{SinkState};
+ghost use Rattle.pw_io.specs.Store.{StoreState};
+ghost use Rattle.pw_hart.specs.Outside.{outside};
 ghost use Rattle.pw_first_agree.specs.Image.{CanPlace, image};
 ghost use Rattle.pw_build.specs.Meant.{IsMeant};
 ghost use Rattle.pw_build.specs.Executed.{HasMain, IsFresh, Executes, Flushes};
@@ -35,17 +38,17 @@ pub fn execute<M: Memory, I: Source, O: Sink>(
     input: &mut I,
     out: &mut O,
 ) -> Ended
-    requires has_image { M.mem mem.old ≡ image funs.now }
+    requires has_image { (M.state mem.old).mem ≡ image funs.now }
     requires placed { CanPlace funs.now }
     requires has_main { HasMain funs.now }
     requires bound { (1 ≤ steps) × (steps ≤ given_steps) }
-    ensures executes { Executes funs.now steps
-        (record { mem = M.mem mem.old; fetches = M.fetches mem.old; told = M.told mem.old; input = I.state input.old; out = O.state out.old })
-        (record { mem = M.mem mem.new; fetches = M.fetches mem.new; told = M.told mem.new; input = I.state input.new; out = O.state out.new })
+    ensures executes { (store : StoreState) (messages : SinkState) → Executes funs.now steps
+        (outside store (I.state input.old) (O.state out.old) messages (M.state mem.old))
+        (outside store (I.state input.new) (O.state out.new) messages (M.state mem.new))
         result }
-    ensures meant { IsMeant funs.now
-        (record { mem = M.mem mem.old; fetches = M.fetches mem.old; told = M.told mem.old; input = I.state input.old; out = O.state out.old })
-        (record { mem = M.mem mem.new; fetches = M.fetches mem.new; told = M.told mem.new; input = I.state input.new; out = O.state out.new })
+    ensures meant { (store : StoreState) (messages : SinkState) → IsMeant funs.now
+        (outside store (I.state input.old) (O.state out.old) messages (M.state mem.old))
+        (outside store (I.state input.new) (O.state out.new) messages (M.state mem.new))
         result }
 {
     let mut hart = fresh(steps);

@@ -1,6 +1,6 @@
 -- What is known of a run that ended with a value: how it began, and that it is as meant.
 use Rattle.std.proofs.Common.{◌≡◌, ℕ, List, Ok, ap, subst, ◌∙◌}
-use Rattle.pw_cmd.specs.Outside.{Outside, given}
+use Rattle.pw_hart.specs.Outside.{Outside}
 use Rattle.pw_build.specs.declared.run.Ended.{Ended}
 use Rattle.pw_build.specs.declared.run.Ended.TheVariants.{Exit, ReadFault, WriteFault}
 use Rattle.pw_build.specs.Meant.{IsMeant, EndsAsMeant}
@@ -9,13 +9,14 @@ use Rattle.pw_cmd.specs.Words.{AsksForOne}
 use Rattle.pw_cmd.specs.Primitives.{outcome_of}
 use Rattle.pw_cmd.specs.Commands.{one, performs}
 use Rattle.pw_cmd.specs.Shows.{Began}
+use Rattle.pw_cmd.proofs.StageLaws.{run_keeps_files}
 use Rattle.pw_cmd.proofs.Inversion.{then_gave, call_gave}
 
 -- A run began, and ended with this value as meant.
 pub record Ran (words : List (List ℕ)) (old new : Outside) (value : ℕ) : Type 0 where
   pub start : Outside
   pub began : Began words old new start
-  pub meant : EndsAsMeant began.funs (given start) (given new) value
+  pub meant : EndsAsMeant began.funs start new value
 
 -- an answer with a value is that of an exit
 exited : (value : ℕ) (ended : Ended) → Ok (outcomes.Ended value) ≡ outcome_of ended → ended ≡ Exit value
@@ -38,7 +39,7 @@ ran_one words file old new value asks done =
     let start : Outside = i.1 in
     let looked : f.1 ≡ r.1 = formed.1 ∙ compiled.1 in
     let store : new.store ≡ r.1.store =
-    run.files ∙ ap (λ o. o.store) filled.1 ∙ ap (λ o. o.store) looked in
+    run_keeps_files f.0 start new _ run ∙ ap (λ o. o.store) filled.1 ∙ ap (λ o. o.store) looked in
     record {
       start = start;
       began = record {
@@ -52,7 +53,7 @@ ran_one words file old new value asks done =
         input = ap (λ o. o.input) filled.1 ∙ ap (λ o. o.input) looked ∙ ap (λ o. o.input) read.1;
         out = ap (λ o. o.out) filled.1 ∙ ap (λ o. o.out) looked ∙ ap (λ o. o.out) read.1;
       };
-      meant = subst (λ ended. IsMeant f.0 (given start) (given new) ended) (exited value run.ended run.result_is) run.meant;
+      meant = subst (λ ended. IsMeant f.0 start new ended) (exited value run.ended run.result_is) run.meant;
     }
 
 -- the words were carried out and gave a value

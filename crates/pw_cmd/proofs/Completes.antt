@@ -12,11 +12,10 @@ use Rattle.pw_front.specs.declared.error.FrontError.TheVariants as fronts
 use Rattle.pw_types.specs.declared.error.TypeError.TheVariants as types
 use Rattle.pw_front.specs.Units.{IsTypedUnitOf, FaultOf}
 use Rattle.pw_front.proofs.OneReading.{one_typed_unit, unit_or_fault}
-use Rattle.pw_io.specs.declared.ports.StoreError.TheVariants as stores
+use Rattle.pw_io.specs.declared.errors.ReadError.TheVariants as stores
 use Rattle.pw_io.specs.Faults.{Rises}
-use Rattle.pw_io.specs.Sink.{SinkState}
 use Rattle.pw_io.specs.Store.{Files, StandsIn, PassesLimit}
-use Rattle.pw_cmd.specs.Outside.{Outside, given}
+use Rattle.pw_hart.specs.Outside.{Outside}
 use Rattle.pw_first_agree.specs.Image.{main_writer}
 use Rattle.pw_first_agree.specs.Meaning.{value_of}
 use Rattle.pw_build.specs.declared.memory_image.ImageError.TheVariants as images
@@ -27,7 +26,7 @@ use Rattle.pw_cmd.specs.declared.answer.Outcome.TheVariants as outcomes
 use Rattle.pw_cmd.specs.declared.answer.Stop.TheVariants.{ReadFailed, WriteFailed, NoMemory}
 use Rattle.pw_cmd.specs.declared.words.CommandError.TheVariants as errors
 use Rattle.pw_cmd.specs.Answer.{Answer, status_of_value, message_line, status_of}
-use Rattle.pw_cmd.specs.Answers.{Answers}
+use Rattle.pw_cmd.specs.Answers.{Answers, unreported}
 use Rattle.pw_cmd.specs.Message.{Reports}
 use Rattle.pw_cmd.specs.Stages.{Then, stopped, went_on}
 use Rattle.pw_cmd.specs.Primitives.{JudgesWords, stop_of_words, ReadsFile, stop_of_read, Compiles, stop_of_front, compiles, NoForm, OtherForm, OutOfMemory, HasForm, stop_of_form, forms, Fills, stop_of_image, fills, outcome_of, runs_image}
@@ -90,7 +89,7 @@ module _ (main : Writer) (answer : Answer) where
   -- the run
   done_run : (funs : List Writer) (old new : Outside) → main_writer funs ≡ Some main → runs_image funs old new answer → Done main answer
   done_run funs old new has r = by_end r.ended r.meant r.result_is where
-    by_end : (ended : Ended) → IsMeant funs (given old) (given new) ended → answer ≡ outcome_of ended → Done main answer
+    by_end : (ended : Ended) → IsMeant funs old new ended → answer ≡ outcome_of ended → Done main answer
     by_end (Exit value) m is =
         let mains : m.main ≡ main = some_same (sym m.is_main ∙ has) in
         gives (is ∙ ap (λ v. Ok (outcomes.Ended v)) (m.value_is ∙ ap value_of mains))
@@ -154,23 +153,23 @@ done_words words funs main answer old new p has (stopped why s is) = let f = cal
 rises_not_same : (old new : ℕ) → Rises old new → new ≡ old → old < 2 ^ 64 - 1 → ⊥
 rises_not_same old new rises same low = let rose : min (old + 1) (2 ^ 64 - 1) ≤ new = rises.rose in absurd (grind arith)
 
-no_read_failed : (old new : Outside) (msg : SinkState) → CountsCanRise old msg → NoneFailed old new → FailuresStop old new (Some ReadFailed) → ⊥
-no_read_failed old new msg low none (inl rose) = rises_not_same old.store.faults new.store.faults rose none.store low.store
-no_read_failed old new msg low none (inr rose) = rises_not_same old.input.faults new.input.faults rose none.input low.input
+no_read_failed : (old new : Outside) → CountsCanRise old → NoneFailed old new → FailuresStop old new (Some ReadFailed) → ⊥
+no_read_failed old new low none (inl rose) = rises_not_same old.store.faults new.store.faults rose none.store low.store
+no_read_failed old new low none (inr rose) = rises_not_same old.input.faults new.input.faults rose none.input low.input
 
 -- a program with a `main` completes where no call fails
-pub completes : (words : List (List ℕ)) (old new : Outside) (msg msg' : SinkState) (status : ℕ) → Answers words old new msg msg' status → Completes words old new msg msg' status
-completes words old new msg msg' status a funs main p has low none messages = by_report a.reported where
-  law : FailuresStop old new (stop_in a.answer)
-  law = words_failures words old new a.answer a.performed
+pub completes : (words : List (List ℕ)) (old new : Outside) (status : ℕ) → Answers words old new status → Completes words old new status
+completes words old new status a funs main p has low none = by_report a.reported where
+  law : FailuresStop old (unreported old new) (stop_in a.answer)
+  law = words_failures words old (unreported old new) a.answer a.performed
 
   by_done : status ≡ status_of a.answer → Done main a.answer → (status ≡ status_of_value (value_of main)) ⊎ (status ≡ 8)
   by_done status_is (gives is) = inl (status_is ∙ ap status_of is)
   by_done status_is (no_memory is) = inr (status_is ∙ ap status_of is)
-  by_done status_is (read_failed is) = absurd (no_read_failed old new msg low none (subst (λ answer. FailuresStop old new (stop_in answer)) is law))
+  by_done status_is (read_failed is) = absurd (no_read_failed old new low none (subst (λ answer. FailuresStop old (unreported old new) (stop_in answer)) is law))
   by_done status_is (write_failed is) =
-      absurd (rises_not_same old.out.faults new.out.faults (subst (λ answer. FailuresStop old new (stop_in answer)) is law) none.out low.out)
+      absurd (rises_not_same old.out.faults new.out.faults (subst (λ answer. FailuresStop old (unreported old new) (stop_in answer)) is law) none.out low.out)
 
-  by_report : Reports (message_line words a.answer) (status_of a.answer) msg msg' status → (status ≡ status_of_value (value_of main)) ⊎ (status ≡ 8)
-  by_report (inr broke) = absurd (rises_not_same msg.faults msg'.faults broke.1.fails.faults messages low.messages)
-  by_report (inl said) = by_done said.0 (done_words words funs main a.answer old new p has a.performed)
+  by_report : Reports (message_line words a.answer) (status_of a.answer) old.messages new.messages status → (status ≡ status_of_value (value_of main)) ⊎ (status ≡ 8)
+  by_report (inr broke) = absurd (rises_not_same old.messages.faults new.messages.faults broke.1.fails.faults none.messages low.messages)
+  by_report (inl said) = by_done said.0 (done_words words funs main a.answer old (unreported old new) p has a.performed)

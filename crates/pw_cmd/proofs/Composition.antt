@@ -5,7 +5,7 @@ use Rattle.pw_io.specs.declared.ports.Asked.{Asked}
 use Rattle.pw_io.specs.Faults.{Rises}
 use Rattle.pw_io.specs.Store.{StoreState, called_all}
 use Rattle.pw_io.proofs.Stores.{called_all_none, called_all-called_all}
-use Rattle.pw_cmd.specs.Outside.{Outside}
+use Rattle.pw_hart.specs.Outside.{Outside}
 use Rattle.pw_cmd.specs.declared.answer.Stop.{Stop}
 use Rattle.pw_cmd.specs.declared.answer.Stop.TheVariants.{Usage, Refused, ReadFailed, WriteFailed, NoMemory}
 use Rattle.pw_cmd.specs.Stages.{Stage, Then, stopped, went_on, CallsBelow, gave, failed}
@@ -46,14 +46,23 @@ none_failed old new same = record {
   store = ap (λ o. o.store.faults) same;
   input = ap (λ o. o.input.faults) same;
   out = ap (λ o. o.out.faults) same;
+  messages = ap (λ o. o.messages.faults) same;
+}
+
+none_failed_twice : (old mid new : Outside) → NoneFailed old mid → NoneFailed mid new → NoneFailed old new
+none_failed_twice old mid new a b = record {
+  store = b.store ∙ a.store;
+  input = b.input ∙ a.input;
+  out = b.out ∙ a.out;
+  messages = b.messages ∙ a.messages;
 }
 
 -- where none failed first, what is known of the counts after it is known from before it
 pub failures_go_on : (old mid new : Outside) (stop : Option Stop) → FailuresStop old mid None → FailuresStop mid new stop → FailuresStop old new stop
-failures_go_on old mid new None a b = record { store = b.store ∙ a.store; input = b.input ∙ a.input; out = b.out ∙ a.out }
-failures_go_on old mid new (Some Usage) a b = record { store = b.store ∙ a.store; input = b.input ∙ a.input; out = b.out ∙ a.out }
-failures_go_on old mid new (Some (Refused why)) a b = record { store = b.store ∙ a.store; input = b.input ∙ a.input; out = b.out ∙ a.out }
-failures_go_on old mid new (Some NoMemory) a b = record { store = b.store ∙ a.store; input = b.input ∙ a.input; out = b.out ∙ a.out }
+failures_go_on old mid new None a b = none_failed_twice old mid new a b
+failures_go_on old mid new (Some Usage) a b = none_failed_twice old mid new a b
+failures_go_on old mid new (Some (Refused why)) a b = none_failed_twice old mid new a b
+failures_go_on old mid new (Some NoMemory) a b = none_failed_twice old mid new a b
 failures_go_on old mid new (Some ReadFailed) a (inl rose) = inl (subst (λ k. Rises k new.store.faults) a.store rose)
 failures_go_on old mid new (Some ReadFailed) a (inr rose) = inr (subst (λ k. Rises k new.input.faults) a.input rose)
 failures_go_on old mid new (Some WriteFailed) a rose = subst (λ k. Rises k new.out.faults) a.out rose

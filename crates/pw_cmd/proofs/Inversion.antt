@@ -1,6 +1,6 @@
 -- What is known of a stage from its answer.
 use Rattle.std.proofs.Common.{◌≡◌, Result, Ok, Err, ap, sym, subst, ◌∙◌}
-use Rattle.pw_cmd.specs.Outside.{Outside}
+use Rattle.pw_hart.specs.Outside.{Outside}
 use Rattle.pw_cmd.specs.declared.answer.Stop.{Stop}
 use Rattle.pw_cmd.specs.Stages.{Stage, Then, stopped, went_on, CallsBelow, gave, failed}
 

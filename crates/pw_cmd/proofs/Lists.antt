@@ -2,7 +2,7 @@
 use Rattle.std.proofs.Common.{◌≡◌, ℕ, ◌+◌, List, [], ◌∷◌, ◌++◌, Option, Some, None, Ok, Err, ap, sym, subst, append-nil, inl, inr}
 use Rattle.std.specs.Prelude.{◌⊎◌}
 use Rattle.pw_io.specs.declared.ports.Asked.{Asked}
-use Rattle.pw_cmd.specs.Outside.{Outside}
+use Rattle.pw_hart.specs.Outside.{Outside}
 use Rattle.pw_cmd.specs.declared.answer.Stop.{Stop}
 use Rattle.pw_cmd.specs.declared.answer.Stop.TheVariants.{NoMemory}
 use Rattle.pw_cmd.specs.Stages.{Stage, gives, takes_memory, each, when}

@@ -1,16 +1,18 @@
 -- The laws that each stage obeys which commands are made of.
 use Rattle.std.proofs.Common.{◌≡◌, ℕ, List, [], ◌∷◌, Option, Some, None, Ok, Err, refl, ap, sym, subst, inl, inr}
 use Rattle.pw_io.specs.declared.ports.Asked.TheVariants.{Read}
-use Rattle.pw_io.specs.declared.ports.StoreError.TheVariants as stores
+use Rattle.pw_io.specs.declared.errors.ReadError.TheVariants as stores
 use Rattle.pw_first.specs.declared.writer.Writer.{Writer}
 use Rattle.pw_tree.specs.declared.tunit.TUnit.{TUnit}
 use Rattle.pw_cmd.specs.declared.fault.FrontFault.{FrontFault}
 use Rattle.pw_cmd.specs.Faults.{fault_of}
-use Rattle.pw_cmd.specs.Outside.{Outside, given}
+use Rattle.pw_hart.specs.Outside.{Outside}
 use Rattle.pw_build.specs.declared.memory_image.ImageError.TheVariants as images
 use Rattle.pw_build.specs.declared.run.Ended.{Ended}
 use Rattle.pw_build.specs.declared.run.Ended.TheVariants.{Exit, ReadFault, WriteFault}
+use Rattle.pw_build.specs.Executed.{Executes}
 use Rattle.pw_build.specs.Meant.{IsMeant}
+use Rattle.pw_base.specs.Limits.{default_steps}
 use Rattle.pw_cmd.specs.declared.answer.Stop.{Stop}
 use Rattle.pw_cmd.specs.declared.words.CommandError.TheVariants as words
 use Rattle.pw_cmd.specs.Primitives.{JudgesWords, stop_of_words, judges, ReadsFile, stop_of_read, reads, Compiles, stop_of_fault, stop_of_front, compiles, NoForm, OtherForm, OutOfMemory, HasForm, stop_of_form, forms, Fills, stop_of_image, fills, outcome_of, runs_image}
@@ -82,7 +84,12 @@ pub reads_failures : (number : ℕ) (file : List ℕ) → Obeys FailuresStop (re
 reads_failures number file = obeys_calls FailuresStop (ReadsFile file) (stop_of_read number) value_law fails
   where
     same : (old new : Outside) → new.store.faults ≡ old.store.faults → new ≡ record old { store = new.store } → NoneFailed old new
-    same old new faults rest = record { store = faults; input = ap (λ o. o.input.faults) rest; out = ap (λ o. o.out.faults) rest }
+    same old new faults rest = record {
+      store = faults;
+      input = ap (λ o. o.input.faults) rest;
+      out = ap (λ o. o.out.faults) rest;
+      messages = ap (λ o. o.messages.faults) rest;
+    }
 
     value_law : (old new : Outside) (text : _) → ReadsFile file old new (Ok text) → NoneFailed old new
     value_law old new text s = same old new (ap (λ t. t.faults) s.0.0) s.1
@@ -120,7 +127,12 @@ pub fills_failures : (funs : List Writer) → Obeys FailuresStop (fills funs)
 fills_failures funs = obeys_calls FailuresStop (Fills funs) stop_of_image (λ old new value s. same old new s.1) fails
   where
     same : (old new : Outside) → new ≡ record old { memory = new.memory } → NoneFailed old new
-    same old new rest = record { store = ap (λ o. o.store.faults) rest; input = ap (λ o. o.input.faults) rest; out = ap (λ o. o.out.faults) rest }
+    same old new rest = record {
+      store = ap (λ o. o.store.faults) rest;
+      input = ap (λ o. o.input.faults) rest;
+      out = ap (λ o. o.out.faults) rest;
+      messages = ap (λ o. o.messages.faults) rest;
+    }
 
     fails : (old new : Outside) (error : _) → Fills funs old new (Err error) → FailuresStop old new (Some (stop_of_image error))
     fails old new images.NoMain s = same old new s.1
@@ -143,14 +155,29 @@ fills_calls funs =
 
 -- ---- the run
 
+-- a run leaves the files and the messages as they are
+run_leaves : (funs : List Writer) (old new : Outside) (ended : Ended) → Executes funs default_steps old new ended → (new.store ≡ old.store) × (new.messages ≡ old.messages)
+run_leaves funs old new (Exit value) e = (e.runs.files, e.runs.messages)
+run_leaves funs old new ReadFault e = (e.files, e.messages)
+run_leaves funs old new WriteFault (inl e) = (e.files, e.messages)
+run_leaves funs old new WriteFault (inr e) = (e.runs.files, e.runs.messages)
+
+pub run_keeps_files : (funs : List Writer) (old new : Outside) (result : _) → runs_image funs old new result → new.store ≡ old.store
+run_keeps_files funs old new result r = (run_leaves funs old new r.ended r.executes).0
+
 pub runs_failures : (funs : List Writer) → Obeys FailuresStop (runs_image funs)
 runs_failures funs old new result r =
-    subst (λ answer. FailuresStop old new (stop_in answer)) (sym r.result_is) (by_end r.ended r.files r.meant)
+    subst (λ answer. FailuresStop old new (stop_in answer)) (sym r.result_is) (by_end r.ended (run_leaves funs old new r.ended r.executes) r.meant)
   where
-    by_end : (ended : Ended) → new.store ≡ old.store → IsMeant funs (given old) (given new) ended → FailuresStop old new (stop_in (outcome_of ended))
-    by_end (Exit value) store m = record { store = ap (λ s. s.faults) store; input = ap (λ s. s.faults) m.input; out = ap (λ s. s.faults) m.out }
-    by_end ReadFault store m = inr m.input.faults
-    by_end WriteFault store m = m.out.faults
+    by_end : (ended : Ended) → (new.store ≡ old.store) × (new.messages ≡ old.messages) → IsMeant funs old new ended → FailuresStop old new (stop_in (outcome_of ended))
+    by_end (Exit value) left m = record {
+      store = ap (λ s. s.faults) left.0;
+      input = ap (λ s. s.faults) m.input;
+      out = ap (λ s. s.faults) m.out;
+      messages = ap (λ s. s.faults) left.1;
+    }
+    by_end ReadFault left m = inr m.input.faults
+    by_end WriteFault left m = m.out.faults
 
 pub runs_never_refuse : (funs : List Writer) → Obeys NeverRefuses (runs_image funs)
 runs_never_refuse funs old new result r = subst (λ answer. NeverRefuses old new (stop_in answer)) (sym r.result_is) (by_end r.ended)
@@ -164,7 +191,7 @@ pub runs_calls : (funs : List Writer) → Obeys (MakesCalls []) (runs_image funs
 runs_calls funs old new result r = by_stop (stop_in result)
   where
     same : new.store.calls ≡ old.store.calls
-    same = ap (λ s. s.calls) r.files
+    same = ap (λ s. s.calls) (run_keeps_files funs old new result r)
 
     by_stop : (stop : Option Stop) → MakesCalls [] old new stop
     by_stop None = no_calls old.store new.store same

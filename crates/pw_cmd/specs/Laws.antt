@@ -4,7 +4,7 @@ use Rattle.pw_io.specs.declared.ports.Asked.{Asked}
 use Rattle.pw_io.specs.declared.ports.Asked.TheVariants.{Read}
 use Rattle.pw_io.specs.Faults.{Rises}
 use Rattle.pw_io.specs.Store.{StoreState, called_all}
-use Rattle.pw_cmd.specs.Outside.{Outside}
+use Rattle.pw_hart.specs.Outside.{Outside}
 use Rattle.pw_cmd.specs.declared.answer.Stop.{Stop}
 use Rattle.pw_cmd.specs.declared.answer.Stop.TheVariants.{Usage, Refused, ReadFailed, WriteFailed, NoMemory}
 use Rattle.pw_cmd.specs.Stages.{Stage, each}
@@ -24,11 +24,12 @@ stop_in (Err why) = Some why
 abbrev pub Obeys : {A : Type 0} → Law → Stage A → Type 0
 Obeys {A} law stage = (old new : Outside) (result : Result A Stop) → stage old new result → law old new (stop_in result)
 
--- no call of the store, the input or the output failed
+-- no call of the store, the input, the output or the messages failed
 pub record NoneFailed (old new : Outside) : Type 0 where
   pub store : new.store.faults ≡ old.store.faults
   pub input : new.input.faults ≡ old.input.faults
   pub out : new.out.faults ≡ old.out.faults
+  pub messages : new.messages.faults ≡ old.messages.faults
 
 -- a read failed exactly where that is the reason, a write likewise, and else no call failed
 abbrev pub FailuresStop : Law

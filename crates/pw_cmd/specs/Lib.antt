@@ -1,7 +1,6 @@
 -- The commands, in the order to read: the words, answers with their status and line, stages, the commands as stages; what the
 -- call that the program is answers, the laws that commands obey, and what a reader may take from a status; and last the
 -- program from its arguments on.
-pub mod Outside
 pub mod Words
 pub mod Faults
 pub mod Answer

@@ -11,10 +11,10 @@ use Rattle.pw_front.specs.declared.error.FrontError.{FrontError}
 use Rattle.pw_cmd.specs.declared.fault.FrontFault.{FrontFault}
 use Rattle.pw_cmd.specs.Faults.{fault_of}
 use Rattle.pw_front.specs.Units.{IsTypedUnitOf, FaultOf}
-use Rattle.pw_io.specs.declared.ports.StoreError.{StoreError}
-use Rattle.pw_io.specs.declared.ports.StoreError.TheVariants as stores
+use Rattle.pw_io.specs.declared.errors.ReadError.{ReadError}
+use Rattle.pw_io.specs.declared.errors.ReadError.TheVariants as stores
 use Rattle.pw_io.specs.Store.{Reads}
-use Rattle.pw_cmd.specs.Outside.{Outside, given}
+use Rattle.pw_hart.specs.Outside.{Outside}
 use Rattle.pw_build.specs.declared.memory_image.ImageError.{ImageError}
 use Rattle.pw_build.specs.declared.memory_image.ImageError.TheVariants as images
 use Rattle.pw_build.specs.Built.{LeavesImage}
@@ -51,11 +51,11 @@ judges asked = CallsBelow (JudgesWords asked) stop_of_words
 -- ---- a file
 
 -- a read changes nothing but the store
-abbrev pub ReadsFile : List ℕ → Outside → Outside → Result (Vec ℕ Global) StoreError → Type 0
+abbrev pub ReadsFile : List ℕ → Outside → Outside → Result (Vec ℕ Global) ReadError → Type 0
 ReadsFile file old new answer = Reads old.store file source_bytes new.store answer × (new ≡ record old { store = new.store })
 
 -- why a read that gives no text stops the command
-abbrev pub stop_of_read : ℕ → StoreError → Stop
+abbrev pub stop_of_read : ℕ → ReadError → Stop
 stop_of_read number stores.Failed = ReadFailed
 stop_of_read number (stores.TooLong limit) = Refused (File number (TooLong limit))
 stop_of_read number stores.NoMemory = NoMemory
@@ -125,10 +125,9 @@ outcome_of (Exit value) = Ok (outcomes.Ended value)
 outcome_of ReadFault = Err ReadFailed
 outcome_of WriteFault = Err WriteFailed
 
--- The image ran with the counted steps of a run that gives none, and ended so, as the source means; every file is as it was.
+-- The image ran with the counted steps of a run that gives none, and ended so, as the source means.
 pub record runs_image (funs : List Writer) (old new : Outside) (result : Result Outcome Stop) : Type 0 where
   pub ended : Ended
-  pub executes : Executes funs default_steps (given old) (given new) ended
-  pub meant : IsMeant funs (given old) (given new) ended
-  pub files : new.store ≡ old.store
+  pub executes : Executes funs default_steps old new ended
+  pub meant : IsMeant funs old new ended
   pub result_is : result ≡ outcome_of ended

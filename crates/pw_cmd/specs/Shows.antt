@@ -9,9 +9,9 @@ use Rattle.pw_first.specs.FirstForm.{IsFirstForm}
 use Rattle.pw_front.specs.Units.{IsTypedUnitOf}
 use Rattle.pw_io.specs.declared.ports.Asked.TheVariants.{Read}
 use Rattle.pw_io.specs.Faults.{Rises}
-use Rattle.pw_io.specs.Sink.{SinkState, wrote, flushed_all}
+use Rattle.pw_io.specs.Sink.{wrote, flushed_all}
 use Rattle.pw_io.specs.Store.{Files, StoreState, StandsIn, called}
-use Rattle.pw_cmd.specs.Outside.{Outside, given}
+use Rattle.pw_hart.specs.Outside.{Outside}
 use Rattle.pw_first_agree.specs.Image.{main_writer}
 use Rattle.pw_first_agree.specs.Meaning.{output_of, value_of}
 use Rattle.pw_build.specs.Built.{HoldsImage}
@@ -55,29 +55,29 @@ pub record Began (words : List (List ℕ)) (old new start : Outside) : Type 0 wh
 -- writes and is flushed, the input lost nothing, each fetched address lies in kept code, and the text in memory is the
 -- image's. And that output, that rest of the input and that value are what the project of this one unit means, for each
 -- input.
-pub record ShowsMeaning (words : List (List ℕ)) (old new : Outside) (msg msg' : SinkState) (status : ℕ) : Type 0 where
+pub record ShowsMeaning (words : List (List ℕ)) (old new : Outside) (status : ℕ) : Type 0 where
   pub start : Outside
   pub began : Began words old new start
   pub value : ℕ
-  pub meant : EndsAsMeant began.funs (given start) (given new) value
+  pub meant : EndsAsMeant began.funs start new value
   pub means : (input : List ℕ) →
       meaning ((unit_of began.form.unit ∷ []) ∷ []) input default_steps ≡ record { output = output_of meant.main; rest = input; end = exit value }
   pub status_is : status ≡ status_of_value value
-  pub line : msg' ≡ flushed_all (wrote (line_of_value value) msg)
+  pub line : new.messages ≡ flushed_all (wrote (line_of_value value) old.messages)
 
 -- a status 0 or 1 comes only so
-abbrev pub Means : List (List ℕ) → Outside → Outside → SinkState → SinkState → ℕ → Type 0
-Means words old new msg msg' status = (status ≡ 0) ⊎ (status ≡ 1) → ShowsMeaning words old new msg msg' status
+abbrev pub Means : List (List ℕ) → Outside → Outside → ℕ → Type 0
+Means words old new status = (status ≡ 0) ⊎ (status ≡ 1) → ShowsMeaning words old new status
 
 -- ---- failures
 
 -- A status 6 comes only where the file that the words ask for failed to be read, or the input failed; a status 7 only where the
 -- output or the messages failed; and with every other status no call failed.
-pub record ReportsFailures (words : List (List ℕ)) (old new : Outside) (msg msg' : SinkState) (status : ℕ) : Type 0 where
+pub record ReportsFailures (words : List (List ℕ)) (old new : Outside) (status : ℕ) : Type 0 where
   pub read : status ≡ 6 → (file : List ℕ) × AsksForOne words file ×
       (Rises old.store.faults new.store.faults ⊎ Rises old.input.faults new.input.faults)
-  pub write : status ≡ 7 → Rises old.out.faults new.out.faults ⊎ Rises msg.faults msg'.faults
-  pub none : status ≢ 6 → status ≢ 7 → NoneFailed old new × (msg'.faults ≡ msg.faults)
+  pub write : status ≡ 7 → Rises old.out.faults new.out.faults ⊎ Rises old.messages.faults new.messages.faults
+  pub none : status ≢ 6 → status ≢ 7 → NoneFailed old new
 
 -- ---- refusals and calls
 
@@ -103,15 +103,15 @@ pub record AsksForProgram (words : List (List ℕ)) (files : Option Files) (funs
   pub form : HasFirstForm text funs
 
 -- no count of failed calls stands at its end
-pub record CountsCanRise (old : Outside) (msg : SinkState) : Type 0 where
+pub record CountsCanRise (old : Outside) : Type 0 where
   pub store : old.store.faults < 2 ^ 64 - 1
   pub input : old.input.faults < 2 ^ 64 - 1
   pub out : old.out.faults < 2 ^ 64 - 1
-  pub messages : msg.faults < 2 ^ 64 - 1
+  pub messages : old.messages.faults < 2 ^ 64 - 1
 
 -- a program with a `main`, where no call fails, gives the status of what `main` returns, unless memory is refused
-abbrev pub Completes : List (List ℕ) → Outside → Outside → SinkState → SinkState → ℕ → Type 0
-Completes words old new msg msg' status =
+abbrev pub Completes : List (List ℕ) → Outside → Outside → ℕ → Type 0
+Completes words old new status =
     (funs : List Writer) (main : Writer) → AsksForProgram words old.store.files funs → main_writer funs ≡ Some main
-    → CountsCanRise old msg → NoneFailed old new → msg'.faults ≡ msg.faults
+    → CountsCanRise old → NoneFailed old new
     → (status ≡ status_of_value (value_of main)) ⊎ (status ≡ 8)

@@ -1,6 +1,6 @@
 -- Stages of a command: what each may answer between two states of the outside, and how one follows another.
 use Rattle.std.specs.Prelude.{◌≡◌, ℕ, ◌+◌, ◌⊎◌, List, [], ◌∷◌, Option, Some, None, Result, Ok, Err}
-use Rattle.pw_cmd.specs.Outside.{Outside}
+use Rattle.pw_hart.specs.Outside.{Outside}
 use Rattle.pw_cmd.specs.declared.answer.Stop.{Stop}
 use Rattle.pw_cmd.specs.declared.answer.Stop.TheVariants.{NoMemory}
 

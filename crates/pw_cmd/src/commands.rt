@@ -1,5 +1,5 @@
 //! The call that the program is: words in, a status and the memory out.
-ghost use Rattle.pw_cmd.specs.Outside.{held_memory, outside};
+ghost use Rattle.pw_hart.specs.Outside.{outside};
 ghost use Rattle.pw_cmd.specs.Answers.{Answers};
 ghost use Rattle.pw_cmd.specs.Shows.{CallsInOrder, Completes, LeavesRefused, Means, ReportsFailures};
 ghost use Rattle.pw_cmd.specs.Words.{texts};
@@ -22,27 +22,23 @@ pub fn top<S: Store, I: Source, O: Sink, E: Sink, M: Memory>(
     mem: M,
 ) -> (u8, M)
     ensures answers { Answers (texts words.now)
-        (outside (S.state store.old) (I.state input.old) (O.state out.old) (held_memory (M.mem mem) (M.fetches mem) (M.told mem)))
-        (outside (S.state store.new) (I.state input.new) (O.state out.new) (held_memory (M.mem result.1) (M.fetches result.1) (M.told result.1)))
-        (E.state msg.old) (E.state msg.new) result.0 }
+        (outside (S.state store.old) (I.state input.old) (O.state out.old) (E.state msg.old) (M.state mem))
+        (outside (S.state store.new) (I.state input.new) (O.state out.new) (E.state msg.new) (M.state result.1)) result.0 }
     ensures means { Means (texts words.now)
-        (outside (S.state store.old) (I.state input.old) (O.state out.old) (held_memory (M.mem mem) (M.fetches mem) (M.told mem)))
-        (outside (S.state store.new) (I.state input.new) (O.state out.new) (held_memory (M.mem result.1) (M.fetches result.1) (M.told result.1)))
-        (E.state msg.old) (E.state msg.new) result.0 }
+        (outside (S.state store.old) (I.state input.old) (O.state out.old) (E.state msg.old) (M.state mem))
+        (outside (S.state store.new) (I.state input.new) (O.state out.new) (E.state msg.new) (M.state result.1)) result.0 }
     ensures failures { ReportsFailures (texts words.now)
-        (outside (S.state store.old) (I.state input.old) (O.state out.old) (held_memory (M.mem mem) (M.fetches mem) (M.told mem)))
-        (outside (S.state store.new) (I.state input.new) (O.state out.new) (held_memory (M.mem result.1) (M.fetches result.1) (M.told result.1)))
-        (E.state msg.old) (E.state msg.new) result.0 }
+        (outside (S.state store.old) (I.state input.old) (O.state out.old) (E.state msg.old) (M.state mem))
+        (outside (S.state store.new) (I.state input.new) (O.state out.new) (E.state msg.new) (M.state result.1)) result.0 }
     ensures completes { Completes (texts words.now)
-        (outside (S.state store.old) (I.state input.old) (O.state out.old) (held_memory (M.mem mem) (M.fetches mem) (M.told mem)))
-        (outside (S.state store.new) (I.state input.new) (O.state out.new) (held_memory (M.mem result.1) (M.fetches result.1) (M.told result.1)))
-        (E.state msg.old) (E.state msg.new) result.0 }
+        (outside (S.state store.old) (I.state input.old) (O.state out.old) (E.state msg.old) (M.state mem))
+        (outside (S.state store.new) (I.state input.new) (O.state out.new) (E.state msg.new) (M.state result.1)) result.0 }
     ensures refused { LeavesRefused
-        (outside (S.state store.old) (I.state input.old) (O.state out.old) (held_memory (M.mem mem) (M.fetches mem) (M.told mem)))
-        (outside (S.state store.new) (I.state input.new) (O.state out.new) (held_memory (M.mem result.1) (M.fetches result.1) (M.told result.1))) result.0 }
+        (outside (S.state store.old) (I.state input.old) (O.state out.old) (E.state msg.old) (M.state mem))
+        (outside (S.state store.new) (I.state input.new) (O.state out.new) (E.state msg.new) (M.state result.1)) result.0 }
     ensures calls { CallsInOrder (texts words.now)
-        (outside (S.state store.old) (I.state input.old) (O.state out.old) (held_memory (M.mem mem) (M.fetches mem) (M.told mem)))
-        (outside (S.state store.new) (I.state input.new) (O.state out.new) (held_memory (M.mem result.1) (M.fetches result.1) (M.told result.1))) }
+        (outside (S.state store.old) (I.state input.old) (O.state out.old) (E.state msg.old) (M.state mem))
+        (outside (S.state store.new) (I.state input.new) (O.state out.new) (E.state msg.new) (M.state result.1)) }
 {
     let mut mem = mem;
     let answer = perform(alloc, words, store, input, out, &mut mem);

@@ -1,9 +1,10 @@
 //! The command `one FILE`: the file is read, it is compiled, its unit is of the form that is built, the image is put into
 //! the memory, and it runs.
-ghost use Rattle.std.specs.Prelude.{◌≡◌, ◌≤◌, length, IfOk};
+ghost use Rattle.std.specs.Prelude.{◌≤◌, length, IfOk};
 ghost use Rattle.pw_base.specs.Limits.{source_bytes};
 ghost use Rattle.pw_io.specs.Store.{StoreState};
-ghost use Rattle.pw_cmd.specs.Outside.{Outside, held_memory, outside};
+ghost use Rattle.pw_io.specs.Sink.{SinkState};
+ghost use Rattle.pw_hart.specs.Outside.{Outside, outside};
 ghost use Rattle.pw_first_agree.specs.Image.{CanPlace};
 ghost use Rattle.pw_cmd.specs.Stages.{Then};
 ghost use Rattle.pw_cmd.specs.Primitives.{compiles, forms, fills, runs_image};
@@ -30,9 +31,9 @@ pub fn one<S: Store, I: Source, O: Sink, M: Memory>(
     out: &mut O,
     mem: &mut M,
 ) -> Result<Outcome, Stop>
-    ensures { one file.now
-        (outside (S.state store.old) (I.state input.old) (O.state out.old) (held_memory (M.mem mem.old) (M.fetches mem.old) (M.told mem.old)))
-        (outside (S.state store.new) (I.state input.new) (O.state out.new) (held_memory (M.mem mem.new) (M.fetches mem.new) (M.told mem.new))) result }
+    ensures { (messages : SinkState) → one file.now
+        (outside (S.state store.old) (I.state input.old) (O.state out.old) messages (M.state mem.old))
+        (outside (S.state store.new) (I.state input.new) (O.state out.new) messages (M.state mem.new)) result }
 {
     let text = read(alloc, FILE, file, store)?;
     let funs = functions_of(alloc, &text)?;
@@ -60,9 +61,9 @@ fn run_functions<M: Memory, I: Source, O: Sink>(
     out: &mut O,
 ) -> Result<Outcome, Stop>
     requires { CanPlace funs.now }
-    ensures { (store : StoreState) → Then (fills funs.now) (λ _. runs_image funs.now)
-        (outside store (I.state input.old) (O.state out.old) (held_memory (M.mem mem.old) (M.fetches mem.old) (M.told mem.old)))
-        (outside store (I.state input.new) (O.state out.new) (held_memory (M.mem mem.new) (M.fetches mem.new) (M.told mem.new))) result }
+    ensures { (store : StoreState) (messages : SinkState) → Then (fills funs.now) (λ _. runs_image funs.now)
+        (outside store (I.state input.old) (O.state out.old) messages (M.state mem.old))
+        (outside store (I.state input.new) (O.state out.new) messages (M.state mem.new)) result }
 {
     fill(alloc, funs, mem)?;
     run_image(funs, mem, input, out)

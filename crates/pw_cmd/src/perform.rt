@@ -1,5 +1,6 @@
 //! Does what the words ask for.
-ghost use Rattle.pw_cmd.specs.Outside.{held_memory, outside};
+ghost use Rattle.pw_io.specs.Sink.{SinkState};
+ghost use Rattle.pw_hart.specs.Outside.{outside};
 ghost use Rattle.pw_cmd.specs.Commands.{performs};
 ghost use Rattle.pw_cmd.specs.Words.{texts};
 
@@ -19,9 +20,9 @@ pub fn perform<S: Store, I: Source, O: Sink, M: Memory>(
     out: &mut O,
     mem: &mut M,
 ) -> Result<Outcome, Stop>
-    ensures { performs (texts words.now)
-        (outside (S.state store.old) (I.state input.old) (O.state out.old) (held_memory (M.mem mem.old) (M.fetches mem.old) (M.told mem.old)))
-        (outside (S.state store.new) (I.state input.new) (O.state out.new) (held_memory (M.mem mem.new) (M.fetches mem.new) (M.told mem.new))) result }
+    ensures { (messages : SinkState) → performs (texts words.now)
+        (outside (S.state store.old) (I.state input.old) (O.state out.old) messages (M.state mem.old))
+        (outside (S.state store.new) (I.state input.new) (O.state out.new) messages (M.state mem.new)) result }
 {
     let file = judge(alloc, words)?;
     one(alloc, &file, store, input, out, mem)

@@ -7,9 +7,10 @@ ghost use Rattle.pw_front.specs.Weights.{weight};
 ghost use Rattle.pw_io.specs.Source.{SourceState};
 ghost use Rattle.pw_io.specs.Sink.{SinkState};
 ghost use Rattle.pw_io.specs.Store.{StoreState};
-ghost use Rattle.pw_cmd.specs.Outside.{Outside, held_memory, outside};
+ghost use Rattle.pw_hart.specs.Outside.{Outside, outside};
 ghost use Rattle.pw_first_agree.specs.Image.{CanPlace};
-ghost use Rattle.pw_build.specs.Built.{Held, HoldsImage};
+ghost use Rattle.pw_mem.specs.States.{MemoryState};
+ghost use Rattle.pw_build.specs.Built.{HoldsImage};
 ghost use Rattle.pw_cmd.specs.Words.{texts};
 ghost use Rattle.pw_cmd.specs.Primitives.{judges, stop_of_words, reads, stop_of_read, compiles, stop_of_front, forms, fills, stop_of_image, runs_image, outcome_of};
 
@@ -21,7 +22,7 @@ use pw_base::{Limits, Name, NoMemory};
 use pw_build::{Ended, ImageError, execute, image};
 use pw_first::{Writer, writers};
 use pw_front::{FrontError, front};
-use pw_io::{Sink, Source, Store, StoreError};
+use pw_io::{ReadError, Sink, Source, Store};
 use pw_mem::Memory;
 use pw_tree::TUnit;
 use sqlite_items::Items;
@@ -54,8 +55,8 @@ pub fn read<S: Store>(
     file: &Name,
     store: &mut S,
 ) -> Result<Vec<u8>, Stop>
-    ensures reads { (input : SourceState) (out : SinkState) (memory : Held) → reads number file.now
-        (outside (S.state store.old) input out memory) (outside (S.state store.new) input out memory) result }
+    ensures reads { (input : SourceState) (out messages : SinkState) (memory : MemoryState) → reads number file.now
+        (outside (S.state store.old) input out messages memory) (outside (S.state store.new) input out messages memory) result }
     ensures short { IfOk result (λ text. length text.items ≤ source_bytes) }
 {
     match store.read(alloc, file, Limits::SOURCE_BYTES) {
@@ -65,15 +66,15 @@ pub fn read<S: Store>(
 }
 
 /// Why a read that gives no text stops the command.
-fn stop_of_read(number: usize, error: StoreError) -> Stop
+fn stop_of_read(number: usize, error: ReadError) -> Stop
     ensures { result ≡ stop_of_read number error }
 {
     match error {
-        StoreError::Failed => Stop::ReadFailed,
-        StoreError::TooLong(limit) => {
+        ReadError::Failed => Stop::ReadFailed,
+        ReadError::TooLong(limit) => {
             Stop::Refused(Refusal::File(number, FileFault::TooLong(limit)))
         }
-        StoreError::NoMemory => Stop::NoMemory,
+        ReadError::NoMemory => Stop::NoMemory,
     }
 }
 
@@ -115,9 +116,9 @@ pub fn form(alloc: Global, number: usize, unit: &TUnit) -> Result<Items<Writer>,
 /// Puts the image of the functions into the memory. All memory of a run is taken here.
 pub fn fill<M: Memory>(alloc: Global, funs: &[Writer], mem: &mut M) -> Result<(), Stop>
     requires { CanPlace funs.now }
-    ensures fills { (store : StoreState) (input : SourceState) (out : SinkState) → fills funs.now
-        (outside store input out (held_memory (M.mem mem.old) (M.fetches mem.old) (M.told mem.old))) (outside store input out (held_memory (M.mem mem.new) (M.fetches mem.new) (M.told mem.new))) result }
-    ensures image { IfOk result (λ _. HoldsImage funs.now (held_memory (M.mem mem.new) (M.fetches mem.new) (M.told mem.new))) }
+    ensures fills { (store : StoreState) (input : SourceState) (out messages : SinkState) → fills funs.now
+        (outside store input out messages (M.state mem.old)) (outside store input out messages (M.state mem.new)) result }
+    ensures image { IfOk result (λ _. HoldsImage funs.now (M.state mem.new)) }
 {
     match image(alloc, funs, mem) {
         Ok(()) => Ok(()),
@@ -143,10 +144,10 @@ pub fn run_image<M: Memory, I: Source, O: Sink>(
     out: &mut O,
 ) -> Result<Outcome, Stop>
     requires placed { CanPlace funs.now }
-    requires image { HoldsImage funs.now (held_memory (M.mem mem.old) (M.fetches mem.old) (M.told mem.old)) }
-    ensures { (store : StoreState) → runs_image funs.now
-        (outside store (I.state input.old) (O.state out.old) (held_memory (M.mem mem.old) (M.fetches mem.old) (M.told mem.old)))
-        (outside store (I.state input.new) (O.state out.new) (held_memory (M.mem mem.new) (M.fetches mem.new) (M.told mem.new))) result }
+    requires image { HoldsImage funs.now (M.state mem.old) }
+    ensures { (store : StoreState) (messages : SinkState) → runs_image funs.now
+        (outside store (I.state input.old) (O.state out.old) messages (M.state mem.old))
+        (outside store (I.state input.new) (O.state out.new) messages (M.state mem.new)) result }
 {
     outcome_of(execute(funs, Limits::STEPS, mem, input, out))
 }

@@ -1,6 +1,6 @@
 //! The program as a call: from the arguments of a command line to the exit status.
 ghost use Rattle.pw_arguments.specs.Arguments.{bytes_of};
-ghost use Rattle.pw_cmd.specs.Outside.{held_memory, outside};
+ghost use Rattle.pw_hart.specs.Outside.{outside};
 ghost use Rattle.pw_cmd.specs.Program.{Ends, Exits};
 
 use crate::answer::Stop;
@@ -27,9 +27,8 @@ pub fn run<A: Arguments, S: Store, I: Source, O: Sink, E: Sink, M: Memory>(
     mem: M,
 ) -> (u8, M)
     ensures { Exits (A.list arguments.now)
-        (outside (S.state store.old) (I.state input.old) (O.state out.old) (held_memory (M.mem mem) (M.fetches mem) (M.told mem)))
-        (outside (S.state store.new) (I.state input.new) (O.state out.new) (held_memory (M.mem result.1) (M.fetches result.1) (M.told result.1)))
-        (E.state msg.old) (E.state msg.new) result.0 }
+        (outside (S.state store.old) (I.state input.old) (O.state out.old) (E.state msg.old) (M.state mem))
+        (outside (S.state store.new) (I.state input.new) (O.state out.new) (E.state msg.new) (M.state result.1)) result.0 }
 {
     match read_arguments(alloc, arguments) {
         Ok(found) => command(alloc, found.as_slice(), store, input, out, msg, mem),
@@ -48,9 +47,8 @@ fn command<S: Store, I: Source, O: Sink, E: Sink, M: Memory>(
     mem: M,
 ) -> (u8, M)
     ensures { Ends (bytes_of arguments.now)
-        (outside (S.state store.old) (I.state input.old) (O.state out.old) (held_memory (M.mem mem) (M.fetches mem) (M.told mem)))
-        (outside (S.state store.new) (I.state input.new) (O.state out.new) (held_memory (M.mem result.1) (M.fetches result.1) (M.told result.1)))
-        (E.state msg.old) (E.state msg.new) result.0 }
+        (outside (S.state store.old) (I.state input.old) (O.state out.old) (E.state msg.old) (M.state mem))
+        (outside (S.state store.new) (I.state input.new) (O.state out.new) (E.state msg.new) (M.state result.1)) result.0 }
 {
     match words_of(alloc, arguments, WORDS_END) {
         Ok(words) => top(alloc, words.as_slice(), store, input, out, msg, mem),

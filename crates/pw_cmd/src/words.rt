@@ -1,5 +1,5 @@
 //! Judges the words after the program's name.
-ghost use Rattle.std.specs.Prelude.{◌≡◌, [], ◌∷◌};
+ghost use Rattle.std.specs.Prelude.{[], ◌∷◌};
 ghost use Rattle.pw_cmd.specs.Words.{ReadsCommand, texts};
 
 use pw_base::{Name, NameError};

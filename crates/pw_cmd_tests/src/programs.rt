@@ -199,6 +199,6 @@ fn the_memory_reports_the_addresses_of_the_run(rt: HostRuntime) -> Result<(), Fa
     )?;
     let noted = addresses(rt.alloc(), quiet.mem)?;
     assert_eq!(rt; noted.len(), 22);
-    assert_eq!(rt; reported.mem.told(), Some(noted.as_slice()));
+    assert_eq!(rt; reported.mem.reported(), Some(noted.as_slice()));
     Ok(())
 }

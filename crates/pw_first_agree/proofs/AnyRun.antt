@@ -9,11 +9,11 @@ use Rattle.pw_mem.specs.declared.errors.Access.{Access}
 use Rattle.pw_mem.specs.declared.errors.Access.TheVariants.{Misaligned, Unmapped, Denied}
 use Rattle.pw_hart.specs.declared.ends.End.{End}
 use Rattle.pw_hart.specs.declared.ends.End.TheVariants.{Trap, Exit, Checked, Spent}
-use Rattle.pw_hart.specs.Bits.{bits64, sign_extend, zero_extend}
+use Rattle.pw_hart.specs.Bits.{bits64, sign_extend64, zero_extend}
 use Rattle.std.specs.Int.{w8, w16, w32}
 use Rattle.pw_hart.specs.Integer.{add, is_less_signed}
 use Rattle.pw_hart.specs.State.{MachineState, Next, Goes, Ends, get, set, following}
-use Rattle.pw_hart.specs.Exec.{exec, takes_step, jumps, goes_back, branches, branches_if, effective, loaded, loads, stored, stores, takes_input, calls_environment, is_fault_kind}
+use Rattle.pw_hart.specs.Exec.{exec, takes_step, jumps, goes_back, branches_on, branches_if, effective, loaded, loads_from, stored, stores_to, takes_input, calls_environment, is_fault_kind}
 use Rattle.pw_hart.specs.Run.{RunResult, run, step, fetches, carries_out, then}
 
 module _
@@ -48,7 +48,7 @@ module _
     kept_if true imm s h = let target = add s.pc (bits64 imm) in kept_jumps (goes_back target s) target s.x s h
     kept_if false imm s h = h
 
-    kept_branches : (test : ℕ → ℕ → Bool) (rs1 rs2 : ℕ) (imm : ℤ) (s : MachineState) → P s.mem s.input s.output → Kept (branches test rs1 rs2 imm s)
+    kept_branches : (test : ℕ → ℕ → Bool) (rs1 rs2 : ℕ) (imm : ℤ) (s : MachineState) → P s.mem s.input s.output → Kept (branches_on test rs1 rs2 imm s)
     kept_branches test rs1 rs2 imm s h = kept_if (test (get s.x rs1) (get s.x rs2)) imm s h
 
     kept_loaded : (extend : ℕ → ℕ) (rd at : ℕ) (s : MachineState) (r : Result ℕ Access) → P s.mem s.input s.output → Kept (loaded extend rd at s r)
@@ -57,7 +57,7 @@ module _
     kept_loaded extend rd at s (Err Unmapped) h = (h, traps 5 s.pc at)
     kept_loaded extend rd at s (Err Denied) h = (h, traps 5 s.pc at)
 
-    kept_loads : (extend : ℕ → ℕ) (width rd rs1 : ℕ) (imm : ℤ) (s : MachineState) → P s.mem s.input s.output → Kept (loads extend width rd rs1 imm s)
+    kept_loads : (extend : ℕ → ℕ) (width rd rs1 : ℕ) (imm : ℤ) (s : MachineState) → P s.mem s.input s.output → Kept (loads_from extend width rd rs1 imm s)
     kept_loads extend width rd rs1 imm s h = kept_loaded extend rd (effective rs1 imm s) s (load s.mem (effective rs1 imm s) width) h
 
     kept_stored : (at width value : ℕ) (s : MachineState) (r : Result Mem Access) → store s.mem at width value ≡ r → P s.mem s.input s.output → Kept (stored at s r)
@@ -66,7 +66,7 @@ module _
     kept_stored at width value s (Err Unmapped) e h = (h, traps 7 s.pc at)
     kept_stored at width value s (Err Denied) e h = (h, traps 7 s.pc at)
 
-    kept_stores : (width rs1 rs2 : ℕ) (imm : ℤ) (s : MachineState) → P s.mem s.input s.output → Kept (stores width rs1 rs2 imm s)
+    kept_stores : (width rs1 rs2 : ℕ) (imm : ℤ) (s : MachineState) → P s.mem s.input s.output → Kept (stores_to width rs1 rs2 imm s)
     kept_stores width rs1 rs2 imm s h =
         kept_stored (effective rs1 imm s) width (get s.x rs2) s (store s.mem (effective rs1 imm s) width (get s.x rs2)) refl h
 
@@ -93,11 +93,11 @@ module _
     kept_exec (Bge rs1 rs2 imm) s h = kept_branches (λ a b. not (is_less_signed a b)) rs1 rs2 imm s h
     kept_exec (Bgeu rs1 rs2 imm) s h = kept_branches (λ a b. not (nat_lt a b)) rs1 rs2 imm s h
     kept_exec (Ld rd rs1 imm) s h = kept_loads (λ value. value) 8 rd rs1 imm s h
-    kept_exec (Lw rd rs1 imm) s h = kept_loads (sign_extend w32) 4 rd rs1 imm s h
+    kept_exec (Lw rd rs1 imm) s h = kept_loads (sign_extend64 w32) 4 rd rs1 imm s h
     kept_exec (Lwu rd rs1 imm) s h = kept_loads (zero_extend w32) 4 rd rs1 imm s h
-    kept_exec (Lh rd rs1 imm) s h = kept_loads (sign_extend w16) 2 rd rs1 imm s h
+    kept_exec (Lh rd rs1 imm) s h = kept_loads (sign_extend64 w16) 2 rd rs1 imm s h
     kept_exec (Lhu rd rs1 imm) s h = kept_loads (zero_extend w16) 2 rd rs1 imm s h
-    kept_exec (Lb rd rs1 imm) s h = kept_loads (sign_extend w8) 1 rd rs1 imm s h
+    kept_exec (Lb rd rs1 imm) s h = kept_loads (sign_extend64 w8) 1 rd rs1 imm s h
     kept_exec (Lbu rd rs1 imm) s h = kept_loads (zero_extend w8) 1 rd rs1 imm s h
     kept_exec (Sd rs1 rs2 imm) s h = kept_stores 8 rs1 rs2 imm s h
     kept_exec (Sw rs1 rs2 imm) s h = kept_stores 4 rs1 rs2 imm s h

@@ -1,7 +1,8 @@
 -- A run, one instruction after another: how what each leaves adds up to what the whole run leaves.
-use Rattle.std.proofs.Common.{◌≡◌, ℕ, suc, ◌+◌, ◌-◌, ◌<◌, ◌≤◌, Bool, false, List, [], ◌∷◌, ◌++◌, length, Option, Some, None, refl, sym, ap, ◌∙◌, subst, append_assoc, append-nil, lit<, lit≤, arith}
+use Rattle.std.proofs.Common.{◌≡◌, ℕ, suc, ◌+◌, ◌-◌, ◌<◌, ◌≤◌, Bool, false, List, [], ◌∷◌, ◌++◌, Option, Some, None, refl, sym, ap, ◌∙◌, subst, append_assoc, append-nil, lit<, lit≤, arith}
 use Rattle.std.specs.Prelude.{unwrap_or}
-use Rattle.pw_mem.specs.Fetches.{counted, Told}
+use Rattle.pw_mem.specs.States.{AddsFetches}
+use Rattle.pw_mem.proofs.States.{fetches_none, fetches_more}
 use Rattle.pw_io.specs.Source.{after}
 use Rattle.pw_io.specs.Sink.{wrote}
 use Rattle.pw_io.proofs.Sources.{after_nothing, after_after}
@@ -14,18 +15,7 @@ use Rattle.pw_hart.specs.Harts.{state_of}
 use Rattle.pw_hart.specs.Runs.{ExecutionState, IsLeft, RunsTo, Runs}
 use Rattle.pw_hart.specs.Steps.Advances.{CanBeLeft, MachineStep, Advances}
 
--- ---- counts of fetches, one after another
-
-counted-counted : (f m n : ℕ) → counted (counted f m) n ≡ counted f (m + n)
-counted-counted f m n = omega arith
-
-counted-none : (f : ℕ) → f ≡ counted f 0
-counted-none f = omega arith
-
 -- ---- numbers of instructions
-
-one_more : (n : ℕ) → 1 + n ≡ suc n
-one_more n = omega arith
 
 plus_suc : (k n : ℕ) → k + suc n ≡ (k + 1) + n
 plus_suc k n = omega arith
@@ -42,21 +32,6 @@ rest_is k n below = omega arith
 same_number : (k n : ℕ) → k ≤ n → n ≤ k → k ≡ n
 same_number k n le ge = omega arith
 
--- ---- reported lists of fetches
-
-told_none : (told : Option (List ℕ)) → Told told [] told
-told_none None = tt
-told_none (Some list) = ap Some (append-nil list)
-
-told_more : (first mid last : Option (List ℕ)) (before behind : List ℕ) → Told first before mid → Told mid behind last → Told first (before ++ behind) last
-told_more first mid None before behind h g = tt
-told_more None None (Some list) before behind h g = absurd (cc g)
-told_more (Some xs) None (Some list) before behind h g = absurd (cc g)
-told_more None (Some ys) (Some list) before behind h g = absurd (cc h)
-told_more (Some xs) (Some ys) (Some list) before behind h g =
-    let e : xs ++ before ≡ ys = cc h in let d : ys ++ behind ≡ list = cc g in
-    ap Some (sym (append_assoc xs before behind) ∙ ap (λ l. l ++ behind) e ∙ d)
-
 -- ---- what an outcome leaves, from a moment with this input left and this output put
 
 pub record Ended (old : ExecutionState) (input output : List ℕ) (o : RunResult) (new : ExecutionState) (end : End) : Type 0 where
@@ -67,13 +42,12 @@ pub record Ended (old : ExecutionState) (input output : List ℕ) (o : RunResult
   pub puts : o.state.output ≡ output ++ put
   pub left : new.input ≡ after taken old.input
   pub out : new.out ≡ wrote put old.out
-  pub state : o.state ≡ state_of new.hart new.mem o.state.input o.state.output
-  pub counts : new.fetches ≡ counted old.fetches (length o.fetched)
-  pub tells : Told old.told o.fetched new.told
+  pub state : o.state ≡ state_of new.hart new.memory.mem o.state.input o.state.output
+  pub fetches : AddsFetches o.fetched old.memory new.memory
 
 -- a run of no instruction
 ended_none : (m : ExecutionState) (input output : List ℕ) →
-    Ended m input output (record { end = Limit; state = state_of m.hart m.mem input output; fetched = [] }) m Limit
+    Ended m input output (record { end = Limit; state = state_of m.hart m.memory.mem input output; fetched = [] }) m Limit
 ended_none m input output = record {
   taken = [];
   put = [];
@@ -83,8 +57,7 @@ ended_none m input output = record {
   left = sym (after_nothing m.input);
   out = sym (wrote_nothing m.out);
   state = refl;
-  counts = counted-none m.fetches;
-  tells = told_none m.told;
+  fetches = fetches_none m.memory;
 }
 
 -- an instruction, and then an outcome
@@ -101,13 +74,12 @@ module _ (old : ExecutionState) (used_up : Bool) (mid : ExecutionState) (used_up
     left = e.left ∙ ap (after e.taken) s.uses.input ∙ after_after s.uses.taken e.taken old.input;
     out = e.out ∙ ap (wrote e.put) s.uses.out ∙ wrote_wrote s.uses.put e.put old.out;
     state = e.state;
-    counts = e.counts ∙ ap (λ n. counted n (length o.fetched)) s.fetches.counts ∙ counted-counted old.fetches 1 (length o.fetched) ∙ ap (λ n. counted old.fetches n) (one_more (length o.fetched));
-    tells = told_more old.told mid.told new.told (old.hart.pc ∷ []) o.fetched s.fetches.tells e.tells;
+    fetches = fetches_more (old.hart.pc ∷ []) o.fetched old.memory mid.memory new.memory s.fetches e.fetches;
   }
 
 -- the machine's run from a moment
 abbrev pub RunsFrom : ℕ → List ℕ → List ℕ → ExecutionState → ExecutionState → End → Type 0
-RunsFrom n input output old new end = Ended old input output (run n (state_of old.hart old.mem input output)) new end
+RunsFrom n input output old new end = Ended old input output (run n (state_of old.hart old.memory.mem input output)) new end
 
 runs_none : (m : ExecutionState) (input output : List ℕ) → RunsFrom 0 input output m m Limit
 runs_none m input output = ended_none m input output
@@ -130,7 +102,7 @@ module _ (old : ExecutionState) (used_up : Bool) (mid : ExecutionState) (used_up
       (sym (s.uses.does rest output can))
       (ended_after old used_up mid used_up' (Ends end) s rest output _ mid end (ended_here end rest (output ++ s.uses.put)))
     where
-      ended_here : (end : End) (input output : List ℕ) → Ended mid input output (record { end = end; state = state_of mid.hart mid.mem input output; fetched = [] }) mid end
+      ended_here : (end : End) (input output : List ℕ) → Ended mid input output (record { end = end; state = state_of mid.hart mid.memory.mem input output; fetched = [] }) mid end
       ended_here end input output = record {
         taken = [];
         put = [];
@@ -140,8 +112,7 @@ module _ (old : ExecutionState) (used_up : Bool) (mid : ExecutionState) (used_up
         left = sym (after_nothing mid.input);
         out = sym (wrote_nothing mid.out);
         state = refl;
-        counts = counted-none mid.fetches;
-        tells = told_none mid.told;
+        fetches = fetches_none mid.memory;
       }
 
 -- ---- a run so far
@@ -207,8 +178,7 @@ runs_to n input first new end is_left e = record {
     left = e.left;
     put = e.out ∙ ap (λ bytes. wrote bytes first.out) (sym e.puts);
     state = e.state;
-    counts = e.counts;
-    tells = e.tells;
+    fetches = e.fetches;
   };
 }
 

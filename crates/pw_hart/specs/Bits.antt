@@ -12,8 +12,8 @@ abbrev pub bits64 : ℤ → ℕ
 bits64 z = cast_unsigned w64 z
 
 -- the lowest bits of a number, with the highest of them copied into the bits above
-abbrev pub sign_extend : Width → ℕ → ℕ
-sign_extend width n = bits64 (signed width n)
+abbrev pub sign_extend64 : Width → ℕ → ℕ
+sign_extend64 width n = bits64 (signed width n)
 
 -- the lowest bits of a number, with zeros in the bits above
 abbrev pub zero_extend : Width → ℕ → ℕ

@@ -9,7 +9,7 @@ use Rattle.pw_mem.specs.Memory.{Mem, load, store}
 use Rattle.pw_mem.specs.declared.errors.Access.{Access}
 use Rattle.pw_mem.specs.declared.errors.Access.TheVariants.{Misaligned, Unmapped, Denied}
 use Rattle.pw_hart.specs.declared.ends.End.TheVariants.{Exit, Checked, Spent, Trap}
-use Rattle.pw_hart.specs.Bits.{bits64, sign_extend, zero_extend, all_ones}
+use Rattle.pw_hart.specs.Bits.{bits64, sign_extend64, zero_extend, all_ones}
 use Rattle.pw_hart.specs.Integer.{add, sub, sll, slt, sltu, srl, sra, is_less_signed}
 use Rattle.pw_hart.specs.Word.{addw, subw, sllw, srlw, sraw}
 use Rattle.pw_hart.specs.Multiply.{mul, mulh, mulhsu, mulhu, div, divu, rem, remu, mulw, divw, divuw, remw, remuw}
@@ -64,8 +64,8 @@ branches_if true imm s = let target = add s.pc (bits64 imm) in jumps (goes_back 
 branches_if false imm s = goes_on s.x s
 
 -- a branch on a test of rs1 and rs2
-abbrev pub branches : (ℕ → ℕ → Bool) → ℕ → ℕ → ℤ → MachineState → Next
-branches test rs1 rs2 imm s = branches_if (test (get s.x rs1) (get s.x rs2)) imm s
+abbrev pub branches_on : (ℕ → ℕ → Bool) → ℕ → ℕ → ℤ → MachineState → Next
+branches_on test rs1 rs2 imm s = branches_if (test (get s.x rs1) (get s.x rs2)) imm s
 
 -- ---- loads and stores
 
@@ -88,13 +88,13 @@ stored at s (Err Unmapped) = Ends (Trap 7 s.pc at) s
 stored at s (Err Denied) = Ends (Trap 7 s.pc at) s
 
 -- rd gets the number of so many bytes at an address, extended to 64 bits
-abbrev pub loads : (ℕ → ℕ) → ℕ → ℕ → ℕ → ℤ → MachineState → Next
-loads extend width rd rs1 imm s =
+abbrev pub loads_from : (ℕ → ℕ) → ℕ → ℕ → ℕ → ℤ → MachineState → Next
+loads_from extend width rd rs1 imm s =
     let at = effective rs1 imm s in loaded extend rd at s (load s.mem at width)
 
 -- the lowest bytes of rs2 are stored at an address
-abbrev pub stores : ℕ → ℕ → ℕ → ℤ → MachineState → Next
-stores width rs1 rs2 imm s =
+abbrev pub stores_to : ℕ → ℕ → ℕ → ℤ → MachineState → Next
+stores_to width rs1 rs2 imm s =
     let at = effective rs1 imm s in stored at s (store s.mem at width (get s.x rs2))
 
 -- ---- environment calls, by a7
@@ -154,24 +154,24 @@ exec (Jalr rd rs1 imm) = λ s.
     let target = effective rs1 imm s - effective rs1 imm s % 2 in
     jumps_and_links rd target (not (rd == 0) && goes_back target s) s
 -- conditional branches
-exec (Beq rs1 rs2 imm) = branches nat_eq rs1 rs2 imm
-exec (Bne rs1 rs2 imm) = branches (λ a b. not (a == b)) rs1 rs2 imm
-exec (Blt rs1 rs2 imm) = branches is_less_signed rs1 rs2 imm
-exec (Bltu rs1 rs2 imm) = branches nat_lt rs1 rs2 imm
-exec (Bge rs1 rs2 imm) = branches (λ a b. not (is_less_signed a b)) rs1 rs2 imm
-exec (Bgeu rs1 rs2 imm) = branches (λ a b. not (nat_lt a b)) rs1 rs2 imm
+exec (Beq rs1 rs2 imm) = branches_on nat_eq rs1 rs2 imm
+exec (Bne rs1 rs2 imm) = branches_on (λ a b. not (a == b)) rs1 rs2 imm
+exec (Blt rs1 rs2 imm) = branches_on is_less_signed rs1 rs2 imm
+exec (Bltu rs1 rs2 imm) = branches_on nat_lt rs1 rs2 imm
+exec (Bge rs1 rs2 imm) = branches_on (λ a b. not (is_less_signed a b)) rs1 rs2 imm
+exec (Bgeu rs1 rs2 imm) = branches_on (λ a b. not (nat_lt a b)) rs1 rs2 imm
 -- loads and stores
-exec (Ld rd rs1 imm) = loads (λ value. value) 8 rd rs1 imm
-exec (Lw rd rs1 imm) = loads (sign_extend w32) 4 rd rs1 imm
-exec (Lwu rd rs1 imm) = loads (zero_extend w32) 4 rd rs1 imm
-exec (Lh rd rs1 imm) = loads (sign_extend w16) 2 rd rs1 imm
-exec (Lhu rd rs1 imm) = loads (zero_extend w16) 2 rd rs1 imm
-exec (Lb rd rs1 imm) = loads (sign_extend w8) 1 rd rs1 imm
-exec (Lbu rd rs1 imm) = loads (zero_extend w8) 1 rd rs1 imm
-exec (Sd rs1 rs2 imm) = stores 8 rs1 rs2 imm
-exec (Sw rs1 rs2 imm) = stores 4 rs1 rs2 imm
-exec (Sh rs1 rs2 imm) = stores 2 rs1 rs2 imm
-exec (Sb rs1 rs2 imm) = stores 1 rs1 rs2 imm
+exec (Ld rd rs1 imm) = loads_from (λ value. value) 8 rd rs1 imm
+exec (Lw rd rs1 imm) = loads_from (sign_extend64 w32) 4 rd rs1 imm
+exec (Lwu rd rs1 imm) = loads_from (zero_extend w32) 4 rd rs1 imm
+exec (Lh rd rs1 imm) = loads_from (sign_extend64 w16) 2 rd rs1 imm
+exec (Lhu rd rs1 imm) = loads_from (zero_extend w16) 2 rd rs1 imm
+exec (Lb rd rs1 imm) = loads_from (sign_extend64 w8) 1 rd rs1 imm
+exec (Lbu rd rs1 imm) = loads_from (zero_extend w8) 1 rd rs1 imm
+exec (Sd rs1 rs2 imm) = stores_to 8 rs1 rs2 imm
+exec (Sw rs1 rs2 imm) = stores_to 4 rs1 rs2 imm
+exec (Sh rs1 rs2 imm) = stores_to 2 rs1 rs2 imm
+exec (Sb rs1 rs2 imm) = stores_to 1 rs1 rs2 imm
 -- memory ordering, environment call and breakpoint
 exec Fence = λ s. goes_on s.x s
 exec Ecall = λ s. calls_environment (get s.x a7) s

@@ -9,4 +9,5 @@ pub mod Exec
 pub mod Run
 pub mod Harts
 pub mod Runs
+pub mod Outside
 pub mod Steps

@@ -1,7 +1,7 @@
 -- What multiplication and division give (RISC-V unprivileged manual, the M extension).
 use Rattle.std.specs.Prelude.{ℕ, ◌*◌, ◌/◌, ◌%◌, ◌^◌, ◌==◌, ℤ, pos, ◌*ℤ◌, int_rem, if◌then◌else◌}
 use Rattle.std.specs.Int.{w32, w64, cast_signed, int_shr, int_wrapping_div}
-use Rattle.pw_hart.specs.Bits.{signed, bits64, sign_extend, zero_extend, all_ones}
+use Rattle.pw_hart.specs.Bits.{signed, bits64, sign_extend64, zero_extend, all_ones}
 
 -- the lowest 64 bits of the product
 abbrev pub mul : ℕ → ℕ → ℕ
@@ -43,7 +43,7 @@ remu a b = if b == 0 then a else a % b
 
 -- the lowest 32 bits of the product
 abbrev pub mulw : ℕ → ℕ → ℕ
-mulw a b = sign_extend w32 (a * b)
+mulw a b = sign_extend64 w32 (a * b)
 
 -- the quotient of signed words
 abbrev pub divw : ℕ → ℕ → ℕ
@@ -51,12 +51,12 @@ divw a b = if zero_extend w32 b == 0 then all_ones else bits64 (int_wrapping_div
 
 -- the quotient of unsigned words
 abbrev pub divuw : ℕ → ℕ → ℕ
-divuw a b = if zero_extend w32 b == 0 then all_ones else sign_extend w32 (zero_extend w32 a / zero_extend w32 b)
+divuw a b = if zero_extend w32 b == 0 then all_ones else sign_extend64 w32 (zero_extend w32 a / zero_extend w32 b)
 
 -- the remainder of signed words
 abbrev pub remw : ℕ → ℕ → ℕ
-remw a b = if zero_extend w32 b == 0 then sign_extend w32 a else bits64 (int_rem (signed w32 a) (signed w32 b))
+remw a b = if zero_extend w32 b == 0 then sign_extend64 w32 a else bits64 (int_rem (signed w32 a) (signed w32 b))
 
 -- the remainder of unsigned words
 abbrev pub remuw : ℕ → ℕ → ℕ
-remuw a b = if zero_extend w32 b == 0 then sign_extend w32 a else sign_extend w32 (zero_extend w32 a % zero_extend w32 b)
+remuw a b = if zero_extend w32 b == 0 then sign_extend64 w32 a else sign_extend64 w32 (zero_extend w32 a % zero_extend w32 b)

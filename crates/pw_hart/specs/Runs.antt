@@ -1,11 +1,11 @@
 -- What a call of the processor answers and leaves: the machine's run, with the memory, the input and the output that it was given.
-use Rattle.std.specs.Prelude.{◌≡◌, ℕ, ◌<◌, List, [], ◌∷◌, ◌++◌, length, Option, Some, Ok, IfSome}
+use Rattle.std.specs.Prelude.{◌≡◌, ℕ, ◌<◌, List, [], ◌∷◌, ◌++◌, Some, Ok, IfSome}
 use Rattle.pw_isa.specs.Encoding.{decoded}
 use Rattle.pw_isa.specs.declared.instruction.Inst.TheVariants.{Ecall}
 use Rattle.pw_isa.specs.Registers.{a7}
 use Rattle.pw_isa.specs.EnvironmentCalls.{input_call, output_call}
-use Rattle.pw_mem.specs.Memory.{Mem, fetch}
-use Rattle.pw_mem.specs.Fetches.{counted, Told}
+use Rattle.pw_mem.specs.Memory.{fetch}
+use Rattle.pw_mem.specs.States.{MemoryState, AddsFetches}
 use Rattle.pw_io.specs.Source.{SourceState, SourceFails, after}
 use Rattle.pw_io.specs.Sink.{SinkState, SinkFails, wrote}
 use Rattle.pw_hart.specs.declared.hart.Hart.{Hart}
@@ -18,9 +18,7 @@ use Rattle.pw_hart.specs.Harts.{state_of}
 -- the state of an execution: a processor and what it is given, which is a memory with its fetches, an input, and an output
 pub record ExecutionState : Type 0 where
   pub hart : Hart
-  pub mem : Mem
-  pub fetches : ℕ
-  pub told : Option (List ℕ)
+  pub memory : MemoryState
   pub input : SourceState
   pub out : SinkState
 
@@ -30,7 +28,7 @@ IsLeft bytes input = IfSome input.left (λ left. left ≡ bytes)
 
 -- the machine's state in an execution, where this input is left and nothing is put yet
 abbrev pub state_at : ExecutionState → List ℕ → MachineState
-state_at m input = state_of m.hart m.mem input []
+state_at m input = state_of m.hart m.memory.mem input []
 
 -- an execution has come to a result of the machine: it has its state, the input without what was taken, the output with
 -- what was put, and its fetches counted
@@ -39,9 +37,8 @@ pub record HasResult (old : ExecutionState) (input : List ℕ) (o : RunResult) (
   pub took : input ≡ taken ++ o.state.input
   pub left : new.input ≡ after taken old.input
   pub put : new.out ≡ wrote o.state.output old.out
-  pub state : o.state ≡ state_of new.hart new.mem o.state.input o.state.output
-  pub counts : new.fetches ≡ counted old.fetches (length o.fetched)
-  pub tells : Told old.told o.fetched new.told
+  pub state : o.state ≡ state_of new.hart new.memory.mem o.state.input o.state.output
+  pub fetches : AddsFetches o.fetched old.memory new.memory
 
 -- the machine's run of at most `n` instructions ends so and leaves that, with the input that is left, or with some input
 -- where it is not reported
@@ -54,7 +51,7 @@ pub record RunsTo (n : ℕ) (old new : ExecutionState) (end : End) : Type 0 wher
 -- the next instruction is the environment call of this number
 pub record IsAtCall (number : ℕ) (m : ExecutionState) : Type 0 where
   pub word : ℕ
-  pub fetched : fetch m.mem m.hart.pc ≡ Ok word
+  pub fetched : fetch m.memory.mem m.hart.pc ≡ Ok word
   pub call : decoded word ≡ Some Ecall
   pub number_is : get (state_at m []).x a7 ≡ number
 
@@ -62,9 +59,8 @@ pub record IsAtCall (number : ℕ) (m : ExecutionState) : Type 0 where
 pub record FailsToRead (old new : ExecutionState) : Type 0 where
   pub call : IsAtCall input_call old
   pub hart : new.hart ≡ old.hart
-  pub mem : new.mem ≡ old.mem
-  pub counts : new.fetches ≡ counted old.fetches 1
-  pub tells : Told old.told (old.hart.pc ∷ []) new.told
+  pub mem : new.memory.mem ≡ old.memory.mem
+  pub fetches : AddsFetches (old.hart.pc ∷ []) old.memory new.memory
   pub input : SourceFails old.input new.input
   pub out : new.out ≡ old.out
 
@@ -72,9 +68,8 @@ pub record FailsToRead (old new : ExecutionState) : Type 0 where
 pub record FailsToWrite (old new : ExecutionState) : Type 0 where
   pub call : IsAtCall output_call old
   pub hart : new.hart ≡ old.hart
-  pub mem : new.mem ≡ old.mem
-  pub counts : new.fetches ≡ counted old.fetches 1
-  pub tells : Told old.told (old.hart.pc ∷ []) new.told
+  pub mem : new.memory.mem ≡ old.memory.mem
+  pub fetches : AddsFetches (old.hart.pc ∷ []) old.memory new.memory
   pub input : new.input ≡ old.input
   pub out : SinkFails old.out new.out
 

@@ -1,9 +1,10 @@
 //! Loads and stores.
 
-ghost use Rattle.std.specs.Prelude.{◌≡◌, ◌<◌, ℕ, List, IsTrue};
-ghost use Rattle.pw_mem.specs.Memory.{Mem, is_width};
+ghost use Rattle.std.specs.Prelude.{◌≡◌, ◌<◌, IsTrue};
+ghost use Rattle.pw_mem.specs.Memory.{is_width};
+ghost use Rattle.pw_mem.specs.States.{KeepsFetches};
 ghost use Rattle.pw_hart.specs.Steps.Access.{width_of, extension_of};
-ghost use Rattle.pw_hart.specs.Exec.{loads, stores};
+ghost use Rattle.pw_hart.specs.Exec.{loads_from, stores_to};
 ghost use Rattle.pw_hart.specs.Steps.Does.{Does};
 
 use crate::ends::End;
@@ -66,7 +67,7 @@ impl Hart {
     ) -> Option<End>
         requires rd { rd < 32 }
         requires rs1 { rs1 < 32 }
-        ensures { Does (loads (extension_of load) (width_of load) rd rs1 imm) self.old (M.mem mem.now) result self.new (M.mem mem.now) }
+        ensures { Does (loads_from (extension_of load) (width_of load) rd rs1 imm) self.old (M.state mem.now).mem result self.new (M.state mem.now).mem }
     {
         let at = self.effective(rs1, imm);
         match mem.load(at, load.width()) {
@@ -96,8 +97,8 @@ impl Hart {
         requires width { IsTrue (is_width width) }
         requires rs1 { rs1 < 32 }
         requires rs2 { rs2 < 32 }
-        ensures does { Does (stores width rs1 rs2 imm) self.old (M.mem mem.old) result self.new (M.mem mem.new) }
-        ensures no_fetch { (M.fetches mem.new ≡ M.fetches mem.old) × (M.told mem.new ≡ M.told mem.old) }
+        ensures does { Does (stores_to width rs1 rs2 imm) self.old (M.state mem.old).mem result self.new (M.state mem.new).mem }
+        ensures no_fetch { KeepsFetches (M.state mem.old) (M.state mem.new) }
     {
         let at = self.effective(rs1, imm);
         match mem.store(at, width, self.get(rs2)) {

@@ -1,8 +1,8 @@
 //! The computational instructions and the branches: what the operation or the condition of an instruction does to a hart.
 
-ghost use Rattle.std.specs.Prelude.{◌≡◌, ◌<◌, ℕ, List};
+ghost use Rattle.std.specs.Prelude.{◌<◌};
 ghost use Rattle.pw_mem.specs.Memory.{Mem};
-ghost use Rattle.pw_hart.specs.Exec.{by_register, by_immediate, by_count, branches, exec};
+ghost use Rattle.pw_hart.specs.Exec.{by_register, by_immediate, by_count, branches_on, exec};
 ghost use Rattle.pw_hart.specs.Steps.Does.{Does};
 ghost use Rattle.pw_hart.specs.Steps.Operations.{result_of, holds_of};
 
@@ -73,7 +73,7 @@ impl Hart {
     ) -> Option<End>
         requires rs1 { rs1 < 32 }
         requires rs2 { rs2 < 32 }
-        ensures { (mem : Mem) → Does (branches (holds_of condition) rs1 rs2 imm) self.old mem result self.new mem }
+        ensures { (mem : Mem) → Does (branches_on (holds_of condition) rs1 rs2 imm) self.old mem result self.new mem }
     {
         let taken = condition.holds(self.get(rs1), self.get(rs2));
         self.branch(taken, imm)

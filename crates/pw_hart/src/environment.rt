@@ -6,7 +6,7 @@ ghost use Rattle.pw_mem.specs.Memory.{Mem};
 ghost use Rattle.pw_hart.specs.State as Machine;
 ghost use Rattle.pw_hart.specs.Exec.{calls_environment};
 ghost use Rattle.pw_hart.specs.Harts.{state_of};
-ghost use Rattle.pw_hart.specs.Steps.Advances.{IsMachines, Takes, Puts, Calls};
+ghost use Rattle.pw_hart.specs.Steps.Advances.{IsMachines, TakesInput, PutsOutput, CallsEnvironment};
 
 use crate::ends::End;
 use crate::hart::Hart;
@@ -18,7 +18,7 @@ impl Hart {
     /// Takes the next byte of the input into a0, or all ones at its end. An input that came to its end is not asked
     /// again.
     fn take_input<I: Source>(&mut self, input: &mut I, used_up: &mut bool) -> Option<End>
-        ensures { Takes (I.state input.old) used_up.old self.old (I.state input.new) used_up.new self.new result }
+        ensures { TakesInput (I.state input.old) used_up.old self.old (I.state input.new) used_up.new self.new result }
     {
         if *used_up {
             self.advance(A0, u64::MAX);
@@ -40,7 +40,7 @@ impl Hart {
 
     /// Appends the lowest byte of a0 to the output.
     fn put_output<O: Sink>(&mut self, out: &mut O) -> Option<End>
-        ensures { Puts (O.state out.old) self.old (O.state out.new) self.new result }
+        ensures { PutsOutput (O.state out.old) self.old (O.state out.new) self.new result }
     {
         let byte = (self.get(A0) % (1 << 8)) as u8;
         match out.put(byte) {
@@ -85,7 +85,7 @@ impl Hart {
         used_up: &mut bool,
         out: &mut O,
     ) -> Option<End>
-        ensures { Calls (record { input = I.state input.old; used_up = used_up.old; out = O.state out.old }) self.old
+        ensures { CallsEnvironment (record { input = I.state input.old; used_up = used_up.old; out = O.state out.old }) self.old
             (record { input = I.state input.new; used_up = used_up.new; out = O.state out.new }) self.new result }
     {
         let number = self.get(A7);

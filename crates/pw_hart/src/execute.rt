@@ -1,8 +1,8 @@
 //! What each instruction does, but for the environment call.
 
-ghost use Rattle.std.specs.Prelude.{◌≡◌, ◌≢◌, ℕ, List};
+ghost use Rattle.std.specs.Prelude.{◌≢◌};
 ghost use Rattle.pw_isa.specs.Encoding.{IsEncodable};
-ghost use Rattle.pw_mem.specs.Memory.{Mem};
+ghost use Rattle.pw_mem.specs.States.{KeepsFetches};
 ghost use Rattle.pw_hart.specs.Exec.{exec};
 ghost use Rattle.pw_hart.specs.Steps.Does.{Does};
 
@@ -19,8 +19,8 @@ impl Hart {
     pub(crate) fn execute<M: Memory>(&mut self, mem: &mut M, inst: Inst) -> Option<End>
         requires encodable { IsEncodable inst }
         requires no_call { inst ≢ Inst.Ecall }
-        ensures does { Does (exec inst) self.old (M.mem mem.old) result self.new (M.mem mem.new) }
-        ensures no_fetch { (M.fetches mem.new ≡ M.fetches mem.old) × (M.told mem.new ≡ M.told mem.old) }
+        ensures does { Does (exec inst) self.old (M.state mem.old).mem result self.new (M.state mem.new).mem }
+        ensures no_fetch { KeepsFetches (M.state mem.old) (M.state mem.new) }
     {
         match inst {
             Inst::Lui { rd, imm } => self.lui(rd, imm),

@@ -1,6 +1,6 @@
 //! The processor: its registers, and the ways in which an instruction leaves it.
 
-ghost use Rattle.std.specs.Prelude.{◌≡◌, ◌<◌, ℕ, List};
+ghost use Rattle.std.specs.Prelude.{◌≡◌, ◌<◌};
 ghost use Rattle.pw_mem.specs.Memory.{Mem};
 ghost use Rattle.pw_hart.specs.State.{get, set, writes};
 ghost use Rattle.pw_hart.specs.Bits.{bits64};

@@ -1,6 +1,6 @@
 //! A step of the processor, and a run.
 
-ghost use Rattle.std.specs.Prelude.{◌≡◌, ◌≢◌, Option, unwrap_or};
+ghost use Rattle.std.specs.Prelude.{◌≢◌, Option, unwrap_or};
 ghost use Rattle.pw_hart.specs.Runs.{Runs};
 ghost use Rattle.pw_hart.specs.Steps.Advances.{Advances};
 
@@ -24,8 +24,8 @@ impl Hart {
     ) -> Option<End>
         ensures not_limit { result ≢ Some End.Limit }
         ensures runs { Runs 1
-            (record { hart = self.old; mem = M.mem mem.old; fetches = M.fetches mem.old; told = M.told mem.old; input = I.state input.old; out = O.state out.old })
-            (record { hart = self.new; mem = M.mem mem.new; fetches = M.fetches mem.new; told = M.told mem.new; input = I.state input.new; out = O.state out.new })
+            (record { hart = self.old; memory = M.state mem.old; input = I.state input.old; out = O.state out.old })
+            (record { hart = self.new; memory = M.state mem.new; input = I.state input.new; out = O.state out.new })
             (unwrap_or result End.Limit) }
     {
         let mut used_up = false;
@@ -46,8 +46,8 @@ impl Hart {
         limit: u64,
     ) -> End
         ensures { Runs limit
-            (record { hart = self.old; mem = M.mem mem.old; fetches = M.fetches mem.old; told = M.told mem.old; input = I.state input.old; out = O.state out.old })
-            (record { hart = self.new; mem = M.mem mem.new; fetches = M.fetches mem.new; told = M.told mem.new; input = I.state input.new; out = O.state out.new })
+            (record { hart = self.old; memory = M.state mem.old; input = I.state input.old; out = O.state out.old })
+            (record { hart = self.new; memory = M.state mem.new; input = I.state input.new; out = O.state out.new })
             result }
     {
         let mut used_up = false;
@@ -68,8 +68,8 @@ impl Hart {
         out: &mut O,
     ) -> Option<End>
         ensures { Advances
-            (record { hart = self.old; mem = M.mem mem.old; fetches = M.fetches mem.old; told = M.told mem.old; input = I.state input.old; out = O.state out.old }) used_up.old
-            (record { hart = self.new; mem = M.mem mem.new; fetches = M.fetches mem.new; told = M.told mem.new; input = I.state input.new; out = O.state out.new }) used_up.new
+            (record { hart = self.old; memory = M.state mem.old; input = I.state input.old; out = O.state out.old }) used_up.old
+            (record { hart = self.new; memory = M.state mem.new; input = I.state input.new; out = O.state out.new }) used_up.new
             result }
     {
         let pc = self.pc;

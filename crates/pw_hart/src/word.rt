@@ -2,7 +2,7 @@
 
 ghost use Rattle.std.specs.Prelude.{◌≡◌};
 ghost use Rattle.std.specs.Int.{w8, w16, w32};
-ghost use Rattle.pw_hart.specs.Bits.{bits64, sign_extend, zero_extend};
+ghost use Rattle.pw_hart.specs.Bits.{bits64, sign_extend64, zero_extend};
 ghost use Rattle.pw_hart.specs.Word.{addw, subw, sllw, srlw, sraw};
 
 /// The lowest 32 bits.
@@ -21,21 +21,21 @@ pub fn sign_extended(z: i32) -> u64
 
 /// The lowest 32 bits, with the highest of them copied into the bits above.
 pub fn sign_extend_word(n: u64) -> u64
-    ensures { result ≡ sign_extend w32 n }
+    ensures { result ≡ sign_extend64 w32 n }
 {
     sign_extended(low_word(n).cast_signed())
 }
 
 /// The lowest 16 bits, with the highest of them copied into the bits above.
 pub fn sign_extend_half(n: u64) -> u64
-    ensures { result ≡ sign_extend w16 n }
+    ensures { result ≡ sign_extend64 w16 n }
 {
     i64::from(((n % (1 << 16)) as u16).cast_signed()).cast_unsigned()
 }
 
 /// The lowest 8 bits, with the highest of them copied into the bits above.
 pub fn sign_extend_byte(n: u64) -> u64
-    ensures { result ≡ sign_extend w8 n }
+    ensures { result ≡ sign_extend64 w8 n }
 {
     i64::from(((n % (1 << 8)) as u8).cast_signed()).cast_unsigned()
 }

@@ -3,8 +3,11 @@ use Rattle.std.specs.Prelude.{◌≡◌, ◌≢◌, ℕ, ◌+◌, List, [], ◌�
 use Rattle.std.specs.Str.{bytes_eq}
 use Rattle.std.specs.declared.alloc.Global.{Global}
 use Rattle.pw_io.specs.declared.ports.Asked.{Asked}
-use Rattle.pw_io.specs.declared.ports.StoreError.{StoreError}
-use Rattle.pw_io.specs.declared.ports.StoreError.TheVariants.{Failed, TooLong, NoMemory}
+use Rattle.pw_base.specs.declared.no_memory.NoMemory.{NoMemory}
+use Rattle.pw_io.specs.declared.errors.ReadError.{ReadError}
+use Rattle.pw_io.specs.declared.errors.ReadError.TheVariants as no_read
+use Rattle.pw_io.specs.declared.errors.WriteError.{WriteError}
+use Rattle.pw_io.specs.declared.errors.WriteError.TheVariants as no_write
 use Rattle.pw_io.specs.Faults.{risen, Rises}
 use Rattle.pw_io.specs.Source.{SourceState}
 use Rattle.pw_io.specs.Sink.{Holds, SinkState}
@@ -18,8 +21,8 @@ pub record SourceInMemory : Type 0 where
   pub faults : ℕ
 
 -- it reports its bytes
-abbrev pub told_source : SourceInMemory → SourceState
-told_source s = record { left = Some s.left; faults = s.faults }
+abbrev pub reported_source : SourceInMemory → SourceState
+reported_source s = record { left = Some s.left; faults = s.faults }
 
 -- a sink in memory: what it holds, how many bytes it has room for, the calls that are to fail, and the count of faults
 pub record SinkInMemory : Type 0 where
@@ -29,8 +32,8 @@ pub record SinkInMemory : Type 0 where
   pub faults : ℕ
 
 -- it reports what it holds
-abbrev pub told_sink : SinkInMemory → SinkState
-told_sink s = record { holds = Some s.holds; faults = s.faults }
+abbrev pub reported_sink : SinkInMemory → SinkState
+reported_sink s = record { holds = Some s.holds; faults = s.faults }
 
 -- as many bytes are held as there is room for
 abbrev pub IsFull : SinkInMemory → Type 0
@@ -52,8 +55,8 @@ pub record StoreInMemory : Type 0 where
   pub faults : ℕ
 
 -- it reports its files and the calls made on it
-abbrev pub told_store : StoreInMemory → StoreState
-told_store s = record { files = Some (bytes_of s.files); calls = Some s.calls; faults = s.faults }
+abbrev pub reported_store : StoreInMemory → StoreState
+reported_store s = record { files = Some (bytes_of s.files); calls = Some s.calls; faults = s.faults }
 
 -- the number of the next call, counted from 1, is one of those that are to fail
 abbrev pub IsListed : StoreInMemory → Type 0
@@ -63,23 +66,27 @@ IsListed s = Contains s.fails (length s.calls + 1)
 abbrev pub IsMissing : StoreInMemory → List ℕ → Type 0
 IsMissing s name = bytes_of s.files name ≡ None
 
--- a call that is not refused for memory fails exactly where this holds
-abbrev pub FailsWhere : {T : Type 0} → Type 0 → Result T StoreError → Type 0
-FailsWhere why (Ok _) = ¬ why
-FailsWhere why (Err Failed) = why
-FailsWhere why (Err (TooLong _)) = ¬ why
-FailsWhere why (Err NoMemory) = Unit {0}
+-- a read that is not refused for memory fails exactly where this holds
+abbrev pub ReadFailsWhere : {T : Type 0} → Type 0 → Result T ReadError → Type 0
+ReadFailsWhere why (Ok _) = ¬ why
+ReadFailsWhere why (Err no_read.Failed) = why
+ReadFailsWhere why (Err (no_read.TooLong _)) = ¬ why
+ReadFailsWhere why (Err no_read.NoMemory) = Unit {0}
 
--- a call that is to fail: it is added to the calls and the count rises by one, or memory was refused and nothing is done
-abbrev pub FailsWith : StoreInMemory → Asked → StoreInMemory → StoreError → Type 0
-FailsWith old asked new Failed =
+-- and a write where this does
+abbrev pub WriteFailsWhere : {T : Type 0} → Type 0 → Result T WriteError → Type 0
+WriteFailsWhere why (Ok _) = ¬ why
+WriteFailsWhere why (Err no_write.Failed) = why
+WriteFailsWhere why (Err no_write.NoMemory) = Unit {0}
+
+-- a call is let fail: it is added to the calls and the count rises by one, or memory was refused and nothing is done
+abbrev pub Fails : StoreInMemory → Asked → StoreInMemory → Result (Unit {0}) NoMemory → Type 0
+Fails old asked new (Ok _) =
     (new ≡ record { files = old.files; fails = old.fails; calls = old.calls ++ asked ∷ []; faults = risen old.faults })
     × Rises old.faults new.faults
-FailsWith old asked new NoMemory = new ≡ old
-FailsWith old asked new (TooLong _) = ⊥
+Fails old asked new (Err _) = new ≡ old
 
 -- what writing a file does to the files: that file has the bytes and the others are as before, or memory was refused and all are
-abbrev pub WritesFile : List File → List ℕ → List ℕ → List File → Result (Unit {0}) StoreError → Type 0
+abbrev pub WritesFile : List File → List ℕ → List ℕ → List File → Result (Unit {0}) NoMemory → Type 0
 WritesFile old name bytes new (Ok _) = (bytes_of new name ≡ Some bytes) × ((other : List ℕ) → other ≢ name → bytes_of new other ≡ bytes_of old other)
-WritesFile old name bytes new (Err NoMemory) = new ≡ old
-WritesFile old name bytes new (Err _) = ⊥
+WritesFile old name bytes new (Err _) = new ≡ old

@@ -3,8 +3,10 @@ use Rattle.std.specs.Prelude.{◌≡◌, ◌≢◌, ℕ, ◌<◌, ◌≤◌, Lis
 use Rattle.std.specs.declared.alloc.Global.{Global}
 use Rattle.pw_io.specs.declared.ports.Asked.{Asked}
 use Rattle.pw_io.specs.declared.ports.Asked.TheVariants.{Read, Write}
-use Rattle.pw_io.specs.declared.ports.StoreError.{StoreError}
-use Rattle.pw_io.specs.declared.ports.StoreError.TheVariants.{Failed, TooLong, NoMemory}
+use Rattle.pw_io.specs.declared.errors.ReadError.{ReadError}
+use Rattle.pw_io.specs.declared.errors.ReadError.TheVariants.{Failed, TooLong, NoMemory}
+use Rattle.pw_io.specs.declared.errors.WriteError.{WriteError}
+use Rattle.pw_io.specs.declared.errors.WriteError.TheVariants as no_write
 use Rattle.pw_io.specs.Faults.{Rises}
 
 -- the bytes of each file by its name, and nothing for a name that no file has
@@ -59,15 +61,14 @@ pub record WriteFails (old : StoreState) (name : List ℕ) (new : StoreState) : 
   pub faults : Rises old.faults new.faults
 
 -- what a read answers and leaves: the whole file, of at most `limit` bytes; that it has more; a failure; or nothing done since memory was refused
-abbrev pub Reads : StoreState → List ℕ → ℕ → StoreState → Result (Vec ℕ Global) StoreError → Type 0
+abbrev pub Reads : StoreState → List ℕ → ℕ → StoreState → Result (Vec ℕ Global) ReadError → Type 0
 Reads old name limit new (Ok bytes) = (new ≡ called (Read name) old) × (length bytes.items ≤ limit) × StandsIn old.files name bytes.items
 Reads old name limit new (Err (TooLong most)) = (new ≡ called (Read name) old) × (most ≡ limit) × PassesLimit old.files name limit
 Reads old name limit new (Err Failed) = ReadFails old name new
 Reads old name limit new (Err NoMemory) = new ≡ old
 
 -- what a write answers and leaves: the file replaced; a failure; or nothing done since memory was refused
-abbrev pub Writes : StoreState → List ℕ → List ℕ → StoreState → Result (Unit {0}) StoreError → Type 0
+abbrev pub Writes : StoreState → List ℕ → List ℕ → StoreState → Result (Unit {0}) WriteError → Type 0
 Writes old name bytes new (Ok _) = Replaces old name bytes new
-Writes old name bytes new (Err (TooLong _)) = ⊥
-Writes old name bytes new (Err Failed) = WriteFails old name new
-Writes old name bytes new (Err NoMemory) = new ≡ old
+Writes old name bytes new (Err no_write.Failed) = WriteFails old name new
+Writes old name bytes new (Err no_write.NoMemory) = new ≡ old

@@ -1,10 +1,11 @@
 //! The current folder as a store of files.
-ghost use Rattle.std.specs.Prelude.{◌≡◌, OnOk, IfErr};
+ghost use Rattle.std.specs.Prelude.{◌≡◌, OnOk, OnErr, IfErr};
 ghost use Rattle.std.specs.Io.KnownBytes.{Appends};
 ghost use Rattle.pw_io.specs.Store.{Reads, Writes};
-ghost use Rattle.pw_io.specs.Folder.{silent_store, ReadsAll, Counts};
+ghost use Rattle.pw_io.specs.Folder.{silent_store, ReadsAll, CountsFailure, CountsRead};
 
-use crate::ports::{Failed, Store, StoreError};
+use crate::errors::{ReadError, WriteError};
+use crate::ports::{Failed, Store};
 use pw_base::Name;
 use std::alloc::Global;
 use std::io::{Read, Write};
@@ -41,7 +42,7 @@ fn is_special<F: Files>(system: &F, path: &str) -> bool {
 }
 
 /// Reads to the end, or up to one byte past the limit.
-fn read_all<R: Read>(alloc: Global, reader: &mut R, limit: u64) -> Result<Vec<u8>, StoreError>
+fn read_all<R: Read>(alloc: Global, reader: &mut R, limit: u64) -> Result<Vec<u8>, ReadError>
     ensures { ReadsAll (R.remaining reader.old) limit result }
 {
     let mut bytes = Vec::new(alloc);
@@ -51,10 +52,10 @@ fn read_all<R: Read>(alloc: Global, reader: &mut R, limit: u64) -> Result<Vec<u8
         match reader.read(&mut chunk[..wanted]) {
             Ok(0) => return Ok(bytes),
             Ok(taken) => bytes.extend_from_slice(&chunk[..taken])?,
-            Err(_) => return Err(StoreError::Failed),
+            Err(_) => return Err(ReadError::Failed),
         }
     }
-    Err(StoreError::TooLong(limit))
+    Err(ReadError::TooLong(limit))
 }
 
 /// Writes every byte.
@@ -87,18 +88,18 @@ impl<'a, F: Files> DirStore<'a, F> {
     }
 
     /// Reads the file of this name.
-    fn read_file(&self, alloc: Global, name: &Name, limit: u64) -> Result<Vec<u8>, StoreError>
+    fn read_file(&self, alloc: Global, name: &Name, limit: u64) -> Result<Vec<u8>, ReadError>
         ensures { ReadsAll None limit result }
     {
         let Ok(path) = str::from_utf8(name.bytes()) else {
-            return Err(StoreError::Failed);
+            return Err(ReadError::Failed);
         };
         if is_special(self.system, path) {
-            return Err(StoreError::Failed);
+            return Err(ReadError::Failed);
         }
         match fs::open(self.system, path) {
             Ok(mut file) => read_all(alloc, &mut file, limit),
-            Err(_) => Err(StoreError::Failed),
+            Err(_) => Err(ReadError::Failed),
         }
     }
 
@@ -116,13 +117,11 @@ impl<'a, F: Files> DirStore<'a, F> {
         }
     }
 
-    /// Counts the error, where it is a failure.
-    fn count(&mut self, error: StoreError)
-        ensures { Counts self.old error self.new }
+    /// Counts one more failure.
+    fn count_failure(&mut self)
+        ensures { CountsFailure self.old self.new }
     {
-        if error == StoreError::Failed {
-            self.faults = self.faults.saturating_add(1);
-        }
+        self.faults = self.faults.saturating_add(1);
     }
 }
 
@@ -130,29 +129,30 @@ impl<'a, F: Files> Store for DirStore<'a, F> {
     ghost state = { silent_store };
 
     /// Reads the file, at most one byte past the limit; each failure is one fault.
-    fn read(&mut self, alloc: Global, name: &Name, limit: u64) -> Result<Vec<u8>, StoreError>
+    fn read(&mut self, alloc: Global, name: &Name, limit: u64) -> Result<Vec<u8>, ReadError>
         ensures reads { Reads (silent_store self.old) name.now limit (silent_store self.new) result }
-        ensures one_fault { IfErr result (λ error. Counts self.old error self.new) }
+        ensures one_fault { IfErr result (λ error. CountsRead self.old error self.new) }
     {
         match self.read_file(alloc, name, limit) {
-            Ok(bytes) => Ok(bytes),
-            Err(error) => {
-                self.count(error);
-                Err(error)
+            Err(ReadError::Failed) => {
+                self.count_failure();
+                Err(ReadError::Failed)
             }
+            answer => answer,
         }
     }
 
     /// Makes or empties the file, and writes the bytes; each failure is one fault.
-    fn write(&mut self, name: &Name, bytes: &[u8]) -> Result<(), StoreError>
+    fn write(&mut self, name: &Name, bytes: &[u8]) -> Result<(), WriteError>
         ensures writes { Writes (silent_store self.old) name.now bytes.now (silent_store self.new) result }
-        ensures one_fault { IfErr result (λ error. Counts self.old error self.new) }
+        ensures failure { OnErr result (result ≡ Err WriteError.Failed) }
+        ensures one_fault { OnErr result (CountsFailure self.old self.new) }
     {
         match self.write_file(name, bytes) {
             Ok(()) => Ok(()),
             Err(Failed) => {
-                self.count(StoreError::Failed);
-                Err(StoreError::Failed)
+                self.count_failure();
+                Err(WriteError::Failed)
             }
         }
     }

@@ -2,6 +2,7 @@
 #![tactic(auto)]
 
 mod dir_store;
+mod errors;
 mod mem_sink;
 mod mem_source;
 mod mem_store;
@@ -11,9 +12,10 @@ mod std_sink;
 mod std_source;
 
 pub use dir_store::DirStore;
+pub use errors::{ReadError, WriteError};
 pub use mem_sink::MemSink;
 pub use mem_source::MemSource;
 pub use mem_store::MemStore;
-pub use ports::{Asked, Failed, Next, Sink, Source, Store, StoreError};
+pub use ports::{Asked, Failed, Next, Sink, Source, Store};
 pub use std_sink::StdSink;
 pub use std_source::StdSource;

@@ -3,7 +3,7 @@ ghost use Rattle.std.specs.Prelude.{◌≡◌, ◌⊎◌, ◌↔◌, [], ◌∷�
 ghost use Rattle.pw_io.specs.Faults.{risen};
 ghost use Rattle.pw_io.specs.Sink.{SinkFails, wrote, flushed_all};
 ghost use Rattle.pw_io.specs.Planned.{unused, one_more, FailsNext};
-ghost use Rattle.pw_io.specs.InMemory.{told_sink, IsFull};
+ghost use Rattle.pw_io.specs.InMemory.{reported_sink, IsFull};
 
 use crate::plan::Plan;
 use crate::ports::{Failed, Sink};
@@ -75,12 +75,12 @@ impl MemSink {
 }
 
 impl Sink for MemSink {
-    ghost state = { told_sink };
+    ghost state = { reported_sink };
 
     /// Appends the byte; it fails exactly at the listed calls and where there is no room for it.
     fn put(&mut self, byte: u8) -> Result<(), Failed>
-        ensures ok { OnOk result (told_sink self.new ≡ wrote (byte ∷ []) (told_sink self.old)) }
-        ensures err { OnErr result (SinkFails (told_sink self.old) (told_sink self.new)) }
+        ensures ok { OnOk result (reported_sink self.new ≡ wrote (byte ∷ []) (reported_sink self.old)) }
+        ensures err { OnErr result (SinkFails (reported_sink self.old) (reported_sink self.new)) }
         ensures fails { IsErr result ↔ (FailsNext self.old.planned ⊎ IsFull self.old) }
         ensures one_fault { OnErr result (self.new.faults ≡ risen self.old.faults) }
         ensures counted { self.new.planned ≡ one_more self.old.planned }
@@ -97,8 +97,8 @@ impl Sink for MemSink {
 
     /// Flushes every byte written; it fails exactly at the listed calls.
     fn flush(&mut self) -> Result<(), Failed>
-        ensures ok { OnOk result (told_sink self.new ≡ flushed_all (told_sink self.old)) }
-        ensures err { OnErr result (SinkFails (told_sink self.old) (told_sink self.new)) }
+        ensures ok { OnOk result (reported_sink self.new ≡ flushed_all (reported_sink self.old)) }
+        ensures err { OnErr result (SinkFails (reported_sink self.old) (reported_sink self.new)) }
         ensures fails { IsErr result ↔ FailsNext self.old.planned }
         ensures one_fault { OnErr result (self.new.faults ≡ risen self.old.faults) }
         ensures counted { self.new.planned ≡ one_more self.old.planned }

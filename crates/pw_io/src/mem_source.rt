@@ -3,7 +3,7 @@ ghost use Rattle.std.specs.Prelude.{◌≡◌, ◌↔◌};
 ghost use Rattle.pw_io.specs.Faults.{risen};
 ghost use Rattle.pw_io.specs.Source.{Gives};
 ghost use Rattle.pw_io.specs.Planned.{unused, one_more, FailsNext};
-ghost use Rattle.pw_io.specs.InMemory.{told_source};
+ghost use Rattle.pw_io.specs.InMemory.{reported_source};
 
 use crate::plan::Plan;
 use crate::ports::{Next, Source};
@@ -58,11 +58,11 @@ impl MemSource {
 }
 
 impl Source for MemSource {
-    ghost state = { told_source };
+    ghost state = { reported_source };
 
     /// The first byte left, or the end; it fails exactly at the listed calls.
     fn next(&mut self) -> Next
-        ensures gives { Gives (told_source self.old) result (told_source self.new) }
+        ensures gives { Gives (reported_source self.old) result (reported_source self.new) }
         ensures fails { (result ≡ Next.Failed) ↔ FailsNext self.old.planned }
         ensures one_fault { result ≡ Next.Failed → self.new.faults ≡ risen self.old.faults }
         ensures counted { self.new.planned ≡ one_more self.old.planned }

@@ -3,10 +3,11 @@ ghost use Rattle.std.specs.Prelude.{◌≡◌, ◌⊎◌, ◌↔◌, ◌<◌, �
 ghost use Rattle.std.specs.Str.{bytes_eq};
 ghost use Rattle.pw_io.specs.Faults.{risen};
 ghost use Rattle.pw_io.specs.Store.{Reads, Writes};
-ghost use Rattle.pw_io.specs.InMemory.{told_store, bytes_of, IsListed, IsMissing, FailsWhere, FailsWith, WritesFile};
+ghost use Rattle.pw_io.specs.InMemory.{reported_store, bytes_of, IsListed, IsMissing, ReadFailsWhere, WriteFailsWhere, Fails, WritesFile};
 
-use crate::ports::{Asked, Store, StoreError};
-use pw_base::Name;
+use crate::errors::{ReadError, WriteError};
+use crate::ports::{Asked, Store};
+use pw_base::{Name, NoMemory};
 use std::alloc::Global;
 use std::marker::Model;
 
@@ -68,12 +69,14 @@ fn add_file(
     files: &mut Vec<(Name, Vec<u8>)>,
     name: &Name,
     bytes: Vec<u8>,
-) -> Result<(), StoreError>
+) -> Result<(), NoMemory>
     requires { position (λ file. bytes_eq file.0 name.now) files.old.items ≡ None }
     ensures { WritesFile files.old.items name.now bytes.items files.new.items result }
 {
     let copy = name.copy(alloc)?;
-    files.push((copy, bytes))?;
+    let Ok(()) = files.push((copy, bytes)) else {
+        return Err(NoMemory);
+    };
     Ok(())
 }
 
@@ -83,7 +86,7 @@ fn write_file(
     files: &mut Vec<(Name, Vec<u8>)>,
     name: &Name,
     bytes: Vec<u8>,
-) -> Result<(), StoreError>
+) -> Result<(), NoMemory>
     ensures { WritesFile files.old.items name.now bytes.items files.new.items result }
 {
     match place_of(files, name) {
@@ -140,38 +143,38 @@ impl MemStore {
         self.fails.contains(&(self.calls.len() as u64 + 1))
     }
 
-    /// Lets a call fail: it is added to the calls, and the count of faults rises.
-    fn fail(&mut self, asked: Asked) -> StoreError
-        ensures { FailsWith self.old asked self.new result }
+    /// Lets a call fail: it is added to the calls, and the count of faults rises. After `NoMemory` all is as before.
+    fn fail(&mut self, asked: Asked) -> Result<(), NoMemory>
+        ensures { Fails self.old asked self.new result }
     {
-        if self.calls.push(asked).is_err() {
-            return StoreError::NoMemory;
-        }
+        self.calls.push(asked).map_err(|_| NoMemory)?;
         self.faults = self.faults.saturating_add(1);
-        StoreError::Failed
+        Ok(())
     }
 }
 
 impl Store for MemStore {
-    ghost state = { told_store };
+    ghost state = { reported_store };
 
     /// The whole bytes of the file; it fails exactly at the listed calls and where there is no such file.
-    fn read(&mut self, alloc: Global, name: &Name, limit: u64) -> Result<Vec<u8>, StoreError>
-        ensures reads { Reads (told_store self.old) name.now limit (told_store self.new) result }
-        ensures fails { FailsWhere (IsListed self.old ⊎ IsMissing self.old name.now) result }
-        ensures one_fault { result ≡ Err StoreError.Failed → self.new.faults ≡ risen self.old.faults }
+    fn read(&mut self, alloc: Global, name: &Name, limit: u64) -> Result<Vec<u8>, ReadError>
+        ensures reads { Reads (reported_store self.old) name.now limit (reported_store self.new) result }
+        ensures fails { ReadFailsWhere (IsListed self.old ⊎ IsMissing self.old name.now) result }
+        ensures one_fault { result ≡ Err ReadError.Failed → self.new.faults ≡ risen self.old.faults }
         ensures plan { self.new.fails ≡ self.old.fails }
     {
         let asked = Asked::Read(name.copy(alloc)?);
         if self.is_listed() {
-            return Err(self.fail(asked));
+            self.fail(asked)?;
+            return Err(ReadError::Failed);
         }
         let Some(bytes) = find_file(&self.files, name) else {
-            return Err(self.fail(asked));
+            self.fail(asked)?;
+            return Err(ReadError::Failed);
         };
         if bytes.len() as u64 > limit {
             self.calls.push(asked)?;
-            return Err(StoreError::TooLong(limit));
+            return Err(ReadError::TooLong(limit));
         }
         let copy = Vec::from_slice(alloc, bytes)?;
         self.calls.push(asked)?;
@@ -179,16 +182,17 @@ impl Store for MemStore {
     }
 
     /// Replaces the file, or makes it; it fails exactly at the listed calls, and changes no file then.
-    fn write(&mut self, name: &Name, bytes: &[u8]) -> Result<(), StoreError>
-        ensures writes { Writes (told_store self.old) name.now bytes.now (told_store self.new) result }
-        ensures fails { FailsWhere (IsListed self.old) result }
-        ensures one_fault { result ≡ Err StoreError.Failed → self.new.faults ≡ risen self.old.faults }
+    fn write(&mut self, name: &Name, bytes: &[u8]) -> Result<(), WriteError>
+        ensures writes { Writes (reported_store self.old) name.now bytes.now (reported_store self.new) result }
+        ensures fails { WriteFailsWhere (IsListed self.old) result }
+        ensures one_fault { result ≡ Err WriteError.Failed → self.new.faults ≡ risen self.old.faults }
         ensures unchanged { OnErr result (self.new.files ≡ self.old.files) }
         ensures plan { self.new.fails ≡ self.old.fails }
     {
         let asked = Asked::Write(name.copy(self.alloc)?);
         if self.is_listed() {
-            return Err(self.fail(asked));
+            self.fail(asked)?;
+            return Err(WriteError::Failed);
         }
         let copy = Vec::from_slice(self.alloc, bytes)?;
         self.calls.reserve(1)?;

@@ -4,8 +4,9 @@ ghost use Rattle.pw_io.specs.Source.{SourceState, Gives};
 ghost use Rattle.pw_io.specs.Sink.{SinkState, SinkFails, wrote, flushed_all};
 ghost use Rattle.pw_io.specs.Store.{StoreState, Reads, Writes};
 
-use pw_base::{Name, NoMemory};
-use std::alloc::{AllocError, AllocFailed, Global};
+use crate::errors::{ReadError, WriteError};
+use pw_base::Name;
+use std::alloc::Global;
 use thiserror::Error;
 
 /// What a source answers to the call for its next byte.
@@ -31,53 +32,6 @@ pub enum Asked {
     Read(Name),
     /// To write the file.
     Write(Name),
-}
-
-/// Why a store did not do what it was asked.
-#[derive(Clone, Copy, PartialEq, Eq, Debug, Error)]
-pub enum StoreError {
-    /// The call failed, as it does where the file to be read is missing; the count of faults rose.
-    #[error("failed")]
-    Failed,
-    /// The file to be read has more bytes than this limit.
-    #[error("more than {0} bytes")]
-    TooLong(u64),
-    /// Memory was refused; everything is as before.
-    #[error("out of memory")]
-    NoMemory,
-}
-
-impl From<NoMemory> for StoreError {
-    ghost use Rattle.std.specs.Prelude.{◌≡◌};
-    ghost use Rattle.pw_io.specs.declared.ports.StoreError.TheVariants as cause;
-
-    ghost from_gives = { λ _ error. error ≡ cause.NoMemory };
-
-    fn from(_: NoMemory) -> StoreError {
-        StoreError::NoMemory
-    }
-}
-
-impl<T: Drop> From<AllocFailed<T>> for StoreError {
-    ghost use Rattle.std.specs.Prelude.{◌≡◌};
-    ghost use Rattle.pw_io.specs.declared.ports.StoreError.TheVariants as cause;
-
-    ghost from_gives = { λ _ error. error ≡ cause.NoMemory };
-
-    fn from(_: AllocFailed<T>) -> StoreError {
-        StoreError::NoMemory
-    }
-}
-
-impl From<AllocError> for StoreError {
-    ghost use Rattle.std.specs.Prelude.{◌≡◌};
-    ghost use Rattle.pw_io.specs.declared.ports.StoreError.TheVariants as cause;
-
-    ghost from_gives = { λ _ error. error ≡ cause.NoMemory };
-
-    fn from(_: AllocError) -> StoreError {
-        StoreError::NoMemory
-    }
 }
 
 /// A source of bytes. It means the bytes left, where it reports them, and a count of faults that never falls.
@@ -112,11 +66,11 @@ pub trait Store {
 
     /// The whole bytes of the file of this name, at most `limit`; `TooLong(limit)` exactly where more stand there, in
     /// a call that does not fail. A missing file is a failure. No file changes.
-    fn read(&mut self, alloc: Global, name: &Name, limit: u64) -> Result<Vec<u8>, StoreError>
+    fn read(&mut self, alloc: Global, name: &Name, limit: u64) -> Result<Vec<u8>, ReadError>
         ensures { Reads (state self.old) name.now limit (state self.new) result };
 
-    /// Replaces the file of this name by these bytes, or makes it; never `TooLong`. After a failure that file may hold
-    /// anything, and every other is as before.
-    fn write(&mut self, name: &Name, bytes: &[u8]) -> Result<(), StoreError>
+    /// Replaces the file of this name by these bytes, or makes it. After a failure that file may hold anything, and every
+    /// other is as before.
+    fn write(&mut self, name: &Name, bytes: &[u8]) -> Result<(), WriteError>
         ensures { Writes (state self.old) name.now bytes.now (state self.new) result };
 }

@@ -188,7 +188,7 @@ fn bytes_put_across_a_page_are_loaded(rt: HostRuntime) -> Result<(), Fail> {
 }
 
 #[test]
-fn fetches_are_told_until_they_are_too_many(rt: HostRuntime) -> Result<(), Fail> {
+fn fetches_are_reported_until_they_are_too_many(rt: HostRuntime) -> Result<(), Fail> {
     let mut mem = Recorder::new(rt.alloc())?;
     map_four(&mut mem)?;
     fill_four(&mut mem)?;
@@ -207,21 +207,21 @@ fn fetches_are_told_until_they_are_too_many(rt: HostRuntime) -> Result<(), Fail>
     for (at, answer) in fetched {
         assert_eq!(rt; mem.fetch(at), answer, "at {at}");
     }
-    let told = [16, 20, 18, 0, 28, 32, TOP + 4, TOP + 6];
+    let addresses = [16, 20, 18, 0, 28, 32, TOP + 4, TOP + 6];
     assert_eq!(rt;
-        mem.told(),
-        Some(told.as_slice()),
-        "refused fetches are told too"
+        mem.reported(),
+        Some(addresses.as_slice()),
+        "refused fetches are reported too"
     );
     for _ in 8..Recorder::MOST {
         let _ = mem.fetch(16);
     }
-    assert!(rt; mem.told().is_some());
+    assert!(rt; mem.reported().is_some());
     let _ = mem.fetch(16);
-    assert!(rt; mem.told().is_none());
+    assert!(rt; mem.reported().is_none());
     map_four(&mut mem)?;
     assert_eq!(rt;
-        mem.told(),
+        mem.reported(),
         Some([].as_slice()),
         "a new mapping begins anew"
     );

@@ -2,8 +2,8 @@
 
 use pw_base::Name;
 use pw_io::{
-    Asked, DirStore, Failed, MemSink, MemSource, MemStore, Next, Sink, Source, StdSink, StdSource,
-    Store, StoreError,
+    Asked, DirStore, Failed, MemSink, MemSource, MemStore, Next, ReadError, Sink, Source, StdSink,
+    StdSource, Store, WriteError,
 };
 use std::io::{Read, Write};
 use std::test::Fail;
@@ -53,14 +53,14 @@ fn a_store_reads_within_the_limit_and_fails_at_its_second_call(
         store.read(alloc, &name, 3)?.as_slice(),
         [1, 2, 3].as_slice()
     );
-    assert_eq!(rt; store.read(alloc, &name, 3).err(), Some(StoreError::Failed));
+    assert_eq!(rt; store.read(alloc, &name, 3).err(), Some(ReadError::Failed));
     assert_eq!(rt;
         store.read(alloc, &name, 2).err(),
-        Some(StoreError::TooLong(2))
+        Some(ReadError::TooLong(2))
     );
     assert_eq!(rt;
         store.read(alloc, &missing, 2).err(),
-        Some(StoreError::Failed)
+        Some(ReadError::Failed)
     );
     assert_eq!(rt; (store.calls().len(), store.faults()), (4, 2));
     Ok(())
@@ -75,7 +75,7 @@ fn a_written_file_is_read_back_and_the_others_stay(rt: HostRuntime) -> Result<()
     store.write(&old, b"first")?;
     store.write(&new, b"second")?;
     store.write(&old, b"third")?;
-    assert_eq!(rt; store.write(&new, b"fourth"), Err(StoreError::Failed));
+    assert_eq!(rt; store.write(&new, b"fourth"), Err(WriteError::Failed));
     assert_eq!(rt; store.read(alloc, &old, 9)?.as_slice(), b"third".as_slice());
     assert_eq!(rt; store.file(&new), Some(b"second".as_slice()));
     assert_eq!(rt; matches!(store.calls().last(), Some(Asked::Read(_))), true);
@@ -146,18 +146,18 @@ fn a_written_file_is_read_back_and_what_is_missing_or_a_folder_fails(
     assert_eq!(rt; store.read(alloc, &name, 4)?.as_slice(), b"text".as_slice());
     assert_eq!(rt;
         store.read(alloc, &name, 3).err(),
-        Some(StoreError::TooLong(3))
+        Some(ReadError::TooLong(3))
     );
     assert_eq!(rt; store.faults(), 0);
     assert_eq!(rt;
         store.read(alloc, &missing, 4).err(),
-        Some(StoreError::Failed)
+        Some(ReadError::Failed)
     );
     assert_eq!(rt;
         store.read(alloc, &folder, 4).err(),
-        Some(StoreError::Failed)
+        Some(ReadError::Failed)
     );
-    assert_eq!(rt; store.write(&folder, b"text"), Err(StoreError::Failed));
+    assert_eq!(rt; store.write(&folder, b"text"), Err(WriteError::Failed));
     assert_eq!(rt; store.faults(), 3);
     fs::remove_file(&rt, "pw_io-written-by-a-test")?;
     Ok(())

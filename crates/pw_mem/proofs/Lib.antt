@@ -1,3 +1,4 @@
+-- The laws of memory on memories alone, and last those of its fetches, which callers cite.
 pub mod Bytes
 pub mod Regions
 pub mod Words
@@ -8,3 +9,4 @@ pub mod Find
 pub mod Writes
 pub mod Loads
 pub mod Apart
+pub mod States

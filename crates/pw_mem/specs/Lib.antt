@@ -2,7 +2,7 @@
 -- the laws of memory, the two memories of this crate, and last the words of private contracts.
 pub mod Regions
 pub mod Memory
-pub mod Fetches
+pub mod States
 pub mod Map
 pub mod Words
 pub mod WordLaws

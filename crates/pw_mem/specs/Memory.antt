@@ -1,5 +1,5 @@
 -- What a memory is, and what each of its calls answers and leaves.
-use Rattle.std.specs.Prelude.{◌≡◌, ℕ, ◌%◌, ◌==◌, Bool, true, ◌&&◌, ◌||◌, not, List, length, replicate, if◌then◌else◌, Option, Some, None, Result, Ok, Err}
+use Rattle.std.specs.Prelude.{ℕ, ◌%◌, ◌==◌, Bool, true, ◌&&◌, ◌||◌, not, List, length, replicate, if◌then◌else◌, Option, Some, None, Result, Ok, Err}
 use Rattle.pw_base.specs.Bytes.{le, le_bytes}
 use Rattle.pw_mem.specs.declared.errors.Access.{Access}
 use Rattle.pw_mem.specs.declared.errors.Access.TheVariants.{Misaligned, Unmapped, Denied}
@@ -70,10 +70,3 @@ zero_bytes m at n = put m at (zeros n)
 -- the memory, sealed
 abbrev pub seal : Mem → Mem
 seal m = record m { sealed = true }
-
--- a call does what `after` says: it leaves that memory, or it answers that refusal and leaves the memory as it was
-abbrev pub Writes : Result Mem Access → Mem → Mem → Result (Unit {0}) Access → Type 0
-Writes (Ok after) old new (Ok done) = new ≡ after
-Writes (Err refusal) old new (Err answer) = (answer ≡ refusal) × (new ≡ old)
-Writes (Ok after) old new (Err answer) = ⊥
-Writes (Err refusal) old new (Ok done) = ⊥

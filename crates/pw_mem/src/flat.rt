@@ -1,10 +1,11 @@
 //! A memory that keeps one vector a region.
 
-ghost use Rattle.std.specs.Prelude.{◌≡◌, ℕ, ◌<◌, [], None, MatchResult, length, position, false};
+ghost use Rattle.std.specs.Prelude.{◌≡◌, [], None, MatchResult, length, position, false};
 ghost use Rattle.pw_mem.specs.declared.errors.Access.TheVariants.{Unmapped};
 ghost use Rattle.pw_mem.specs.Regions.{holds, region_at, written};
-ghost use Rattle.pw_mem.specs.Memory.{Mem, zeros, with_regions};
-ghost use Rattle.pw_mem.specs.Flat.{region_of, mem_of, fetches_of};
+ghost use Rattle.pw_mem.specs.Memory.{zeros, with_regions};
+ghost use Rattle.pw_mem.specs.States.{with_mem};
+ghost use Rattle.pw_mem.specs.Flat.{region_of, mem_of, flat_state};
 ghost use Rattle.pw_mem.specs.Steps.Found.{IsFound};
 
 use crate::errors::{Access, MapError};
@@ -26,8 +27,7 @@ pub struct FlatMemory {
 impl FlatMemory {
     /// A memory with no region. Takes no memory.
     pub fn new(alloc: Global) -> FlatMemory
-        ensures mem { mem_of result ≡ record { regions = []; sealed = false } }
-        ensures no_fetch { fetches_of result ≡ 0 }
+        ensures { flat_state result ≡ record { mem = record { regions = []; sealed = false }; fetches = 0; fetched = None } }
     {
         FlatMemory {
             alloc,
@@ -55,8 +55,8 @@ impl FlatMemory {
     /// Writes bytes into the region with this number, which holds their places.
     fn write(&mut self, i: usize, at: u64, bytes: &[u8])
         requires { IsFound self.old at (length bytes.now) i }
-        ensures written { mem_of self.new ≡ with_regions (mem_of self.old) (written (mem_of self.old).regions at bytes.now) }
-        ensures no_fetch { fetches_of self.new ≡ fetches_of self.old }
+        ensures { flat_state self.new
+            ≡ with_mem (flat_state self.old) (with_regions (mem_of self.old) (written (mem_of self.old).regions at bytes.now)) }
     {
         self.regions[i].write(at, bytes);
     }
@@ -64,19 +64,15 @@ impl FlatMemory {
     /// Sets bytes of the region with this number, which holds their places, to 0.
     fn clear(&mut self, i: usize, at: u64, len: u64)
         requires { IsFound self.old at len i }
-        ensures written { mem_of self.new ≡ with_regions (mem_of self.old) (written (mem_of self.old).regions at (zeros len)) }
-        ensures no_fetch { fetches_of self.new ≡ fetches_of self.old }
+        ensures { flat_state self.new
+            ≡ with_mem (flat_state self.old) (with_regions (mem_of self.old) (written (mem_of self.old).regions at (zeros len))) }
     {
         self.regions[i].clear(at, len);
     }
 }
 
 impl Memory for FlatMemory {
-    ghost mem = { mem_of };
-
-    ghost fetches = { fetches_of };
-
-    ghost told = { λ _. None };
+    ghost state = { flat_state };
 
     fn map(&mut self, regions: &[Region]) -> Result<(), MapError> {
         check(regions)?;

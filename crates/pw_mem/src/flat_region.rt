@@ -4,7 +4,7 @@ ghost use Rattle.std.specs.Prelude.{◌≡◌, ◌+◌, ◌^◌, ◌<◌, ◌≤
 ghost use Rattle.pw_base.specs.Bytes.{le};
 ghost use Rattle.pw_mem.specs.Regions.{holds, bytes_at, with_bytes};
 ghost use Rattle.pw_mem.specs.Memory.{zeros, may_store, may_put};
-ghost use Rattle.pw_mem.specs.Map.{allows, fresh};
+ghost use Rattle.pw_mem.specs.Map.{fresh};
 ghost use Rattle.pw_mem.specs.Flat.{region_of};
 
 use crate::region::Region;

@@ -1,8 +1,8 @@
 //! What a memory is: regions with their bytes, a seal, and the fetches that it has seen.
 
-ghost use Rattle.std.specs.Prelude.{◌≡◌, ℕ, List, [], ◌∷◌, Option, OnOk, OnErr, IfErr, IfSome, IsTrue};
-ghost use Rattle.pw_mem.specs.Memory.{Mem, is_width, load, store, fetch, put, zero_bytes, seal, Writes};
-ghost use Rattle.pw_mem.specs.Fetches.{counted, Told};
+ghost use Rattle.std.specs.Prelude.{◌≡◌, [], ◌∷◌, OnOk, OnErr, IfErr, IsTrue};
+ghost use Rattle.pw_mem.specs.Memory.{is_width, load, store, fetch, put, zero_bytes, seal};
+ghost use Rattle.pw_mem.specs.States.{MemoryState, with_mem, NoFetches, AddsFetches, Writes};
 ghost use Rattle.pw_mem.specs.Map.{CanMap, IsFault, mapped};
 
 use crate::errors::{Access, MapError};
@@ -12,11 +12,7 @@ use crate::region::Region;
 /// where it reports them, the list of their addresses. A memory that ceases to report the list does not report it again
 /// before the next `map`. A refusal changes no byte, and only `map` takes memory.
 pub trait Memory {
-    ghost mem: { Self → Mem };
-
-    ghost fetches: { Self → ℕ };
-
-    ghost told: { Self → Option (List ℕ) };
+    ghost state: { Self → MemoryState };
 
     /// Replaces everything by these regions, with all bytes 0, not sealed, no fetch and no address fetched.
     ///
@@ -26,21 +22,19 @@ pub trait Memory {
     /// all is as before.
     fn map(&mut self, regions: &[Region]) -> Result<(), MapError>
         ensures no_fault { OnOk result (CanMap regions.now) }
-        ensures mapped { OnOk result (mem self.new ≡ mapped regions.now) }
-        ensures no_fetch { OnOk result ((fetches self.new ≡ 0) × IfSome (told self.new) (λ list. list ≡ [])) }
+        ensures mapped { OnOk result ((state self.new).mem ≡ mapped regions.now) }
+        ensures no_fetch { OnOk result (NoFetches (state self.new)) }
         ensures fault { IfErr result (IsFault regions.now) }
-        ensures as_before { OnErr result ((mem self.new ≡ mem self.old) × (fetches self.new ≡ fetches self.old)
-            × (told self.new ≡ told self.old)) };
+        ensures as_before { OnErr result (state self.new ≡ state self.old) };
 
     /// The instruction word at an address. Counts one more fetch, whatever the answer.
     ///
     /// Refusals: `Misaligned` where the address is no multiple of 4, else `Unmapped` where no region holds the four
     /// bytes, else `Denied` where that region is not executable.
     fn fetch(&mut self, at: u64) -> Result<u32, Access>
-        ensures word { result ≡ fetch (mem self.old) at }
-        ensures unchanged { mem self.new ≡ mem self.old }
-        ensures counts { fetches self.new ≡ counted (fetches self.old) 1 }
-        ensures tells { Told (told self.old) (at ∷ []) (told self.new) };
+        ensures word { result ≡ fetch (state self.old).mem at }
+        ensures unchanged { (state self.new).mem ≡ (state self.old).mem }
+        ensures fetched { AddsFetches (at ∷ []) (state self.old) (state self.new) };
 
     /// The number of 1, 2, 4 or 8 bytes at an address, little-endian.
     ///
@@ -48,7 +42,7 @@ pub trait Memory {
     /// bytes, else `Denied` where that region may not be read.
     fn load(&self, at: u64, width: u8) -> Result<u64, Access>
         requires { IsTrue (is_width width) }
-        ensures { result ≡ load (mem self.now) at width };
+        ensures { result ≡ load (state self.now).mem at width };
 
     /// Stores the lowest 1, 2, 4 or 8 bytes of a number, little-endian.
     ///
@@ -56,24 +50,20 @@ pub trait Memory {
     /// bytes, else `Denied` where that region may not be written, or the memory is sealed and the region executable.
     fn store(&mut self, at: u64, width: u8, value: u64) -> Result<(), Access>
         requires { IsTrue (is_width width) }
-        ensures writes { Writes (store (mem self.old) at width value) (mem self.old) (mem self.new) result }
-        ensures no_fetch { (fetches self.new ≡ fetches self.old) × (told self.new ≡ told self.old) };
+        ensures { Writes (store (state self.old).mem at width value) (state self.old) (state self.new) result };
 
     /// Writes bytes at any address, whatever the rights until the memory is sealed. No bytes change nothing.
     ///
     /// Refusals: `Unmapped` where there are bytes and no region holds their places, else `Denied` where the memory is
     /// sealed and the region may not be written or is executable.
     fn put(&mut self, at: u64, bytes: &[u8]) -> Result<(), Access>
-        ensures writes { Writes (put (mem self.old) at bytes.now) (mem self.old) (mem self.new) result }
-        ensures no_fetch { (fetches self.new ≡ fetches self.old) × (told self.new ≡ told self.old) };
+        ensures { Writes (put (state self.old).mem at bytes.now) (state self.old) (state self.new) result };
 
     /// Sets so many bytes to 0; the answer is that of `put` of so many zeros.
     fn zero(&mut self, at: u64, len: u64) -> Result<(), Access>
-        ensures writes { Writes (zero_bytes (mem self.old) at len) (mem self.old) (mem self.new) result }
-        ensures no_fetch { (fetches self.new ≡ fetches self.old) × (told self.new ≡ told self.old) };
+        ensures { Writes (zero_bytes (state self.old).mem at len) (state self.old) (state self.new) result };
 
     /// Seals the memory: from now on its executable regions change no more.
     fn seal(&mut self)
-        ensures sealed { mem self.new ≡ seal (mem self.old) }
-        ensures no_fetch { (fetches self.new ≡ fetches self.old) × (told self.new ≡ told self.old) };
+        ensures { state self.new ≡ with_mem (state self.old) (seal (state self.old).mem) };
 }

@@ -1,8 +1,7 @@
 //! A memory that also reports the addresses of its fetches, up to a number of them.
 
 ghost use Rattle.std.specs.Prelude.{◌≡◌, Some, [], IfOk, option_copied, false};
-ghost use Rattle.pw_mem.specs.Flat.{mem_of, fetches_of};
-ghost use Rattle.pw_mem.specs.Recording.{recorded_mem, recorded_fetches, told_of};
+ghost use Rattle.pw_mem.specs.Recording.{recorded_state};
 
 use crate::errors::{Access, MapError};
 use crate::flat::FlatMemory;
@@ -17,7 +16,7 @@ use std::alloc::Global;
 pub struct Recorder {
     flat: FlatMemory,
     addresses: Vec<u64>,
-    tells: bool,
+    reports: bool,
 }
 
 impl Recorder {
@@ -27,21 +26,21 @@ impl Recorder {
     /// A memory with no region and no fetch. Takes the room for the addresses, of 8 bytes each; `NoMemory` where that is
     /// refused.
     pub fn new(alloc: Global) -> Result<Recorder, NoMemory>
-        ensures mem { IfOk result (λ made. recorded_mem made ≡ record { regions = []; sealed = false }) }
-        ensures no_fetch { IfOk result (λ made. (recorded_fetches made ≡ 0) × (told_of made ≡ Some [])) }
+        ensures { IfOk result (λ made. recorded_state made
+            ≡ record { mem = record { regions = []; sealed = false }; fetches = 0; fetched = Some [] }) }
     {
         Ok(Recorder {
             flat: FlatMemory::new(alloc),
             addresses: Vec::with_capacity(alloc, Recorder::MOST)?,
-            tells: true,
+            reports: true,
         })
     }
 
     /// The addresses fetched from since the last `map`, in order, where they are reported.
-    pub fn told(&self) -> Option<&[u64]>
-        ensures { option_copied result ≡ told_of self.now }
+    pub fn reported(&self) -> Option<&[u64]>
+        ensures { option_copied result ≡ (recorded_state self.now).fetched }
     {
-        if self.tells {
+        if self.reports {
             Some(self.addresses.as_slice())
         } else {
             None
@@ -50,24 +49,20 @@ impl Recorder {
 }
 
 impl Memory for Recorder {
-    ghost mem = { recorded_mem };
-
-    ghost fetches = { recorded_fetches };
-
-    ghost told = { told_of };
+    ghost state = { recorded_state };
 
     fn map(&mut self, regions: &[Region]) -> Result<(), MapError> {
         self.flat.map(regions)?;
         self.addresses.clear();
-        self.tells = true;
+        self.reports = true;
         Ok(())
     }
 
     fn fetch(&mut self, at: u64) -> Result<u32, Access> {
-        if self.tells
+        if self.reports
             && (self.addresses.len() >= Recorder::MOST || self.addresses.push(at).is_err())
         {
-            self.tells = false;
+            self.reports = false;
         }
         self.flat.fetch(at)
     }

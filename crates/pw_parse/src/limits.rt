@@ -52,7 +52,7 @@ fn bracket(depth: usize, token: &Token) -> usize
 {
     if opens(token) {
         depth + 1
-    } else if closes_bracket(token) {
+    } else if closes(token) {
         depth.saturating_sub(1)
     } else {
         depth

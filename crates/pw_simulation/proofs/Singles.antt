@@ -1,5 +1,5 @@
 -- The laws of single pieces, from what their files prove.
-use Rattle.pw_simulation.specs.Laws.{AddressesAreBrought, FaultsStop, DoublewordsAreLoaded, DoublewordsAreStored}
+use Rattle.pw_simulation.specs.Laws.{AddressesAreBrought, FaultsStop, LoadsAreCarriedOut, StoresAreCarriedOut}
 use Rattle.pw_simulation.proofs.Steps.{moves_load, moves_store}
 use Rattle.pw_simulation.proofs.Pieces.{address_runs, fault_halts}
 
@@ -10,8 +10,8 @@ addresses_are_brought w m u r to s apart ready brings =
 pub faults_stop : FaultsStop
 faults_stop w m u stack_pointer calls_left f line d st s apart small at here inside = fault_halts w apart m u stack_pointer calls_left f line d st s small at here inside
 
-pub doublewords_are_loaded : DoublewordsAreLoaded
-doublewords_are_loaded w s rd rs1 imm at value apart ready here place has = (moves_load w apart s rd rs1 imm at value ready here place has).goes
+pub loads_are_carried_out : LoadsAreCarriedOut
+loads_are_carried_out w s rd rs1 imm at value apart ready here place has = (moves_load w apart s rd rs1 imm at value ready here place has).goes
 
-pub doublewords_are_stored : DoublewordsAreStored
-doublewords_are_stored w s rs1 rs2 imm at was apart ready here place has = (moves_store w apart s rs1 rs2 imm at was ready here place has).goes
+pub stores_are_carried_out : StoresAreCarriedOut
+stores_are_carried_out w s rs1 rs2 imm at was apart ready here place has = (moves_store w apart s rs1 rs2 imm at was ready here place has).goes

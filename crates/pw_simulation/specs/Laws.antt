@@ -35,14 +35,14 @@ FaultsStop =
     Halts w (size (fault (kind_of f) line)) (checked f d line) st s
 
 -- A doubleword is loaded into a register,
-abbrev pub DoublewordsAreLoaded : Type 0
-DoublewordsAreLoaded =
+abbrev pub LoadsAreCarriedOut : Type 0
+LoadsAreCarriedOut =
     (w : World) (s : MachineState) (rd rs1 : ℕ) (imm : ℤ) (at value : ℕ) → IsApart w → IsReady w s.mem → w.code s.pc ≡ Some (Ld rd rs1 imm) →
     effective rs1 imm s ≡ at → doubleword s.mem at ≡ Some value → step s ≡ Goes (record s { x = set s.x rd value; pc = s.pc + 4 })
 
 -- and is stored from one.
-abbrev pub DoublewordsAreStored : Type 0
-DoublewordsAreStored =
+abbrev pub StoresAreCarriedOut : Type 0
+StoresAreCarriedOut =
     (w : World) (s : MachineState) (rs1 rs2 : ℕ) (imm : ℤ) (at was : ℕ) → IsApart w → IsReady w s.mem → w.code s.pc ≡ Some (Sd rs1 rs2 imm) →
     effective rs1 imm s ≡ at → doubleword s.mem at ≡ Some was →
     step s ≡ Goes (record s { mem = put_doubleword s.mem at (get s.x rs2); pc = s.pc + 4 })

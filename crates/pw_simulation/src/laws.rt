@@ -1,7 +1,7 @@
 //! The laws of a run, over definitions alone. Each is the contract of a function, which does nothing.
 
 ghost use Rattle.pw_simulation.specs.Calls.{ExpressionsRun};
-ghost use Rattle.pw_simulation.specs.Laws.{AddressesAreBrought, DoublewordsAreLoaded, DoublewordsAreStored, FaultsStop};
+ghost use Rattle.pw_simulation.specs.Laws.{AddressesAreBrought, LoadsAreCarriedOut, StoresAreCarriedOut, FaultsStop};
 ghost use Rattle.pw_simulation.specs.Straight.{LoadImmediateLoads};
 ghost use Rattle.pw_simulation.specs.Witness.{WorldSees};
 
@@ -21,13 +21,13 @@ pub fn faults_stop()
 {}
 
 /// A doubleword of memory is loaded into a register.
-pub fn doublewords_are_loaded()
-    ensures { DoublewordsAreLoaded }
+pub fn loads_are_carried_out()
+    ensures { LoadsAreCarriedOut }
 {}
 
 /// A register is stored in a doubleword of memory.
-pub fn doublewords_are_stored()
-    ensures { DoublewordsAreStored }
+pub fn stores_are_carried_out()
+    ensures { StoresAreCarriedOut }
 {}
 
 /// If calls do what they mean, the code of an expression does what the expression comes to.

@@ -5,6 +5,6 @@
 mod laws;
 
 pub use laws::{
-    a_world_shows_a_project, addresses_are_brought, doublewords_are_loaded, doublewords_are_stored,
-    expressions_run, faults_stop, load_immediate_loads,
+    a_world_shows_a_project, addresses_are_brought, expressions_run, faults_stop,
+    load_immediate_loads, loads_are_carried_out, stores_are_carried_out,
 };

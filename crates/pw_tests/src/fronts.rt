@@ -110,8 +110,8 @@ fn each_fault_has_its_text(rt: HostRuntime) -> Result<(), Fail> {
         (FrontError::NoMemory, "out of memory"),
     ];
     for (fault, expected) in rows {
-        let told = format!(in rt.alloc(); "{fault}")?;
-        assert_eq!(rt; told.as_str(), expected);
+        let text = format!(in rt.alloc(); "{fault}")?;
+        assert_eq!(rt; text.as_str(), expected);
     }
     Ok(())
 }

@@ -3,7 +3,7 @@ use Rattle.std.specs.Prelude.{ℕ}
 use Rattle.std.specs.Int.{w8, w16, w32}
 use Rattle.pw_hart.specs.declared.access.Load.{Load}
 use Rattle.pw_hart.specs.declared.access.Load.TheVariants.{Byte, Half, Word, Double, UnsignedByte, UnsignedHalf, UnsignedWord}
-use Rattle.pw_hart.specs.Bits.{sign_extend, zero_extend}
+use Rattle.pw_hart.specs.Bits.{sign_extend64, zero_extend}
 
 -- how many bytes are loaded
 abbrev pub width_of : Load → ℕ
@@ -17,9 +17,9 @@ width_of UnsignedWord = 4
 
 -- how the value is extended to 64 bits
 abbrev pub extension_of : Load → ℕ → ℕ
-extension_of Byte value = sign_extend w8 value
-extension_of Half value = sign_extend w16 value
-extension_of Word value = sign_extend w32 value
+extension_of Byte value = sign_extend64 w8 value
+extension_of Half value = sign_extend64 w16 value
+extension_of Word value = sign_extend64 w32 value
 extension_of Double value = value
 extension_of UnsignedByte value = zero_extend w8 value
 extension_of UnsignedHalf value = zero_extend w16 value

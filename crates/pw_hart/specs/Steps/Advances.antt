@@ -4,7 +4,7 @@ use Rattle.pw_isa.specs.declared.instruction.Inst.TheVariants.{Ecall}
 use Rattle.pw_isa.specs.Registers.{a7}
 use Rattle.pw_isa.specs.EnvironmentCalls.{input_call, output_call}
 use Rattle.pw_mem.specs.Memory.{Mem}
-use Rattle.pw_mem.specs.Fetches.{counted, Told}
+use Rattle.pw_mem.specs.States.{AddsFetches}
 use Rattle.pw_io.specs.Source.{SourceState, SourceFails, after}
 use Rattle.pw_io.specs.Sink.{SinkState, SinkFails, wrote}
 use Rattle.pw_hart.specs.declared.hart.Hart.{Hart}
@@ -47,20 +47,20 @@ pub record Uses (instruction : MachineState → Next) (old : Ports) (hart : Hart
       instruction (state_of hart mem (taken ++ rest) output) ≡ next (state_of hart' mem' rest (output ++ put))
 
 -- the call of input moves the processor on, or fails and leaves it
-abbrev pub Takes : SourceState → Bool → Hart → SourceState → Bool → Hart → Option End → Type 0
-Takes old used_up hart new used_up' hart' None =
+abbrev pub TakesInput : SourceState → Bool → Hart → SourceState → Bool → Hart → Option End → Type 0
+TakesInput old used_up hart new used_up' hart' None =
     (mem : Mem) (out : SinkState) → Uses (λ s. takes_input s.input s) (record { input = old; used_up = used_up; out = out }) hart mem
     (record { input = new; used_up = used_up'; out = out }) hart' mem Goes
-Takes old used_up hart new used_up' hart' (Some ReadFault) = SourceFails old new × (hart' ≡ hart)
-Takes old used_up hart new used_up' hart' (Some end) = ⊥
+TakesInput old used_up hart new used_up' hart' (Some ReadFault) = SourceFails old new × (hart' ≡ hart)
+TakesInput old used_up hart new used_up' hart' (Some end) = ⊥
 
 -- the call of output moves the processor on, or fails and leaves it
-abbrev pub Puts : SinkState → Hart → SinkState → Hart → Option End → Type 0
-Puts old hart new hart' None =
+abbrev pub PutsOutput : SinkState → Hart → SinkState → Hart → Option End → Type 0
+PutsOutput old hart new hart' None =
     (mem : Mem) (input : SourceState) (used_up : Bool) → Uses puts_output (record { input = input; used_up = used_up; out = old }) hart mem
     (record { input = input; used_up = used_up; out = new }) hart' mem Goes
-Puts old hart new hart' (Some WriteFault) = SinkFails old new × (hart' ≡ hart)
-Puts old hart new hart' (Some end) = ⊥
+PutsOutput old hart new hart' (Some WriteFault) = SinkFails old new × (hart' ≡ hart)
+PutsOutput old hart new hart' (Some end) = ⊥
 
 -- the input failed at its call, and nothing else changed
 pub record InputFails (old : Ports) (hart : Hart) (new : Ports) (hart' : Hart) : Type 0 where
@@ -77,26 +77,21 @@ pub record OutputFails (old : Ports) (hart : Hart) (new : Ports) (hart' : Hart) 
   pub out : SinkFails old.out new.out
 
 -- what an environment call answers and leaves
-abbrev pub Calls : Ports → Hart → Ports → Hart → Option End → Type 0
-Calls old hart new hart' None = (mem : Mem) → Uses (exec Ecall) old hart mem new hart' mem Goes
-Calls old hart new hart' (Some ReadFault) = InputFails old hart new hart'
-Calls old hart new hart' (Some WriteFault) = OutputFails old hart new hart'
-Calls old hart new hart' (Some Limit) = ⊥
-Calls old hart new hart' (Some end) = (mem : Mem) → Uses (exec Ecall) old hart mem new hart' mem (Ends end)
+abbrev pub CallsEnvironment : Ports → Hart → Ports → Hart → Option End → Type 0
+CallsEnvironment old hart new hart' None = (mem : Mem) → Uses (exec Ecall) old hart mem new hart' mem Goes
+CallsEnvironment old hart new hart' (Some ReadFault) = InputFails old hart new hart'
+CallsEnvironment old hart new hart' (Some WriteFault) = OutputFails old hart new hart'
+CallsEnvironment old hart new hart' (Some Limit) = ⊥
+CallsEnvironment old hart new hart' (Some end) = (mem : Mem) → Uses (exec Ecall) old hart mem new hart' mem (Ends end)
 
 -- the ports of an execution
 abbrev pub ports : ExecutionState → Bool → Ports
 ports m used_up = record { input = m.input; used_up = used_up; out = m.out }
 
--- one fetch at the pc was counted and reported
-pub record CountsFetch (old new : ExecutionState) : Type 0 where
-  pub counts : new.fetches ≡ counted old.fetches 1
-  pub tells : Told old.told (old.hart.pc ∷ []) new.told
-
 -- one step of the machine, from a state of an execution to the next
 pub record MachineStep (old : ExecutionState) (used_up : Bool) (new : ExecutionState) (used_up' : Bool) (next : MachineState → Next) : Type 0 where
-  pub fetches : CountsFetch old new
-  pub uses : Uses step (ports old used_up) old.hart old.mem (ports new used_up') new.hart new.mem next
+  pub fetches : AddsFetches (old.hart.pc ∷ []) old.memory new.memory
+  pub uses : Uses step (ports old used_up) old.hart old.memory.mem (ports new used_up') new.hart new.memory.mem next
 
 -- what one instruction answers and leaves: nothing where the run goes on, or how it ends
 abbrev pub Advances : ExecutionState → Bool → ExecutionState → Bool → Option End → Type 0

@@ -1,5 +1,5 @@
 -- Each function adds its words, and all of them are few.
-use Rattle.std.proofs.Common.{◌≡◌, refl, arith, ◌∙◌, sym, ap}
+use Rattle.std.proofs.Common.{arith}
 use Rattle.pw_build.proofs.Sizes.{words_to, words_more, outs_few}
 use Rattle.pw_build.proofs.entry.words_of.Goals as goal
 

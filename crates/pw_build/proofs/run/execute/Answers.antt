@@ -1,6 +1,5 @@
 -- A run that is the machine's ends with the value of `main`, so no other end comes; and each end is as meant.
 use Rattle.std.proofs.Common.{◌≡◌, ℕ, ◌+◌, ◌*◌, ap}
-use Rattle.pw_hart.specs.declared.ends.End.{End}
 use Rattle.pw_hart.specs.declared.ends.End.TheVariants as ends
 use Rattle.pw_build.proofs.Meaning.{only_exit, meant_at_exit, meant_at_fault, meant_at_read_fault}
 use Rattle.pw_build.proofs.run.execute.Goals as goal
@@ -35,13 +34,13 @@ unreachable-requires-in-Limit g c =
     limit_is_no_exit _ (only_exit _ _ _ _ _ _ c.requires.placed c.requires.has_main c.requires.bound.0 c.fresh-hart.ensures c.requires.has_image (ap (λ k. (c.args.steps + 1) * k) c.words_of.ensures) c.in-Limit.ensures)
 
 pub returns-in-Exit-clause-meant : goal.returns-in-Exit-clause-meant
-returns-in-Exit-clause-meant g c =
-    meant_at_exit _ _ _ _ _ _ _ c.flushed.result c.requires.placed c.requires.has_main c.requires.bound.0 c.fresh-hart.ensures c.requires.has_image (ap (λ k. (c.args.steps + 1) * k) c.words_of.ensures) c.in-Exit.ensures c.flushed.ensures
+returns-in-Exit-clause-meant g c = λ store messages.
+    meant_at_exit _ _ _ _ _ _ _ c.flushed.result store messages c.requires.placed c.requires.has_main c.requires.bound.0 c.fresh-hart.ensures c.requires.has_image (ap (λ k. (c.args.steps + 1) * k) c.words_of.ensures) c.in-Exit.ensures c.flushed.ensures
 
 pub returns-in-WriteFault-clause-meant : goal.returns-in-WriteFault-clause-meant
-returns-in-WriteFault-clause-meant g c =
-    meant_at_fault _ _ _ _ _ c.requires.placed c.requires.has_main c.requires.bound.0 c.fresh-hart.ensures c.requires.has_image (ap (λ k. (c.args.steps + 1) * k) c.words_of.ensures) c.in-WriteFault.ensures
+returns-in-WriteFault-clause-meant g c = λ store messages.
+    meant_at_fault _ _ _ _ _ store messages c.requires.placed c.requires.has_main c.requires.bound.0 c.fresh-hart.ensures c.requires.has_image (ap (λ k. (c.args.steps + 1) * k) c.words_of.ensures) c.in-WriteFault.ensures
 
 pub returns-in-ReadFault-clause-meant : goal.returns-in-ReadFault-clause-meant
-returns-in-ReadFault-clause-meant g c =
-    meant_at_read_fault _ _ _ _ _ c.requires.placed c.requires.has_main c.requires.bound.0 c.fresh-hart.ensures c.requires.has_image (ap (λ k. (c.args.steps + 1) * k) c.words_of.ensures) c.in-ReadFault.ensures
+returns-in-ReadFault-clause-meant g c = λ store messages.
+    meant_at_read_fault _ _ _ _ _ store messages c.requires.placed c.requires.has_main c.requires.bound.0 c.fresh-hart.ensures c.requires.has_image (ap (λ k. (c.args.steps + 1) * k) c.words_of.ensures) c.in-ReadFault.ensures

@@ -1,5 +1,5 @@
 -- An iteration puts the bytes of one word more.
-use Rattle.std.proofs.Common.{◌≡◌, ◌++◌, ◌∙◌, ap, sym, take, get_or}
+use Rattle.std.proofs.Common.{◌++◌, ◌∙◌, ap, sym, take, get_or}
 use Rattle.pw_mem.specs.Words.{text_bytes}
 use Rattle.pw_build.proofs.Parts.{text_bytes-more, four_bytes}
 use Rattle.pw_build.proofs.text.bytes_of.Goals as goal

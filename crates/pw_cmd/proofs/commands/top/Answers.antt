@@ -3,17 +3,20 @@ use Rattle.pw_cmd.proofs.Shows.{calls, failures, means, refused}
 use Rattle.pw_cmd.proofs.Completes.{completes}
 use Rattle.pw_cmd.proofs.commands.top.Goals as goal
 
+pub returns-clause-answers : goal.returns-clause-answers
+returns-clause-answers g c = record { answer = c.perform-answer.result; performed = c.perform-answer.ensures _; reported = c.report-status.ensures }
+
 pub returns-clause-means : goal.returns-clause-means
-returns-clause-means g c = means _ _ _ _ _ _ (record { answer = c.perform-answer.result; performed = c.perform-answer.ensures; reported = c.report-status.ensures })
+returns-clause-means g c = means _ _ _ _ (record { answer = c.perform-answer.result; performed = c.perform-answer.ensures _; reported = c.report-status.ensures })
 
 pub returns-clause-failures : goal.returns-clause-failures
-returns-clause-failures g c = failures _ _ _ _ _ _ (record { answer = c.perform-answer.result; performed = c.perform-answer.ensures; reported = c.report-status.ensures })
+returns-clause-failures g c = failures _ _ _ _ (record { answer = c.perform-answer.result; performed = c.perform-answer.ensures _; reported = c.report-status.ensures })
 
 pub returns-clause-completes : goal.returns-clause-completes
-returns-clause-completes g c = completes _ _ _ _ _ _ (record { answer = c.perform-answer.result; performed = c.perform-answer.ensures; reported = c.report-status.ensures })
+returns-clause-completes g c = completes _ _ _ _ (record { answer = c.perform-answer.result; performed = c.perform-answer.ensures _; reported = c.report-status.ensures })
 
 pub returns-clause-refused : goal.returns-clause-refused
-returns-clause-refused g c = refused _ _ _ _ _ _ (record { answer = c.perform-answer.result; performed = c.perform-answer.ensures; reported = c.report-status.ensures })
+returns-clause-refused g c = refused _ _ _ _ (record { answer = c.perform-answer.result; performed = c.perform-answer.ensures _; reported = c.report-status.ensures })
 
 pub returns-clause-calls : goal.returns-clause-calls
-returns-clause-calls g c = calls _ _ _ _ _ _ (record { answer = c.perform-answer.result; performed = c.perform-answer.ensures; reported = c.report-status.ensures })
+returns-clause-calls g c = calls _ _ _ _ (record { answer = c.perform-answer.result; performed = c.perform-answer.ensures _; reported = c.report-status.ensures })

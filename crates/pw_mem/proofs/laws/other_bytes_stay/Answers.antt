@@ -1,3 +1,4 @@
+-- A write changes no bytes beside its own.
 use Rattle.pw_mem.proofs.Writes.{other_bytes_stay}
 use Rattle.pw_mem.proofs.laws.other_bytes_stay.Goals as goal
 

@@ -1,3 +1,4 @@
+-- A store that answers Ok writes the lowest bytes of its number.
 use Rattle.pw_mem.proofs.Writes.{stores_write}
 use Rattle.pw_mem.proofs.laws.stores_write.Goals as goal
 

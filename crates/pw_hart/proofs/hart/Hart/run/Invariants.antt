@@ -5,6 +5,6 @@ use Rattle.pw_hart.proofs.hart.Hart.run.Given as goal
 abbrev pub invariant-loop-fetched : goal.invariant-loop-fetched
 invariant-loop-fetched g l =
     Follows l._fetched
-    (record { hart = l.fn.self; mem = g.M.Memory.mem l.fn.mem; fetches = g.M.Memory.fetches l.fn.mem; told = g.M.Memory.told l.fn.mem; input = g.I.Source.state l.fn.input; out = g.O.Sink.state l.fn.out })
-    (record { hart = l.self; mem = g.M.Memory.mem l.mem; fetches = g.M.Memory.fetches l.mem; told = g.M.Memory.told l.mem; input = g.I.Source.state l.input; out = g.O.Sink.state l.out })
+    (record { hart = l.fn.self; memory = g.M.Memory.state l.fn.mem; input = g.I.Source.state l.fn.input; out = g.O.Sink.state l.fn.out })
+    (record { hart = l.self; memory = g.M.Memory.state l.mem; input = g.I.Source.state l.input; out = g.O.Sink.state l.out })
     l.used_up

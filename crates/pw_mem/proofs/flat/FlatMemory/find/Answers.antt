@@ -1,3 +1,4 @@
+-- The first region that holds the bytes is the one that is found.
 use Rattle.pw_mem.proofs.Find.{finds}
 use Rattle.pw_mem.proofs.flat.FlatMemory.find.Goals as goal
 
