@@ -16,7 +16,7 @@ use Rattle.pw_tree.specs.Names.{Project, Definition, definition_of, resolved}
 use Rattle.pw_mem.specs.Regions.{MappedRegion}
 use Rattle.pw_mem.specs.Memory.{Mem, zeros}
 use Rattle.pw_mem.specs.Words.{text_bytes}
-use Rattle.pw_code.specs.Items.{Part, instruction, address}
+use Rattle.pw_code.specs.Items.{CodePart, instruction, address}
 use Rattle.pw_code.specs.LoadImmediate.{upper, lower}
 use Rattle.pw_code.specs.FunctionCode.{function_code, function_words}
 use Rattle.pw_code.specs.Objects.{is_initialised, is_uninitialised, filled}
@@ -37,7 +37,7 @@ with_lower rd (LocalFun i) low = Addi rd rd low
 with_lower rd (LocalVar i) low = Addi rd rd low
 
 -- The words of code that stands at a place, given the address of each target.
-unfoldable pub words_at : (Ref → ℕ) → (place : ℕ) → List Part → List ℕ
+unfoldable pub words_at : (Ref → ℕ) → (place : ℕ) → List CodePart → List ℕ
 words_at target place [] = []
 words_at target place (instruction i ∷ code) = word_of i ∷ words_at target (place + 4) code
 words_at target place (address rd to ∷ code) =

@@ -9,7 +9,7 @@ use Rattle.pw_tree.specs.declared.tunit.TVar.{TVar}
 use Rattle.pw_tree.specs.Units.{Function, TypedUnit}
 use Rattle.pw_tree.specs.WellTypedUnits.{room}
 use Rattle.pw_tree.specs.Names.{Project, Definition, Entity, function, object}
-use Rattle.pw_code.specs.Items.{Part, instruction, address, size}
+use Rattle.pw_code.specs.Items.{CodePart, instruction, address, size}
 use Rattle.pw_code.specs.FunctionCode.{function_code, function_words, entry_code}
 use Rattle.pw_code.specs.Objects.{is_initialised, is_uninitialised}
 
@@ -32,7 +32,7 @@ data_of m = base_of m + data_offset
 -- ---- text
 
 -- The program's text begins with the entry, a library's with its first function.
-abbrev pub code_before_functions : ℕ → List Part
+abbrev pub code_before_functions : ℕ → List CodePart
 code_before_functions zero = entry_code
 code_before_functions (suc m) = []
 
@@ -64,7 +64,7 @@ function_address project d = text_of d.in_module + 4 * words_before project d
 -- ---- slots
 
 -- The external names that some code refers to, in order.
-unfoldable pub external_names : List Part → List (List ℕ)
+unfoldable pub external_names : List CodePart → List (List ℕ)
 external_names [] = []
 external_names (instruction i ∷ code) = external_names code
 external_names (address rd (Global name) ∷ code) = name ∷ external_names code

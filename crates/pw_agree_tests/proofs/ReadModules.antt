@@ -1,13 +1,13 @@
 -- Modules as they are read: order, meanings, what is kept, and faults.
 use Rattle.std.proofs.Common.{◌≡◌, [], ◌∷◌, refl, ap, true, false, codes, bytes_eq, lit<, inl, inr}
 use Rattle.pw_module.specs.LoadOrder.{path_ends, ends_of_paths, each_number_once}
-use Rattle.pw_module.specs.Resolution.{IsUnbound, DiffersFromDefinition}
-use Rattle.pw_module.specs.Reach.{IsRecordOf, MeansFunction, IsPointedTo, Leads, IsKept, root, named}
+use Rattle.pw_module.specs.Resolution.{IsUnboundSymbol, DiffersFromBound}
+use Rattle.pw_module.specs.Reach.{IsRecordOf, IsEntryRecord, BindsRecord, IsPointerRecord, RecordLeads, IsKeptRecord, root, named}
 use Rattle.pw_agree_tests.specs.ReadModules.{four_modules, interposed, faulty, number, function_record, entry_record, BreadthFirst, ProgramIsFirst, AreFaulty, ReadModulesAreSearched}
 
 -- ---- four modules
 
-main_is_named : Leads four_modules (number 0 0) (number 0 1)
+main_is_named : RecordLeads four_modules (number 0 0) (number 0 1)
 unfolding path_ends ends_of_paths each_number_once
 main_is_named = record {
   from = entry_record 2;
@@ -26,7 +26,7 @@ main_is_named = record {
   };
 }
 
-f_is_named : Leads four_modules (number 0 1) (number 2 0)
+f_is_named : RecordLeads four_modules (number 0 1) (number 2 0)
 unfolding path_ends ends_of_paths each_number_once
 f_is_named = record {
   from = function_record 2 24 68 (3 ∷ []);
@@ -45,20 +45,31 @@ f_is_named = record {
   };
 }
 
+entry_is_first : IsEntryRecord four_modules (number 0 0)
+unfolding path_ends ends_of_paths each_number_once
+entry_is_first = record {
+  first = refl;
+  it = _;
+  there = refl;
+  entry = refl;
+  f = entry_record 2;
+  recorded = record { module_number = 0; loaded = refl; it = _; there = refl; recorded = refl };
+}
+
 breadth_first : BreadthFirst
 unfolding path_ends ends_of_paths each_number_once
 breadth_first = record {
   order = refl;
   meant = refl;
   in_c = refl;
-  is_root = inl (refl, (_, refl, refl));
+  is_root = inl entry_is_first;
   main_leads = f_is_named;
-  kept = named (named (root (inl (refl, (_, refl, refl)))) main_is_named) f_is_named;
+  kept = named (named (root (inl entry_is_first)) main_is_named) f_is_named;
 }
 
 -- ---- interposition
 
-g_names_f : Leads interposed (number 1 1) (number 0 1)
+g_names_f : RecordLeads interposed (number 1 1) (number 0 1)
 unfolding path_ends ends_of_paths each_number_once
 g_names_f = record {
   from = function_record 3 60 68 (2 ∷ []);
@@ -77,7 +88,7 @@ g_names_f = record {
   };
 }
 
-hook_is_pointed_to : IsPointedTo interposed (number 1 2)
+hook_is_pointed_to : IsPointerRecord interposed (number 1 2)
 unfolding path_ends ends_of_paths each_number_once
 hook_is_pointed_to = record {
   place = 1;
@@ -115,6 +126,7 @@ are_faulty : AreFaulty
 unfolding path_ends ends_of_paths each_number_once
 are_faulty = record {
   unbound = record {
+    loaded = (0, lit< tt, refl);
     it = _;
     there = refl;
     referred = inr (inl (function_record 2 24 68 (3 ∷ 4 ∷ []), (1, lit< tt, refl), (0, lit< tt, refl)));
@@ -123,6 +135,7 @@ are_faulty = record {
     nowhere = refl;
   };
   differs = record {
+    loaded = (0, lit< tt, refl);
     it = _;
     there = refl;
     referred = inr (inl (function_record 2 24 68 (3 ∷ 4 ∷ []), (1, lit< tt, refl), (1, lit< tt, refl)));

@@ -7,8 +7,8 @@ use Rattle.pw_module.specs.declared.symbol.SymKind.TheVariants.{Fun, Undefined}
 use Rattle.pw_module.specs.declared.dep_table.FunRec.{FunRec}
 use Rattle.pw_module.specs.declared.dep_table.RootRec.{RootRec}
 use Rattle.pw_module.specs.LoadOrder.{order_of}
-use Rattle.pw_module.specs.Resolution.{resolved, IsUnbound, DiffersFromDefinition}
-use Rattle.pw_module.specs.Reach.{FunctionNumber, IsKept, IsRoot, Leads}
+use Rattle.pw_module.specs.Resolution.{bound_symbol, IsUnboundSymbol, DiffersFromBound}
+use Rattle.pw_module.specs.Reach.{FunctionNumber, IsKeptRecord, IsRootRecord, RecordLeads}
 
 -- ---- modules, by what the search and the reach go by
 
@@ -52,8 +52,8 @@ number place record_number = record { place = place; record_number = record_numb
 abbrev pub four_modules : List Module
 four_modules =
     module_of (codes "app") (codes "a" ∷ codes "b" ∷ [])
-        (entry_symbol ∷ defined_at (codes "main") 24 68 ∷ undefined (codes "f") ∷ [])
-        (entry_record 2 ∷ function_record 2 24 68 (3 ∷ []) ∷ []) [] (Some 0)
+    (entry_symbol ∷ defined_at (codes "main") 24 68 ∷ undefined (codes "f") ∷ [])
+    (entry_record 2 ∷ function_record 2 24 68 (3 ∷ []) ∷ []) [] (Some 0)
     ∷ module_of (codes "c") [] (defined_at (codes "f") 0 60 ∷ []) (function_record 1 0 60 [] ∷ []) [] None
     ∷ module_of (codes "b") (codes "c" ∷ []) (defined_at (codes "f") 0 60 ∷ []) (function_record 1 0 60 [] ∷ []) [] None
     ∷ module_of (codes "a") (codes "c" ∷ []) (defined_at (codes "g") 0 60 ∷ []) (function_record 1 0 60 [] ∷ []) [] None ∷ []
@@ -61,45 +61,45 @@ four_modules =
 -- They are searched breadth first, so b's f is the one that is kept.
 pub record BreadthFirst : Type 0 where
   pub order : order_of four_modules ≡ 0 ∷ 3 ∷ 2 ∷ 1 ∷ []
-  pub meant : resolved four_modules 0 3 ≡ Some (record { «module» = 2; sym = 1 })
-  pub in_c : resolved four_modules 1 1 ≡ Some (record { «module» = 2; sym = 1 })
-  pub is_root : IsRoot four_modules (number 0 0)
-  pub main_leads : Leads four_modules (number 0 1) (number 2 0)
-  pub kept : IsKept four_modules (number 2 0)
+  pub meant : bound_symbol four_modules 0 3 ≡ Some (record { «module» = 2; sym = 1 })
+  pub in_c : bound_symbol four_modules 1 1 ≡ Some (record { «module» = 2; sym = 1 })
+  pub is_root : IsRootRecord four_modules (number 0 0)
+  pub main_leads : RecordLeads four_modules (number 0 1) (number 2 0)
+  pub kept : IsKeptRecord four_modules (number 2 0)
 
--- ---- a library that names its own f, which the program defines too; a pointer of it keeps its static function
+-- ---- a library that names its own f, which the program defines_name too; a pointer of it keeps its static function
 
 abbrev pub interposed : List Module
 interposed =
     module_of (codes "app") (codes "liba" ∷ [])
-        (entry_symbol ∷ defined_at (codes "f") 24 60 ∷ defined_at (codes "main") 84 68 ∷ undefined (codes "g") ∷ [])
-        (entry_record 3 ∷ function_record 2 24 60 [] ∷ function_record 3 84 68 (4 ∷ []) ∷ []) [] (Some 0)
+    (entry_symbol ∷ defined_at (codes "f") 24 60 ∷ defined_at (codes "main") 84 68 ∷ undefined (codes "g") ∷ [])
+    (entry_record 3 ∷ function_record 2 24 60 [] ∷ function_record 3 84 68 (4 ∷ []) ∷ []) [] (Some 0)
     ∷ module_of (codes "liba") []
-        (symbol_named (codes "hook") false (Fun 128 60) (codes "l()") ∷ defined_at (codes "f") 0 60 ∷ defined_at (codes "g") 60 68 ∷ [])
-        (function_record 2 0 60 [] ∷ function_record 3 60 68 (2 ∷ []) ∷ function_record 1 128 60 [] ∷ [])
-        (record { var = 1; fun = 1 } ∷ []) None ∷ []
+    (symbol_named (codes "hook") false (Fun 128 60) (codes "l()") ∷ defined_at (codes "f") 0 60 ∷ defined_at (codes "g") 60 68 ∷ [])
+    (function_record 2 0 60 [] ∷ function_record 3 60 68 (2 ∷ []) ∷ function_record 1 128 60 [] ∷ [])
+    (record { var = 1; fun = 1 } ∷ []) None ∷ []
 
 -- In the library too, f is the program's.
 pub record ProgramIsFirst : Type 0 where
   pub order : order_of interposed ≡ 0 ∷ 1 ∷ []
-  pub meant : resolved interposed 1 2 ≡ Some (record { «module» = 0; sym = 2 })
-  pub static : resolved interposed 1 1 ≡ Some (record { «module» = 1; sym = 1 })
-  pub g_leads : Leads interposed (number 1 1) (number 0 1)
-  pub pointed : IsRoot interposed (number 1 2)
+  pub meant : bound_symbol interposed 1 2 ≡ Some (record { «module» = 0; sym = 2 })
+  pub static : bound_symbol interposed 1 1 ≡ Some (record { «module» = 1; sym = 1 })
+  pub g_leads : RecordLeads interposed (number 1 1) (number 0 1)
+  pub pointed : IsRootRecord interposed (number 1 2)
 
 -- ---- faults: without a definition, and with another type
 
 abbrev pub faulty : List Module
 faulty =
     module_of (codes "app") (codes "liba" ∷ [])
-        (entry_symbol ∷ defined_at (codes "main") 24 68 ∷ undefined (codes "f") ∷ undefined (codes "g") ∷ [])
-        (entry_record 2 ∷ function_record 2 24 68 (3 ∷ 4 ∷ []) ∷ []) [] (Some 0)
+    (entry_symbol ∷ defined_at (codes "main") 24 68 ∷ undefined (codes "f") ∷ undefined (codes "g") ∷ [])
+    (entry_record 2 ∷ function_record 2 24 68 (3 ∷ 4 ∷ []) ∷ []) [] (Some 0)
     ∷ module_of (codes "liba") [] (symbol_named (codes "g") true (Fun 0 60) (codes "v()") ∷ []) (function_record 1 0 60 [] ∷ []) [] None
     ∷ []
 
 pub record AreFaulty : Type 0 where
-  pub unbound : IsUnbound faulty 0 3
-  pub differs : DiffersFromDefinition faulty 0 4
+  pub unbound : IsUnboundSymbol faulty 0 3
+  pub differs : DiffersFromBound faulty 0 4
 
 abbrev pub ReadModulesAreSearched : Type 0
 ReadModulesAreSearched = BreadthFirst × ProgramIsFirst × AreFaulty

@@ -7,7 +7,7 @@ use mir.Val.{to_z, of_z}
 use Rattle.pw_isa.specs.Formats.{FitsField}
 use Rattle.std.specs.Int.RustNames.{FitsSigned}
 use Rattle.std.proofs.lemmas.Bool.Decides.{nat_tests}
-use Rattle.pw_code.specs.Items.{Part, instruction}
+use Rattle.pw_code.specs.Items.{CodePart, instruction}
 use Rattle.pw_isa.specs.declared.instruction.Inst.TheVariants.{Addi, Slli}
 use Rattle.pw_code.specs.LoadImmediate.{is_within, upper, lower, upper_immediate, rest, load_32_bits, load_signed, signed_words, immediate_words}
 

@@ -14,7 +14,7 @@ use Rattle.pw_tree.specs.TypedStatements.{TypedStatement, TypedStatements, Optio
 use Rattle.pw_tree.specs.Held.{count}
 use Rattle.pw_tree.specs.Units.{Function}
 use Rattle.pw_code.specs.declared.frame.Frame.{Frame}
-use Rattle.pw_code.specs.Items.{Part, instruction, words_of_part, size}
+use Rattle.pw_code.specs.Items.{CodePart, instruction, words_of_code_part, size}
 use Rattle.pw_code.specs.LoadImmediate.{is_within, rest, load_32_bits, load_signed, load_immediate, signed_words, immediate_words}
 use Rattle.pw_code.specs.Pieces.{jump, back, fault, fault_words, check_index, check_index_words, binary_code, binary_words, unary_code, unary_words, load_held}
 use Rattle.pw_code.specs.ExpressionCode.{operator_words, operator_code, right_slot, expression_words, expression_code, arguments_words, arguments_code}
@@ -24,13 +24,13 @@ use Rattle.pw_code.specs.FunctionCode.{store_parameters, opens_words, function_c
 -- ---- lists of parts
 
 -- Code after code has both sizes.
-pub size-append : (a b : List Part) → size (a ++ b) ≡ size a + size b
+pub size-append : (a b : List CodePart) → size (a ++ b) ≡ size a + size b
 unfolding size
 size-append [] b = omega arith
 size-append (part ∷ a) b = omega (arith, size-append a b)
 
 -- Either code by a test has the size by that test.
-size-either : (t : Bool) (a b : List Part) (m n : ℕ) → size a ≡ m → size b ≡ n →
+size-either : (t : Bool) (a b : List CodePart) (m n : ℕ) → size a ≡ m → size b ≡ n →
     size (if t then a else b) ≡ (if t then m else n)
 size-either true a b m n ea eb = ea
 size-either false a b m n ea eb = eb
@@ -73,12 +73,12 @@ size-unary Not = refl
 size-unary Bang = refl
 
 -- A jump is one word, whichever way it goes.
-word-either : (t : Bool) (n : ℕ) (ahead : ℤ) → words_of_part (if t then back n else instruction (Jal x0 ahead)) ≡ 1
+word-either : (t : Bool) (n : ℕ) (ahead : ℤ) → words_of_code_part (if t then back n else instruction (Jal x0 ahead)) ≡ 1
 word-either true zero ahead = refl
 word-either true (suc n) ahead = refl
 word-either false n ahead = refl
 
-word-jump : (from to : ℕ) → words_of_part (jump from to) ≡ 1
+word-jump : (from to : ℕ) → words_of_code_part (jump from to) ≡ 1
 word-jump from to = word-either (nat_lt to from) _ _
 
 -- ---- operators
@@ -104,7 +104,7 @@ size-binary line Or unsigned = refl
 size-binary line AndAnd unsigned = refl
 size-binary line OrOr unsigned = refl
 
-size-operator : (frame : Frame) (h line : ℕ) (op : Bin) (unsigned : Bool) (left right : List Part) (words : ℕ) →
+size-operator : (frame : Frame) (h line : ℕ) (op : Bin) (unsigned : Bool) (left right : List CodePart) (words : ℕ) →
     size (operator_code frame h line op unsigned left right words) ≡ operator_words line op (size left) (size right)
 unfolding size
 size-operator frame h line Mul unsigned left right words = simp size-append (omega (arith, size-binary line Mul unsigned))

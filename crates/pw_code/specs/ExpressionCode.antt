@@ -8,7 +8,7 @@ use Rattle.pw_tree.specs.declared.operator.Bin.TheVariants.{AndAnd, OrOr}
 use Rattle.pw_tree.specs.TypedExpressions.{TypedExpression, TypedExpressions, constant, local, variable, designator, element, unary, binary, conditional, call, call_pointer, input, output, nil, cons}
 use Rattle.pw_tree.specs.Held.{count, holds_left}
 use Rattle.pw_code.specs.declared.frame.Frame.{Frame}
-use Rattle.pw_code.specs.Items.{Part, instruction, address}
+use Rattle.pw_code.specs.Items.{CodePart, instruction, address}
 use Rattle.pw_code.specs.Frames.{local_slot, held_slot}
 use Rattle.pw_code.specs.LoadImmediate.{load_immediate, immediate_words}
 use Rattle.pw_code.specs.Pieces.{skip, unless_zero, unless_nonzero, past, fault, fault_words, null_call_fault, check_index, check_index_words, unary_code, unary_words, binary_code, binary_words, truth_code, hold, load_held}
@@ -51,7 +51,7 @@ right_slot op h = if holds_left op then suc h else h
 
 -- A binary operator, given the code of its operands and the words of the right one: the left value is held while the right one
 -- is evaluated. `&&` and `||` hold nothing, and go past the right operand where the left one decides.
-abbrev pub operator_code : Frame → (h line : ℕ) → Bin → Bool → (left right : List Part) → (right_words : ℕ) → List Part
+abbrev pub operator_code : Frame → (h line : ℕ) → Bin → Bool → (left right : List CodePart) → (right_words : ℕ) → List CodePart
 operator_code frame h line AndAnd unsigned left right right_words =
     left ++ unless_zero (right_words + 1) ++ right ++ truth_code ∷ []
 operator_code frame h line OrOr unsigned left right right_words =
@@ -61,7 +61,7 @@ operator_code frame h line op unsigned left right right_words =
 
 unfoldable mutual
   -- The code of an expression, in a function with this frame, where the held slots from h on are free.
-  pub expression_code : Frame → ℕ → TypedExpression → List Part
+  pub expression_code : Frame → ℕ → TypedExpression → List CodePart
   expression_code frame h (constant at value) = load_immediate a0 value
   expression_code frame h (local at i) = instruction (Ld a0 sp (local_slot i)) ∷ []
   expression_code frame h (variable at x) = address t0 x ∷ instruction (Ld a0 t0 (pos 0)) ∷ []
@@ -87,6 +87,6 @@ unfoldable mutual
       expression_code frame h e ++ instruction (Addi a7 x0 (pos output_call)) ∷ instruction Ecall ∷ []
 
   -- The code of arguments: each value is held in a slot of its own, from h on.
-  pub arguments_code : Frame → ℕ → TypedExpressions → List Part
+  pub arguments_code : Frame → ℕ → TypedExpressions → List CodePart
   arguments_code frame h nil = []
   arguments_code frame h (cons e es) = expression_code frame h e ++ hold frame h ∷ arguments_code frame (suc h) es

@@ -7,7 +7,7 @@ use Rattle.pw_isa.specs.EnvironmentCalls.{exit_call}
 use Rattle.pw_tree.specs.declared.ty.Ref.TheVariants.{Global}
 use Rattle.pw_tree.specs.Units.{Function}
 use Rattle.pw_code.specs.declared.frame.Frame.{Frame}
-use Rattle.pw_code.specs.Items.{Part, instruction, address}
+use Rattle.pw_code.specs.Items.{CodePart, instruction, address}
 use Rattle.pw_code.specs.Frames.{local_slot, return_slot, frame_bytes}
 use Rattle.pw_code.specs.Pieces.{past, fault, fault_words, depth_fault}
 use Rattle.pw_code.specs.StatementCode.{Targets, statements_words, statements_code}
@@ -17,13 +17,13 @@ abbrev pub frame_of : Function → Frame
 frame_of f = record { locals = f.locals; held = f.held }
 
 -- The parameters, so many from the number i on, are put into their slots from a0 on.
-unfoldable pub store_parameters : (i n : ℕ) → List Part
+unfoldable pub store_parameters : (i n : ℕ) → List CodePart
 store_parameters i zero = []
 store_parameters i (suc n) = instruction (Sd sp (a0 + i) (local_slot i)) ∷ store_parameters (suc i) n
 
 -- s1 is the number of calls that may still be made. Where none may, the run ends, in the line of the function's name; else
 -- the call is taken, the frame opened, and the address that the call returns to is kept.
-abbrev pub opens : Function → List Part
+abbrev pub opens : Function → List CodePart
 opens f =
     past (Bne s1 x0) (fault depth_fault f.line) ++ instruction (Addi s1 s1 (negsuc 0))
     ∷ instruction (Addi sp sp (pos 0 -ℤ pos (frame_bytes (frame_of f)))) ∷ instruction (Sd sp ra (return_slot (frame_of f)))
@@ -33,11 +33,11 @@ abbrev pub opens_words : Function → ℕ
 opens_words f = 4 + fault_words f.line + length f.sig.params
 
 -- A body that falls off its end returns 0.
-abbrev pub falls_off : Part
+abbrev pub falls_off : CodePart
 falls_off = instruction (Addi a0 x0 (pos 0))
 
 -- The frame is left, the call given back, and the run goes on after the call.
-abbrev pub closes : Function → List Part
+abbrev pub closes : Function → List CodePart
 closes f =
     instruction (Ld ra sp (return_slot (frame_of f))) ∷ instruction (Addi sp sp (pos (frame_bytes (frame_of f))))
     ∷ instruction (Addi s1 s1 (pos 1)) ∷ instruction (Jalr x0 ra (pos 0)) ∷ []
@@ -49,7 +49,7 @@ function_targets f =
     record { break_to = end; continue_to = end; return_to = end }
 
 -- The code of a function.
-abbrev pub function_code : Function → List Part
+abbrev pub function_code : Function → List CodePart
 function_code f =
     opens f ++ statements_code (frame_of f) (function_targets f) (opens_words f) f.body ++ falls_off ∷ closes f
 
@@ -58,7 +58,7 @@ abbrev pub function_words : Function → ℕ
 function_words f = opens_words f + (statements_words f.body + 5)
 
 -- The entry of a program: `main` is called, with as many calls as may be alive at once, and what it returns is the exit's value.
-abbrev pub entry_code : List Part
+abbrev pub entry_code : List CodePart
 entry_code =
     instruction (Addi s1 x0 (pos calls)) ∷ address t0 (Global (codes "main")) ∷ instruction (Jalr ra t0 (pos 0))
     ∷ instruction (Addi a7 x0 (pos exit_call)) ∷ instruction Ecall ∷ []

@@ -3,7 +3,7 @@ use Rattle.std.specs.Prelude.{ℕ, zero, suc, ◌+◌, ◌^◌, ℤ, pos, negsuc
 use Rattle.std.specs.Int.{int_shr, int_wrap, cast_signed, w64}
 use Rattle.pw_isa.specs.declared.instruction.Inst.TheVariants.{Addi, Lui, Addiw, Slli}
 use Rattle.pw_isa.specs.Registers.{x0}
-use Rattle.pw_code.specs.Items.{Part, instruction}
+use Rattle.pw_code.specs.Items.{CodePart, instruction}
 
 -- A signed number is from -2 ^ n to 2 ^ n - 1.
 abbrev pub is_within : ℕ → ℤ → Bool
@@ -23,7 +23,7 @@ abbrev pub upper_immediate : ℤ → ℤ
 upper_immediate v = if int_lt (upper v) (pos (2 ^ 19)) then upper v else upper v -ℤ pos (2 ^ 20)
 
 -- A number of 32 bits takes one instruction where it is an immediate of `addi`, and else two: `addiw` wraps to 32 bits.
-abbrev pub load_32_bits : (rd : ℕ) → ℤ → List Part
+abbrev pub load_32_bits : (rd : ℕ) → ℤ → List CodePart
 load_32_bits rd v =
     if is_within 11 v
     then instruction (Addi rd x0 v) ∷ []
@@ -35,7 +35,7 @@ rest v = int_shr (int_wrap w64 (v -ℤ lower v)) 12
 
 -- A number of 32 bits is loaded at once; of a wider one the rest is loaded first, shifted, and the low twelve bits are added.
 -- This happens so many times at most.
-unfoldable pub load_signed : ℕ → (rd : ℕ) → ℤ → List Part
+unfoldable pub load_signed : ℕ → (rd : ℕ) → ℤ → List CodePart
 load_signed zero rd v = load_32_bits rd v
 load_signed (suc times) rd v =
     if is_within 31 v
@@ -43,7 +43,7 @@ load_signed (suc times) rd v =
     else load_signed times rd (rest v) ++ instruction (Slli rd rd 12) ∷ instruction (Addi rd rd (lower v)) ∷ []
 
 -- The rest of 64 bits has 52 bits, its rest 40, and the rest of that 28: after three times the number is one of 32 bits.
-abbrev pub load_immediate : (rd : ℕ) → ℕ → List Part
+abbrev pub load_immediate : (rd : ℕ) → ℕ → List CodePart
 load_immediate rd v = load_signed 3 rd (cast_signed w64 v)
 
 -- How many words the code is, for every register.

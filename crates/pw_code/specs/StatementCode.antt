@@ -5,7 +5,7 @@ use Rattle.pw_isa.specs.Registers.{x0, sp, t0, t1, a0}
 use Rattle.pw_tree.specs.TypedExpressions.{TypedExpression}
 use Rattle.pw_tree.specs.TypedStatements.{TypedStatement, TypedStatements, OptionalTypedStatement, evaluate, set_local, set_variable, set_element, block, if_else, while_loop, do_loop, for_loop, returns, breaks, continues, nil, cons, absent, present}
 use Rattle.pw_code.specs.declared.frame.Frame.{Frame}
-use Rattle.pw_code.specs.Items.{Part, instruction, address}
+use Rattle.pw_code.specs.Items.{CodePart, instruction, address}
 use Rattle.pw_code.specs.Frames.{local_slot, held_slot}
 use Rattle.pw_code.specs.Pieces.{bytes_of_words, skip, jump, unless_zero, check_index, check_index_words, hold}
 use Rattle.pw_code.specs.ExpressionCode.{expression_words, expression_code}
@@ -76,23 +76,23 @@ abbrev pub targets_in_loop : (end next : ℕ) → Targets → Targets
 targets_in_loop end next targets = record targets { break_to = end; continue_to = next }
 
 -- A local is set to a value, or to zero.
-abbrev pub set_local_code : Frame → (i : ℕ) → Option TypedExpression → List Part
+abbrev pub set_local_code : Frame → (i : ℕ) → Option TypedExpression → List CodePart
 set_local_code frame i None = instruction (Sd sp x0 (local_slot i)) ∷ []
 set_local_code frame i (Some e) = expression_code frame 0 e ++ instruction (Sd sp a0 (local_slot i)) ∷ []
 
 -- The value that is returned.
-abbrev pub value_code : Frame → Option TypedExpression → List Part
+abbrev pub value_code : Frame → Option TypedExpression → List CodePart
 value_code frame None = []
 value_code frame (Some e) = expression_code frame 0 e
 
 -- A `for`'s condition; the loop's other words follow it.
-abbrev pub condition_code : Frame → Option TypedExpression → (loop_words : ℕ) → List Part
+abbrev pub condition_code : Frame → Option TypedExpression → (loop_words : ℕ) → List CodePart
 condition_code frame None loop_words = []
 condition_code frame (Some c) loop_words = expression_code frame 0 c ++ unless_zero loop_words
 
 unfoldable mutual
   -- The code of a statement, in a function with this frame, whose first word has this number.
-  pub statement_code : Frame → Targets → (at : ℕ) → TypedStatement → List Part
+  pub statement_code : Frame → Targets → (at : ℕ) → TypedStatement → List CodePart
   statement_code frame targets at (evaluate e) = expression_code frame 0 e
   statement_code frame targets at (set_local i e) = set_local_code frame i e
   statement_code frame targets at (set_variable x e) =
@@ -129,16 +129,16 @@ unfoldable mutual
   statement_code frame targets at continues = jump at targets.continue_to ∷ []
 
   -- The code of statements, one after the other.
-  pub statements_code : Frame → Targets → (at : ℕ) → TypedStatements → List Part
+  pub statements_code : Frame → Targets → (at : ℕ) → TypedStatements → List CodePart
   statements_code frame targets at nil = []
   statements_code frame targets at (cons s ss) =
       statement_code frame targets at s ++ statements_code frame targets (at + statement_words s) ss
 
-  pub optional_code : Frame → Targets → (at : ℕ) → OptionalTypedStatement → List Part
+  pub optional_code : Frame → Targets → (at : ℕ) → OptionalTypedStatement → List CodePart
   optional_code frame targets at absent = []
   optional_code frame targets at (present s) = statement_code frame targets at s
 
   -- The code of an `else`, before which the first branch goes past it.
-  pub else_code : Frame → Targets → (at : ℕ) → OptionalTypedStatement → List Part
+  pub else_code : Frame → Targets → (at : ℕ) → OptionalTypedStatement → List CodePart
   else_code frame targets at absent = []
   else_code frame targets at (present s) = skip (statement_words s) ∷ statement_code frame targets (at + 1) s

@@ -7,7 +7,7 @@ use Rattle.pw_base.specs.declared.no_memory.NoMemory.{NoMemory}
 use Rattle.pw_isa.specs.declared.instruction.Inst.TheVariants.{Jal}
 use Rattle.pw_isa.specs.Registers.{x0}
 use Rattle.pw_code.specs.declared.item.Item.{Item}
-use Rattle.pw_code.specs.Items.{Part, instruction}
+use Rattle.pw_code.specs.Items.{CodePart, instruction}
 use Rattle.pw_code.specs.Pieces.{back, jump}
 use Rattle.pw_genexpr.specs.Appends.{Appends}
 

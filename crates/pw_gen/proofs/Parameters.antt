@@ -2,7 +2,7 @@
 use Rattle.std.proofs.Common.{◌≡◌, ℕ, zero, suc, ◌+◌, ◌-◌, ◌≤◌, List, [], ◌∷◌, arith, refl, sym, ap, subst, add-one}
 use Rattle.pw_isa.specs.declared.instruction.Inst.TheVariants.{Sd}
 use Rattle.pw_isa.specs.Registers.{sp, a0}
-use Rattle.pw_code.specs.Items.{Part, instruction}
+use Rattle.pw_code.specs.Items.{CodePart, instruction}
 use Rattle.pw_code.specs.Frames.{local_slot}
 use Rattle.pw_code.specs.FunctionCode.{store_parameters}
 

@@ -11,7 +11,7 @@ use Rattle.pw_tree.specs.TypedExpressions.{TypedExpression, TypedExpressions, co
 use Rattle.pw_tree.specs.Units.{TypedUnit}
 use Rattle.pw_tree.specs.WellTypedExpressions.{Class, class_of, HasFittingParts, Throughout, ThroughoutAll}
 use Rattle.pw_code.specs.declared.frame.Frame.{Frame}
-use Rattle.pw_code.specs.Items.{Part, instruction, address}
+use Rattle.pw_code.specs.Items.{CodePart, instruction, address}
 use Rattle.pw_code.specs.Frames.{local_slot, held_slot}
 use Rattle.pw_code.specs.Pieces.{skip, unless_zero, unless_nonzero, past, fault, null_call_fault, check_index, unary_code, binary_code, truth_code, hold, load_held}
 use Rattle.pw_code.specs.ExpressionCode.{expression_words, right_slot, operator_code, expression_code, arguments_code}
@@ -21,37 +21,37 @@ use Rattle.pw_gen.proofs.SoundPieces.{IsSoundPart, AreSound, both, sound_number,
 module _ (unit : TypedUnit) where
   -- ---- rows over any code of the parts
 
-  sound_and : (left right : List Part) (n : ℕ) → AreSound unit left → AreSound unit right →
+  sound_and : (left right : List CodePart) (n : ℕ) → AreSound unit left → AreSound unit right →
       AreSound unit (left ++ unless_zero n ++ right ++ truth_code ∷ [])
   sound_and left right n l r =
       both unit (left ++ unless_zero n ++ right) (truth_code ∷ [])
       (both unit (left ++ unless_zero n) right (both unit left (unless_zero n) l (tt, (tt, tt))) r) (tt, tt)
 
-  sound_or : (left right : List Part) (n : ℕ) → AreSound unit left → AreSound unit right →
+  sound_or : (left right : List CodePart) (n : ℕ) → AreSound unit left → AreSound unit right →
       AreSound unit (left ++ truth_code ∷ unless_nonzero n ++ right ++ truth_code ∷ [])
   sound_or left right n l r =
       both unit (left ++ truth_code ∷ unless_nonzero n ++ right) (truth_code ∷ [])
       (both unit (left ++ truth_code ∷ unless_nonzero n) right (both unit left (truth_code ∷ unless_nonzero n) l (tt, (tt, (tt, tt)))) r) (tt, tt)
 
-  sound_operation : (frame : Frame) (h line : ℕ) (op : Bin) (unsigned : Bool) (left right : List Part) → AreSound unit left → AreSound unit right →
+  sound_operation : (frame : Frame) (h line : ℕ) (op : Bin) (unsigned : Bool) (left right : List CodePart) → AreSound unit left → AreSound unit right →
       AreSound unit (left ++ hold frame h ∷ right ++ instruction (Ld t0 sp (held_slot frame h)) ∷ binary_code line op unsigned)
   sound_operation frame h line op unsigned left right l r =
       both unit (left ++ hold frame h ∷ right) (instruction (Ld t0 sp (held_slot frame h)) ∷ binary_code line op unsigned)
       (both unit left (hold frame h ∷ right) l (tt, r)) (tt, sound_binary unit line op unsigned)
 
-  sound_operator : (frame : Frame) (h line : ℕ) (op : Bin) (unsigned : Bool) (left right : List Part) (n : ℕ) → AreSound unit left →
+  sound_operator : (frame : Frame) (h line : ℕ) (op : Bin) (unsigned : Bool) (left right : List CodePart) (n : ℕ) → AreSound unit left →
       AreSound unit right → AreSound unit (operator_code frame h line op unsigned left right n)
   sound_operator frame h line operators.AndAnd unsigned left right n l r = sound_and left right (n + 1) l r
   sound_operator frame h line operators.OrOr unsigned left right n l r = sound_or left right (n + 1) l r
   sound_operator frame h line op unsigned left right n l r = sound_operation frame h line op unsigned left right l r
 
-  sound_choice : (c a b : List Part) (m n : ℕ) → AreSound unit c → AreSound unit a → AreSound unit b →
+  sound_choice : (c a b : List CodePart) (m n : ℕ) → AreSound unit c → AreSound unit a → AreSound unit b →
       AreSound unit (c ++ unless_zero m ++ a ++ skip n ∷ b)
   sound_choice c a b m n hc ha hb =
       both unit (c ++ unless_zero m ++ a) (skip n ∷ b)
       (both unit (c ++ unless_zero m) a (both unit c (unless_zero m) hc (tt, (tt, tt))) ha) (tt, hb)
 
-  sound_element : (x : Ref) (array_size line : ℕ) (i : List Part) → IsKnownIn unit x → AreSound unit i →
+  sound_element : (x : Ref) (array_size line : ℕ) (i : List CodePart) → IsKnownIn unit x → AreSound unit i →
       AreSound unit (i ++ check_index array_size line ++ instruction (Slli a0 a0 3) ∷ address t0 x ∷ instruction (Add t0 t0 a0)
       ∷ instruction (Ld a0 t0 (pos 0)) ∷ [])
   sound_element x array_size line i known h =
@@ -60,13 +60,13 @@ module _ (unit : TypedUnit) where
       (both unit i (check_index array_size line) h (sound_check_index unit array_size line))
       (tt, ((lit< tt, known), (tt, (tt, tt))))
 
-  sound_call : (frame : Frame) (h n : ℕ) (f : Ref) (es : List Part) → IsKnownIn unit f → AreSound unit es →
+  sound_call : (frame : Frame) (h n : ℕ) (f : Ref) (es : List CodePart) → IsKnownIn unit f → AreSound unit es →
       AreSound unit (es ++ load_held frame h a0 n ++ address t0 f ∷ instruction (Jalr ra t0 (pos 0)) ∷ [])
   sound_call frame h n f es known hs =
       both unit (es ++ load_held frame h a0 n) (address t0 f ∷ instruction (Jalr ra t0 (pos 0)) ∷ [])
       (both unit es (load_held frame h a0 n) hs (sound_held unit frame h a0 n)) ((lit< tt, known), (tt, tt))
 
-  sound_call_pointer : (frame : Frame) (h n line : ℕ) (e es : List Part) → AreSound unit e → AreSound unit es →
+  sound_call_pointer : (frame : Frame) (h n line : ℕ) (e es : List CodePart) → AreSound unit e → AreSound unit es →
       AreSound unit (es ++ e ++ instruction (Addi t0 a0 (pos 0)) ∷ past (Bne t0 x0) (fault null_call_fault line) ++ load_held frame h a0 n
       ++ instruction (Jalr ra t0 (pos 0)) ∷ [])
   sound_call_pointer frame h n line e es he hs =

@@ -16,7 +16,7 @@ use Rattle.pw_tree.specs.WellTypedUnits.{room, Initialises, InitialiserFits, IsW
 use Rattle.pw_code.specs.declared.item.Item.{Item}
 use Rattle.pw_code.specs.declared.object.FunCode.{FunCode}
 use Rattle.pw_code.specs.declared.object.Object.{Object}
-use Rattle.pw_code.specs.Items.{Part, instruction, address, item_of, items}
+use Rattle.pw_code.specs.Items.{CodePart, instruction, address, item_of, items}
 use Rattle.pw_code.specs.StatementCode.{statements_code}
 use Rattle.pw_code.specs.Pieces.{past, fault, depth_fault}
 use Rattle.pw_code.specs.FunctionCode.{frame_of, store_parameters, opens, opens_words, falls_off, closes, function_targets, function_code}
@@ -41,11 +41,11 @@ module _ (name : List ℕ) (unit : TypedUnit) where
 
   -- ---- functions
 
-  sound_item : (part : Part) → IsSoundPart unit part → IsSoundItem object (item_in_order unit.variables (item_of part))
+  sound_item : (part : CodePart) → IsSoundPart unit part → IsSoundItem object (item_in_order unit.variables (item_of part))
   sound_item (instruction i) h = tt
   sound_item (address rd to) h = (h.0, known_in_object name unit to h.1)
 
-  sound_items : (code : List Part) → AreSound unit code → AllByRecursion (IsSoundItem object) (map (item_in_order unit.variables) (items code))
+  sound_items : (code : List CodePart) → AreSound unit code → AllByRecursion (IsSoundItem object) (map (item_in_order unit.variables) (items code))
   sound_items code h =
       each_map (IsSoundItem object) (item_in_order unit.variables) (items code)
       (each_map (λ item. IsSoundItem object (item_in_order unit.variables item)) item_of code

@@ -12,21 +12,21 @@ use Rattle.pw_tree.specs.declared.operator.Bin.TheVariants as operators
 use Rattle.pw_tree.specs.declared.ty.Ref.{Ref}
 use Rattle.pw_tree.specs.Units.{TypedUnit}
 use Rattle.pw_code.specs.declared.frame.Frame.{Frame}
-use Rattle.pw_code.specs.Items.{Part, instruction, address}
+use Rattle.pw_code.specs.Items.{CodePart, instruction, address}
 use Rattle.pw_code.specs.LoadImmediate.{is_within, load_32_bits, rest, lower, upper_immediate, load_signed, load_immediate}
 use Rattle.pw_code.specs.Pieces.{bytes_of_words, back, jump, fault, index_fault, check_index, unary_code, binary_code, load_held}
 use Rattle.pw_gen.proofs.Elements.{each_append, each_chosen}
 use Rattle.pw_gen.proofs.References.{IsKnownIn}
 
 -- An address goes into one of 32 registers, and what it is of is known in the unit.
-abbrev pub IsSoundPart : TypedUnit → Part → Type 0
+abbrev pub IsSoundPart : TypedUnit → CodePart → Type 0
 IsSoundPart unit (instruction i) = ⊤
 IsSoundPart unit (address rd to) = (rd < 32) × IsKnownIn unit to
 
-abbrev pub AreSound : TypedUnit → List Part → Type 0
+abbrev pub AreSound : TypedUnit → List CodePart → Type 0
 AreSound unit code = AllByRecursion (IsSoundPart unit) code
 
-pub both : (unit : TypedUnit) (xs ys : List Part) → AreSound unit xs → AreSound unit ys → AreSound unit (xs ++ ys)
+pub both : (unit : TypedUnit) (xs ys : List CodePart) → AreSound unit xs → AreSound unit ys → AreSound unit (xs ++ ys)
 both unit xs ys h k = each_append (IsSoundPart unit) xs ys h k
 
 module _ (unit : TypedUnit) where
@@ -55,7 +55,7 @@ module _ (unit : TypedUnit) where
   sound_back zero = tt
   sound_back (suc n) = tt
 
-  one_chosen : (b : Bool) (x y : Part) → IsSoundPart unit x → IsSoundPart unit y → IsSoundPart unit (cond b x y)
+  one_chosen : (b : Bool) (x y : CodePart) → IsSoundPart unit x → IsSoundPart unit y → IsSoundPart unit (cond b x y)
   one_chosen true x y h k = h
   one_chosen false x y h k = k
 

@@ -9,7 +9,7 @@ use Rattle.pw_tree.specs.Units.{TypedUnit}
 use Rattle.pw_tree.specs.WellTypedExpressions.{Class, HasFittingParts, Throughout}
 use Rattle.pw_tree.specs.WellTypedStatements.{StatementFits, IfPresent, Everywhere, EverywhereIn, EverywhereIf}
 use Rattle.pw_code.specs.declared.frame.Frame.{Frame}
-use Rattle.pw_code.specs.Items.{Part, instruction, address}
+use Rattle.pw_code.specs.Items.{CodePart, instruction, address}
 use Rattle.pw_code.specs.Frames.{local_slot, held_slot}
 use Rattle.pw_code.specs.Pieces.{bytes_of_words, skip, jump, unless_zero, check_index, hold}
 use Rattle.pw_code.specs.ExpressionCode.{expression_words, expression_code}
@@ -21,7 +21,7 @@ use Rattle.pw_gen.proofs.SoundExpressions.{sound_expression}
 module _ (unit : TypedUnit) where
   -- ---- rows over any code of the parts
 
-  sound_set_element : (frame : Frame) (x : Ref) (array_size line : ℕ) (i e : List Part) → IsKnownIn unit x → AreSound unit i → AreSound unit e →
+  sound_set_element : (frame : Frame) (x : Ref) (array_size line : ℕ) (i e : List CodePart) → IsKnownIn unit x → AreSound unit i → AreSound unit e →
       AreSound unit (i ++ check_index array_size line ++ hold frame 0 ∷ e ++ instruction (Ld t1 sp (held_slot frame 0)) ∷ instruction (Slli t1 t1 3)
       ∷ address t0 x ∷ instruction (Add t0 t0 t1) ∷ instruction (Sd t0 a0 (pos 0)) ∷ [])
   sound_set_element frame x array_size line i e known hi he =
@@ -32,21 +32,21 @@ module _ (unit : TypedUnit) where
       (both unit i (check_index array_size line) hi (sound_check_index unit array_size line)) (tt, he))
       (tt, (tt, ((lit< tt, known), (tt, (tt, tt)))))
 
-  sound_if : (c a b : List Part) (n : ℕ) → AreSound unit c → AreSound unit a → AreSound unit b → AreSound unit (c ++ unless_zero n ++ a ++ b)
+  sound_if : (c a b : List CodePart) (n : ℕ) → AreSound unit c → AreSound unit a → AreSound unit b → AreSound unit (c ++ unless_zero n ++ a ++ b)
   sound_if c a b n hc ha hb =
       both unit (c ++ unless_zero n ++ a) b (both unit (c ++ unless_zero n) a (both unit c (unless_zero n) hc (tt, (tt, tt))) ha) hb
 
-  sound_while : (c body : List Part) (n from to : ℕ) → AreSound unit c → AreSound unit body →
+  sound_while : (c body : List CodePart) (n from to : ℕ) → AreSound unit c → AreSound unit body →
       AreSound unit (c ++ unless_zero n ++ body ++ jump from to ∷ [])
   sound_while c body n from to hc hb = sound_if c body (jump from to ∷ []) n hc hb (sound_jump unit from to, tt)
 
-  sound_do : (body c : List Part) (from to : ℕ) → AreSound unit body → AreSound unit c →
+  sound_do : (body c : List CodePart) (from to : ℕ) → AreSound unit body → AreSound unit c →
       AreSound unit (body ++ c ++ instruction (Beq a0 x0 (pos (bytes_of_words 2))) ∷ jump from to ∷ [])
   sound_do body c from to hb hc =
       both unit (body ++ c) (instruction (Beq a0 x0 (pos (bytes_of_words 2))) ∷ jump from to ∷ []) (both unit body c hb hc)
       (tt, (sound_jump unit from to, tt))
 
-  sound_for : (first c body last : List Part) (from to : ℕ) → AreSound unit first → AreSound unit c → AreSound unit body → AreSound unit last →
+  sound_for : (first c body last : List CodePart) (from to : ℕ) → AreSound unit first → AreSound unit c → AreSound unit body → AreSound unit last →
       AreSound unit (first ++ c ++ body ++ last ++ jump from to ∷ [])
   sound_for first c body last from to hf hc hb hl =
       both unit (first ++ c ++ body ++ last) (jump from to ∷ [])

@@ -9,7 +9,7 @@ use Rattle.pw_tree.specs.Units.{TypedUnit}
 use Rattle.pw_tree.specs.WellTypedExpressions.{Class, HasFittingParts, Throughout, ThroughoutAll, expressions_in, expressions_in_all, class_of}
 use Rattle.pw_code.specs.declared.frame.Frame.{Frame}
 use Rattle.pw_code.specs.declared.item.Item.{Item}
-use Rattle.pw_code.specs.Items.{Part, items}
+use Rattle.pw_code.specs.Items.{CodePart, items}
 use Rattle.pw_code.specs.Pieces.{hold}
 use Rattle.pw_code.specs.ExpressionCode.{expression_code, arguments_code}
 use Rattle.pw_genexpr.specs.Appends.{AppendsPrefix}
@@ -124,7 +124,7 @@ can_emit frame h e s = record {
 
 -- The items so far spell code that, with the code of the arguments that are left, is that of all.
 pub record IsUnderWay (frame : Frame) (h slot : ℕ) (all left : List TExpr) (old new : List Item) : Type 0 where
-  pub done : List Part
+  pub done : List CodePart
   pub appended : new ≡ old ++ items done
   pub whole : arguments_code frame h (typed_expressions_of all) ≡ done ++ arguments_code frame slot (typed_expressions_of left)
 

@@ -9,7 +9,7 @@ use Rattle.pw_tree.specs.declared.ty.Ref.{Ref}
 use Rattle.pw_tree.specs.TypedExpressions.{Mark, TypedExpression, element, call, call_pointer, typed_expressions_of}
 use Rattle.pw_tree.specs.Held.{holds_left, count}
 use Rattle.pw_code.specs.declared.frame.Frame.{Frame}
-use Rattle.pw_code.specs.Items.{Part, instruction}
+use Rattle.pw_code.specs.Items.{CodePart, instruction}
 use Rattle.pw_code.specs.Frames.{held_slot}
 use Rattle.pw_code.specs.Pieces.{hold, binary_code, check_index, load_held}
 use Rattle.pw_code.specs.ExpressionCode.{expression_words, expression_code, arguments_code, operator_code, right_slot}
@@ -36,7 +36,7 @@ pub call_pointer_whole : (frame : Frame) (h : ℕ) (at : Mark) (e : TypedExpress
 unfolding expression_code
 call_pointer_whole frame h at e es = rw (count_of es) (simp append_assoc)
 
-held_operator : (frame : Frame) (h line : ℕ) (op : Bin) (unsigned : Bool) (l r : List Part) (words : ℕ) → holds_left op ≡ true →
+held_operator : (frame : Frame) (h line : ℕ) (op : Bin) (unsigned : Bool) (l r : List CodePart) (words : ℕ) → holds_left op ≡ true →
     operator_code frame h line op unsigned l r words
     ≡ (l ++ hold frame h ∷ r ++ instruction (Ld t0 sp (held_slot frame h)) ∷ []) ++ binary_code line op unsigned
 held_operator frame h line Mul unsigned l r words e = sym (append_assoc (l ++ hold frame h ∷ r) (instruction (Ld t0 sp (held_slot frame h)) ∷ []) (binary_code line Mul unsigned))

@@ -5,7 +5,7 @@ use Rattle.pw_module.specs.declared.module.Def.{Def}
 use Rattle.pw_module.specs.declared.dep_table.FunRec.{FunRec}
 use Rattle.pw_module.specs.declared.dep_table.RootRec.{RootRec}
 use Rattle.pw_module.specs.LoadOrder.{order_of}
-use Rattle.pw_module.specs.Resolution.{resolved}
+use Rattle.pw_module.specs.Resolution.{bound_symbol}
 
 -- A function goes by its module's place in the load order, and by the number of its record, which counts in order of the text.
 pub record FunctionNumber : Type 0 where
@@ -21,11 +21,11 @@ pub record IsRecordOf (modules : List Module) (g : FunctionNumber) (f : FunRec) 
   pub recorded : slice_get it.deps.funs g.record_number ≡ Some f
 
 -- A symbol of the module at a place of the load order means a function. One that means a variable means none.
-pub record MeansFunction (modules : List Module) (place sym : ℕ) (g : FunctionNumber) : Type 0 where
+pub record BindsRecord (modules : List Module) (place sym : ℕ) (g : FunctionNumber) : Type 0 where
   pub module_number : ℕ
   pub loaded : slice_get (order_of modules) place ≡ Some module_number
   pub definition : Def
-  pub means : resolved modules module_number sym ≡ Some definition
+  pub means : bound_symbol modules module_number sym ≡ Some definition
   pub defined_in : slice_get (order_of modules) g.place ≡ Some definition.«module»
   pub f : FunRec
   pub recorded : IsRecordOf modules g f
@@ -34,11 +34,16 @@ pub record MeansFunction (modules : List Module) (place sym : ℕ) (g : Function
 -- ---- roots
 
 -- The entry is that of the program, the first module.
-abbrev pub IsEntry : List Module → FunctionNumber → Type 0
-IsEntry modules g = (g.place ≡ zero) × ((m : Module) × (slice_get modules zero ≡ Some m) × (m.entry ≡ Some g.record_number))
+pub record IsEntryRecord (modules : List Module) (g : FunctionNumber) : Type 0 where
+  pub first : g.place ≡ zero
+  pub it : Module
+  pub there : slice_get modules zero ≡ Some it
+  pub entry : it.entry ≡ Some g.record_number
+  pub f : FunRec
+  pub recorded : IsRecordOf modules g f
 
 -- A root's record of a loaded module names the function.
-pub record IsPointedTo (modules : List Module) (g : FunctionNumber) : Type 0 where
+pub record IsPointerRecord (modules : List Module) (g : FunctionNumber) : Type 0 where
   pub place : ℕ
   pub module_number : ℕ
   pub loaded : slice_get (order_of modules) place ≡ Some module_number
@@ -46,45 +51,45 @@ pub record IsPointedTo (modules : List Module) (g : FunctionNumber) : Type 0 whe
   pub there : slice_get modules module_number ≡ Some it
   pub r : RootRec
   pub root : Contains it.deps.roots r
-  pub means : MeansFunction modules place r.fun g
+  pub means : BindsRecord modules place r.fun g
 
-abbrev pub IsRoot : List Module → FunctionNumber → Type 0
-IsRoot modules g = IsEntry modules g ⊎ IsPointedTo modules g
+abbrev pub IsRootRecord : List Module → FunctionNumber → Type 0
+IsRootRecord modules g = IsEntryRecord modules g ⊎ IsPointerRecord modules g
 
 -- ---- kept functions
 
 -- A function's record has a dependency that means another function.
-pub record Leads (modules : List Module) (f g : FunctionNumber) : Type 0 where
+pub record RecordLeads (modules : List Module) (f g : FunctionNumber) : Type 0 where
   pub from : FunRec
   pub recorded : IsRecordOf modules f from
   pub sym : ℕ
   pub depends : Contains from.deps sym
-  pub means : MeansFunction modules f.place sym g
+  pub means : BindsRecord modules f.place sym g
 
 -- A root is kept, and so is what a kept function leads to; nothing else is.
-pub data IsKept (modules : List Module) : FunctionNumber → Type 0 where
-  root : {g : FunctionNumber} → IsRoot modules g → IsKept modules g
-  named : {f g : FunctionNumber} → IsKept modules f → Leads modules f g → IsKept modules g
+pub data IsKeptRecord (modules : List Module) : FunctionNumber → Type 0 where
+  root : {g : FunctionNumber} → IsRootRecord modules g → IsKeptRecord modules g
+  named : {f g : FunctionNumber} → IsKeptRecord modules f → RecordLeads modules f g → IsKeptRecord modules g
 
 -- ---- levels and parents
 
 -- A way of so many dependencies leads from a root to a function.
-abbrev pub HasWay : List Module → ℕ → FunctionNumber → Type 0
-HasWay modules zero g = IsRoot modules g
-HasWay modules (suc k) g = (f : FunctionNumber) × HasWay modules k f × Leads modules f g
+abbrev pub HasRecordWay : List Module → ℕ → FunctionNumber → Type 0
+HasRecordWay modules zero g = IsRootRecord modules g
+HasRecordWay modules (suc k) g = (f : FunctionNumber) × HasRecordWay modules k f × RecordLeads modules f g
 
 -- The level of a kept function is the length of a shortest way to it.
-pub record IsLevel (modules : List Module) (g : FunctionNumber) (k : ℕ) : Type 0 where
-  pub way : HasWay modules k g
-  pub least : (j : ℕ) → HasWay modules j g → k ≤ j
+pub record IsRecordLevel (modules : List Module) (g : FunctionNumber) (k : ℕ) : Type 0 where
+  pub way : HasRecordWay modules k g
+  pub least : (j : ℕ) → HasRecordWay modules j g → k ≤ j
 
 -- One function stands before another: by load order of modules, then by order of the text.
-pub data IsBefore (f g : FunctionNumber) : Type 0 where
-  by_module : f.place < g.place → IsBefore f g
-  by_record : f.place ≡ g.place → f.record_number < g.record_number → IsBefore f g
+pub data RecordIsBefore (f g : FunctionNumber) : Type 0 where
+  by_module : f.place < g.place → RecordIsBefore f g
+  by_record : f.place ≡ g.place → f.record_number < g.record_number → RecordIsBefore f g
 
 -- The parent of a function of level k + 1 is the first function of level k that leads to it.
-pub record IsParent (modules : List Module) (g : FunctionNumber) (k : ℕ) (p : FunctionNumber) : Type 0 where
-  pub level : IsLevel modules p k
-  pub leads : Leads modules p g
-  pub first : (q : FunctionNumber) → IsLevel modules q k → Leads modules q g → IsBefore q p → ⊥
+pub record IsRecordParent (modules : List Module) (g : FunctionNumber) (k : ℕ) (p : FunctionNumber) : Type 0 where
+  pub level : IsRecordLevel modules p k
+  pub leads : RecordLeads modules p g
+  pub first : (q : FunctionNumber) → IsRecordLevel modules q k → RecordLeads modules q g → RecordIsBefore q p → ⊥

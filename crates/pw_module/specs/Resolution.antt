@@ -19,23 +19,23 @@ is_defined (Fun start size) = true
 is_defined (Var start size) = true
 is_defined Undefined = false
 
--- A symbol defines a name for other modules.
-abbrev pub defines : List ℕ → Option Symbol → Bool
-defines name None = false
-defines name (Some s) = s.global && is_defined s.kind && bytes_eq s.name name
+-- A symbol defines_name a name for other modules.
+abbrev pub defines_name : List ℕ → Option Symbol → Bool
+defines_name name None = false
+defines_name name (Some s) = s.global && is_defined s.kind && bytes_eq s.name name
 
 -- The number of the first symbol that does, counted from n on.
 abbrev pub defining_from : ℕ → List (Option Symbol) → List ℕ → Option ℕ
 defining_from n [] name = None
-defining_from n (s ∷ ss) name = if defines name s then Some n else defining_from (suc n) ss name
+defining_from n (s ∷ ss) name = if defines_name name s then Some n else defining_from (suc n) ss name
 
 -- The symbol of a number in the module of a number.
 abbrev pub symbol_in : Option Module → ℕ → Option Symbol
 symbol_in None n = None
 symbol_in (Some m) n = option_and_then (λ s. s) (slice_get m.symbols n)
 
-abbrev pub symbol_at : List Module → (m n : ℕ) → Option Symbol
-symbol_at modules m n = symbol_in (slice_get modules m) n
+abbrev pub module_symbol : List Module → (m n : ℕ) → Option Symbol
+module_symbol modules m n = symbol_in (slice_get modules m) n
 
 -- ---- the search
 
@@ -44,25 +44,25 @@ abbrev pub as_definition : ℕ → Option ℕ → Option Def
 as_definition m None = None
 as_definition m (Some n) = Some (record { «module» = m; sym = n })
 
-abbrev pub definition_in : Option Module → ℕ → List ℕ → Option Def
-definition_in None m name = None
-definition_in (Some it) m name = as_definition m (defining_from 0 it.symbols name)
+abbrev pub bound_in : Option Module → ℕ → List ℕ → Option Def
+bound_in None m name = None
+bound_in (Some it) m name = as_definition m (defining_from 0 it.symbols name)
 
 -- The first definition of a name in modules that are searched in this order.
-abbrev pub first_definition : List Module → List ℕ → List ℕ → Option Def
-first_definition modules [] name = None
-first_definition modules (m ∷ ms) name = option_or (definition_in (slice_get modules m) m name) (first_definition modules ms name)
+abbrev pub first_bound : List Module → List ℕ → List ℕ → Option Def
+first_bound modules [] name = None
+first_bound modules (m ∷ ms) name = option_or (bound_in (slice_get modules m) m name) (first_bound modules ms name)
 
 -- A name with external linkage means its first definition in the load order.
-abbrev pub definition_of : List Module → List ℕ → Option Def
-definition_of modules name = first_definition modules (order_of modules) name
+abbrev pub bound_name : List Module → List ℕ → Option Def
+bound_name modules name = first_bound modules (order_of modules) name
 
 -- A static symbol means itself, and every other one what its name means.
-abbrev pub meaning_of : List Module → (m n : ℕ) → Symbol → Option Def
-meaning_of modules m n s = if s.global then definition_of modules s.name else Some (record { «module» = m; sym = n })
+abbrev pub bound_to : List Module → (m n : ℕ) → Symbol → Option Def
+bound_to modules m n s = if s.global then bound_name modules s.name else Some (record { «module» = m; sym = n })
 
-abbrev pub resolved : List Module → (m n : ℕ) → Option Def
-resolved modules m n = option_and_then (meaning_of modules m n) (symbol_at modules m n)
+abbrev pub bound_symbol : List Module → (m n : ℕ) → Option Def
+bound_symbol modules m n = option_and_then (bound_to modules m n) (module_symbol modules m n)
 
 -- ---- faults
 
@@ -73,24 +73,26 @@ IsReferredTo m n =
     ⊎ ((f : FunRec) × Contains m.deps.funs f × Contains f.deps n)
     ⊎ ((r : RootRec) × Contains m.deps.roots r × (r.fun ≡ n))
 
--- A symbol that is referred to has no definition.
-pub record IsUnbound (modules : List Module) (m n : ℕ) : Type 0 where
+-- A symbol that a loaded module refers to has no definition.
+pub record IsUnboundSymbol (modules : List Module) (m n : ℕ) : Type 0 where
+  pub loaded : Contains (order_of modules) m
   pub it : Module
   pub there : slice_get modules m ≡ Some it
   pub referred : IsReferredTo it n
   pub symbol : Symbol
-  pub is : symbol_at modules m n ≡ Some symbol
-  pub nowhere : resolved modules m n ≡ None
+  pub is : module_symbol modules m n ≡ Some symbol
+  pub nowhere : bound_symbol modules m n ≡ None
 
--- The type's text of a symbol that is referred to is not that of its definition.
-pub record DiffersFromDefinition (modules : List Module) (m n : ℕ) : Type 0 where
+-- The type string of a symbol that a loaded module refers to is not that of its definition.
+pub record DiffersFromBound (modules : List Module) (m n : ℕ) : Type 0 where
+  pub loaded : Contains (order_of modules) m
   pub it : Module
   pub there : slice_get modules m ≡ Some it
   pub referred : IsReferredTo it n
   pub symbol : Symbol
-  pub is : symbol_at modules m n ≡ Some symbol
+  pub is : module_symbol modules m n ≡ Some symbol
   pub definition : Def
-  pub means : resolved modules m n ≡ Some definition
+  pub means : bound_symbol modules m n ≡ Some definition
   pub defining : Symbol
-  pub definition_is : symbol_at modules definition.«module» definition.sym ≡ Some defining
+  pub definition_is : module_symbol modules definition.«module» definition.sym ≡ Some defining
   pub other : symbol.text ≢ defining.text

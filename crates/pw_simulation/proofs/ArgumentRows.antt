@@ -5,7 +5,7 @@ use Rattle.pw_isa.specs.declared.instruction.Inst.TheVariants.{Sd, Ld}
 use Rattle.pw_tree.specs.States.{Value, State, Locals, Outcome, gives, and_then}
 use Rattle.pw_tree.specs.WellTypedExpressions.{Class, IsValue}
 use Rattle.pw_hart.specs.State.{MachineState, set}
-use Rattle.pw_code.specs.Items.{Part, instruction, size}
+use Rattle.pw_code.specs.Items.{CodePart, instruction, size}
 use Rattle.pw_code.specs.Frames.{held_slot}
 use Rattle.pw_code.specs.Pieces.{hold, load_held}
 use Rattle.pw_code.proofs.Exports.{size-append}
@@ -46,7 +46,7 @@ module _ (w : World) (sees : Sees w) (b : Body) (frame : HasFrame w b) (known : 
   }
 
   -- one argument, and then others
-  pub argument_row : (h : ℕ) (c : Class) (cs : List Class) (code more : List Part) (f : State → Outcome Value) (fs : State → Outcome (List Value))
+  pub argument_row : (h : ℕ) (c : Class) (cs : List Class) (code more : List CodePart) (f : State → Outcome Value) (fs : State → Outcome (List Value))
       → h < b.frame.held → IsValue c → Runs w b known locals n h c code f → RunsAll w b known locals n (suc h) cs more fs
       → RunsAll w b known locals n h (c ∷ cs) (code ++ hold b.frame h ∷ more) (λ st. and_then (f st) (λ x st. and_then (fs st) (λ xs. gives (x ∷ xs))))
   argument_row h c cs code more f fs few some runs runs_all st s r here =

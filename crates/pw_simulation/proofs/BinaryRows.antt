@@ -8,7 +8,7 @@ use Rattle.pw_tree.specs.States.{Value, State, Locals, Outcome, and_then}
 use Rattle.pw_tree.specs.Evaluation.{binary_value, operated}
 use Rattle.pw_tree.specs.WellTypedExpressions.{Class, number, IsValue, OperandsFit}
 use Rattle.pw_isa.specs.declared.instruction.Inst.TheVariants.{Ld}
-use Rattle.pw_code.specs.Items.{Part, instruction, size}
+use Rattle.pw_code.specs.Items.{CodePart, instruction, size}
 use Rattle.pw_code.specs.Frames.{held_slot}
 use Rattle.pw_code.specs.Pieces.{binary_code, hold}
 use Rattle.pw_code.specs.ExpressionCode.{right_slot, operator_code}
@@ -23,7 +23,7 @@ use Rattle.pw_simulation.proofs.ConditionRows.{and_row, or_row}
 module _ (w : World) (sees : Sees w) (b : Body) (frame : HasFrame w b) (known : List ℕ) (locals : Locals) (n h : ℕ)
     (calls : Definition → List Value → State → Outcome Value) (turns : ℕ) where
   -- two operands of these classes, of which the first is held
-  held_operands : (line : ℕ) (op : Bin) (unsigned : Bool) (c1 c2 k1 k2 : Class) (code1 code2 : List Part) (f1 f2 : State → Outcome Value)
+  held_operands : (line : ℕ) (op : Bin) (unsigned : Bool) (c1 c2 k1 k2 : Class) (code1 code2 : List CodePart) (f1 f2 : State → Outcome Value)
       → c1 ≡ k1 → c2 ≡ k2 → h < b.frame.held → IsValue k1 → Runs w b known locals n h c1 code1 f1 → Runs w b known locals n (suc h) c2 code2 f2
       → Finishes w sees b frame known locals n h k1 k2 number (binary_code line op unsigned) (binary_value (context_of w b calls turns) line op unsigned)
       → Runs w b known locals n h number (code1 ++ hold b.frame h ∷ code2 ++ instruction (Ld 5 2 (held_slot b.frame h)) ∷ binary_code line op unsigned)
@@ -32,7 +32,7 @@ module _ (w : World) (sees : Sees w) (b : Body) (frame : HasFrame w b) (known : 
       held_row w sees b frame known locals n h k1 k2 number code1 code2 (binary_code line op unsigned) f1 f2 (binary_value (context_of w b calls turns) line op unsigned) few some
       (subst (λ c. Runs w b known locals n h c code1 f1) e1 runs1) (subst (λ c. Runs w b known locals n (suc h) c code2 f2) e2 runs2) finishes
 
-  pub binary_row : (line : ℕ) (op : Bin) (unsigned : Bool) (c1 c2 : Class) (code1 code2 : List Part) (n2 : ℕ) (f1 f2 : State → Outcome Value)
+  pub binary_row : (line : ℕ) (op : Bin) (unsigned : Bool) (c1 c2 : Class) (code1 code2 : List CodePart) (n2 : ℕ) (f1 f2 : State → Outcome Value)
       → OperandsFit op c1 c2 → (holds_left op ≡ true → h < b.frame.held) → line < 2 ^ 64 → size code2 ≡ n2
       → Runs w b known locals n h c1 code1 f1 → Runs w b known locals n (right_slot op h) c2 code2 f2
       → Runs w b known locals n h number (operator_code b.frame h line op unsigned code1 code2 n2) (λ st. and_then (f1 st) (λ x. operated (context_of w b calls turns) line op unsigned x f2))

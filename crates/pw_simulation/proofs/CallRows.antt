@@ -8,7 +8,7 @@ use Rattle.pw_tree.specs.Names.{Definition}
 use Rattle.pw_tree.specs.States.{Value, State, Locals, Outcome, and_then}
 use Rattle.pw_tree.specs.WellTypedExpressions.{Class, class_of}
 use Rattle.pw_hart.specs.State.{MachineState}
-use Rattle.pw_code.specs.Items.{Part, instruction, address, size}
+use Rattle.pw_code.specs.Items.{CodePart, instruction, address, size}
 use Rattle.pw_code.specs.Pieces.{load_held}
 use Rattle.pw_code.proofs.Exports.{size-append, size-load_held}
 use Rattle.pw_simulation.specs.World.{World, entity_place}
@@ -47,7 +47,7 @@ module _ (w : World) (sees : Sees w) (b : Body) (frame : HasFrame w b) (known : 
   untouched_above at (inr u) = omega arith
 
   -- the held arguments are loaded, the address of the function is brought, and it is called
-  pub call_row : (calls : Definition → List Value → State → Outcome Value) (name : Ref) (sig : Sig) (arguments : ℕ) (code : List Part) (fs : State → Outcome (List Value))
+  pub call_row : (calls : Definition → List Value → State → Outcome Value) (name : Ref) (sig : Sig) (arguments : ℕ) (code : List CodePart) (fs : State → Outcome (List Value))
       → CallsRun w calls n → MeansFunction w b name sig → length (map class_of sig.params) ≡ arguments → h + arguments ≤ b.frame.held
       → RunsAll w b known locals n h (map class_of sig.params) code fs
       → Runs w b known locals n h (class_of sig.result) (code ++ load_held b.frame h 10 arguments ++ address 5 name ∷ instruction (Jalr 1 5 (pos 0)) ∷ [])
@@ -95,13 +95,13 @@ module _ (w : World) (sees : Sees w) (b : Body) (frame : HasFrame w b) (known : 
       d : Class
       d = class_of sig.result
 
-      loads : List Part
+      loads : List CodePart
       loads = load_held b.frame h 10 arguments
 
-      tail : List Part
+      tail : List CodePart
       tail = address 5 name ∷ instruction (Jalr 1 5 (pos 0)) ∷ []
 
-      all_code : List Part
+      all_code : List CodePart
       all_code = code ++ loads ++ tail
 
       next : List Value → State → Outcome Value

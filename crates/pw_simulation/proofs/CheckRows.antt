@@ -14,7 +14,7 @@ use Rattle.pw_tree.specs.Evaluation.{divided}
 use Rattle.pw_tree.specs.WellTypedExpressions.{Class, nothing, number, IsValue}
 use Rattle.pw_tree.specs.WellTypedExpressions as classes
 use Rattle.pw_hart.specs.State.{MachineState}
-use Rattle.pw_code.specs.Items.{Part, instruction, size}
+use Rattle.pw_code.specs.Items.{CodePart, instruction, size}
 use Rattle.pw_code.specs.Pieces.{fault, divide, remainder, binary_code}
 use Rattle.pw_code.proofs.Exports.{size-append, size-fault, immediate_words_at_most}
 use Rattle.pw_agree.proofs.Levels.{same_definition_is}
@@ -98,7 +98,7 @@ module _ (w : World) (sees : Sees w) (b : Body) (frame : HasFrame w b) (known : 
   divided_finishes line op unsigned i calls turns small computes (values.number l) (values.number zero) st t r left right here =
       let piece = fault 2 line in
       let branch = Bne 10 0 (pos (4 * suc (size piece))) in
-      let code : List Part = (instruction branch ∷ piece) ++ instruction i ∷ [] in
+      let code : List CodePart = (instruction branch ∷ piece) ++ instruction i ∷ [] in
       let all : size code ≡ 1 + size piece + 1 = size-append (instruction branch ∷ piece) (instruction i ∷ []) ∙ omega (arith, one_more branch piece, alone i) in
       let s1 : MachineState = record t { pc = t.pc + 4 } in
       let go = moves_into w sees.apart t 10 (4 * suc (size piece)) r.at.ready here.code_at.0 right.0 in
@@ -109,7 +109,7 @@ module _ (w : World) (sees : Sees w) (b : Body) (frame : HasFrame w b) (known : 
   divided_finishes line op unsigned i calls turns small computes (values.number l) (values.number (suc m)) st t r left right here =
       let piece = fault 2 line in
       let branch = Bne 10 0 (pos (4 * suc (size piece))) in
-      let code : List Part = (instruction branch ∷ piece) ++ instruction i ∷ [] in
+      let code : List CodePart = (instruction branch ∷ piece) ++ instruction i ∷ [] in
       let all : size code ≡ 1 + size piece + 1 = size-append (instruction branch ∷ piece) (instruction i ∷ []) ∙ omega (arith, one_more branch piece, alone i) in
       let one : size (instruction i ∷ []) ≡ 1 = alone i in
       let some : suc m ≢ 0 = λ e. let f : suc m ≤ 0 = omega arith in absurd (omega arith) in

@@ -10,7 +10,7 @@ use Rattle.pw_tree.specs.States as values
 use Rattle.pw_tree.specs.Evaluation.{truth_of}
 use Rattle.pw_tree.specs.WellTypedExpressions.{Class, number, IsValue}
 use Rattle.pw_hart.specs.State.{MachineState}
-use Rattle.pw_code.specs.Items.{Part, instruction, size}
+use Rattle.pw_code.specs.Items.{CodePart, instruction, size}
 use Rattle.pw_code.specs.Pieces.{skip, unless_zero, unless_nonzero, truth_code}
 use Rattle.pw_code.proofs.Exports.{size-append}
 use Rattle.pw_simulation.specs.World.{World}
@@ -30,26 +30,26 @@ two_words : (i j : Inst) → size (instruction i ∷ instruction j ∷ []) ≡ 2
 unfolding size
 two_words i j = refl
 
-associated : (a b c d : List Part) → a ++ b ++ c ++ d ≡ a ++ (b ++ (c ++ d))
+associated : (a b c d : List CodePart) → a ++ b ++ c ++ d ≡ a ++ (b ++ (c ++ d))
 associated a b c d = append_assoc (a ++ b) c d ∙ append_assoc a b (c ++ d)
 
-or_associated : (a b c d : List Part) → a ++ truth_code ∷ b ++ c ++ d ≡ a ++ ((truth_code ∷ b) ++ (c ++ d))
+or_associated : (a b c d : List CodePart) → a ++ truth_code ∷ b ++ c ++ d ≡ a ++ ((truth_code ∷ b) ++ (c ++ d))
 or_associated a b c d = append_assoc (a ++ (truth_code ∷ b)) c d ∙ append_assoc a (truth_code ∷ b) (c ++ d)
 
 module _ (w : World) (sees : Sees w) (b : Body) (frame : HasFrame w b) (known : List ℕ) (locals : Locals) (n h : ℕ) where
   -- ---- a branch round a jump
 
   -- where the words behind it run
-  pub branch_runs : (m : ℕ) (rest : List Part) (st : State) (t : MachineState) → IsAt w b.stack_pointer b.calls_left st t → Stands w b t.pc (unless_zero m ++ rest) → t.x 10 ≢ 0
+  pub branch_runs : (m : ℕ) (rest : List CodePart) (st : State) (t : MachineState) → IsAt w b.stack_pointer b.calls_left st t → Stands w b t.pc (unless_zero m ++ rest) → t.x 10 ≢ 0
       → Reaches w.code w.words 1 t (record t { pc = t.pc + 8 })
   branch_runs m rest st t at here other = moves_last w t (record t { pc = t.pc + 8 }) (moves_past w sees.apart t 10 8 at.ready here.code_at.0 other (omega arith) refl (omega arith))
 
-  pub branch_runs_at_zero : (m : ℕ) (rest : List Part) (st : State) (t : MachineState) → IsAt w b.stack_pointer b.calls_left st t → Stands w b t.pc (unless_nonzero m ++ rest) → t.x 10 ≡ 0
+  pub branch_runs_at_zero : (m : ℕ) (rest : List CodePart) (st : State) (t : MachineState) → IsAt w b.stack_pointer b.calls_left st t → Stands w b t.pc (unless_nonzero m ++ rest) → t.x 10 ≡ 0
       → Reaches w.code w.words 1 t (record t { pc = t.pc + 8 })
   branch_runs_at_zero m rest st t at here is = moves_last w t (record t { pc = t.pc + 8 }) (moves_past_at_zero w sees.apart t 10 8 at.ready here.code_at.0 is (omega arith) refl (omega arith))
 
   -- and where they are jumped over
-  pub jump_runs : (m : ℕ) (rest : List Part) (st : State) (t : MachineState) → IsAt w b.stack_pointer b.calls_left st t → Stands w b t.pc (unless_zero m ++ rest) → m ≤ size rest → t.x 10 ≡ 0
+  pub jump_runs : (m : ℕ) (rest : List CodePart) (st : State) (t : MachineState) → IsAt w b.stack_pointer b.calls_left st t → Stands w b t.pc (unless_zero m ++ rest) → m ≤ size rest → t.x 10 ≡ 0
       → Reaches w.code w.words 2 t (record t { pc = t.pc + 4 + 4 * suc m })
   jump_runs m rest st t at here few is =
       let all : size (unless_zero m ++ rest) ≡ 2 + size rest = size-append (unless_zero m) rest ∙ ap (λ k. k + size rest) (two_words (Bne 10 0 (pos 8)) (Jal 0 (pos (4 * suc m)))) in
@@ -58,7 +58,7 @@ module _ (w : World) (sees : Sees w) (b : Body) (frame : HasFrame w b) (known : 
       moves_then w 1 t s1 (record t { pc = t.pc + 4 + 4 * suc m }) (moves_into w sees.apart t 10 8 at.ready here.code_at.0 is)
       (moves_last w s1 (record t { pc = t.pc + 4 + 4 * suc m }) (moves_ahead w sees.apart s1 (4 * suc m) at.ready here.code_at.1.0 (omega arith) (omega arith) (omega (arith, all))))
 
-  pub jump_runs_at_other : (m : ℕ) (rest : List Part) (st : State) (t : MachineState) → IsAt w b.stack_pointer b.calls_left st t → Stands w b t.pc (unless_nonzero m ++ rest) → m ≤ size rest → t.x 10 ≢ 0
+  pub jump_runs_at_other : (m : ℕ) (rest : List CodePart) (st : State) (t : MachineState) → IsAt w b.stack_pointer b.calls_left st t → Stands w b t.pc (unless_nonzero m ++ rest) → m ≤ size rest → t.x 10 ≢ 0
       → Reaches w.code w.words 2 t (record t { pc = t.pc + 4 + 4 * suc m })
   jump_runs_at_other m rest st t at here few other =
       let all : size (unless_nonzero m ++ rest) ≡ 2 + size rest = size-append (unless_nonzero m) rest ∙ ap (λ k. k + size rest) (two_words (Beq 10 0 (pos 8)) (Jal 0 (pos (4 * suc m)))) in
@@ -89,20 +89,20 @@ module _ (w : World) (sees : Sees w) (b : Body) (frame : HasFrame w b) (known : 
 
   -- ---- `c ? a : b`
 
-  conditional_follows : (c d : Class) (code2 code3 : List Part) (f2 f3 : State → Outcome Value) → IsValue c → Runs w b known locals n h d code2 f2 → Runs w b known locals n h d code3 f3
+  conditional_follows : (c d : Class) (code2 code3 : List CodePart) (f2 f3 : State → Outcome Value) → IsValue c → Runs w b known locals n h d code2 f2 → Runs w b known locals n h d code3 f3
       → Follows w sees b frame known locals n h c d (unless_zero (size code2 + 1) ++ (code2 ++ skip (size code3) ∷ code3)) (λ x. chosen (holds x) f2 f3)
   conditional_follows c d code2 code3 f2 f3 some runs2 runs3 x st t r stands_for here = by_condition (holds x) refl
     where
       jump : Inst
       jump = Jal 0 (pos (4 * suc (size code3)))
 
-      branch : List Part
+      branch : List CodePart
       branch = unless_zero (size code2 + 1)
 
-      tail : List Part
+      tail : List CodePart
       tail = skip (size code3) ∷ code3
 
-      rest : List Part
+      rest : List CodePart
       rest = code2 ++ tail
 
       size_rest : size rest ≡ size code2 + (1 + size code3)
@@ -159,7 +159,7 @@ module _ (w : World) (sees : Sees w) (b : Body) (frame : HasFrame w b) (known : 
           (begins_at 2 (size code3) d end (f3 st) t u (jump_runs (size code2 + 1) rest st t r.at here (omega (arith, size_rest)) is) refl
           (meets_equal w sees b frame known locals n h (size code3) (size code3) (pc + 4 * size code3) end d (f3 st) u refl to runs))
 
-  pub conditional_row : (c d : Class) (code1 code2 code3 : List Part) (n2 n3 : ℕ) (f1 f2 f3 : State → Outcome Value) → IsValue c → size code2 ≡ n2 → size code3 ≡ n3
+  pub conditional_row : (c d : Class) (code1 code2 code3 : List CodePart) (n2 n3 : ℕ) (f1 f2 f3 : State → Outcome Value) → IsValue c → size code2 ≡ n2 → size code3 ≡ n3
       → Runs w b known locals n h c code1 f1 → Runs w b known locals n h d code2 f2 → Runs w b known locals n h d code3 f3
       → Runs w b known locals n h d (code1 ++ unless_zero (n2 + 1) ++ code2 ++ skip n3 ∷ code3) (λ st. and_then (f1 st) (λ x. chosen (holds x) f2 f3))
   conditional_row c d code1 code2 code3 n2 n3 f1 f2 f3 some e2 e3 runs1 runs2 runs3 =
@@ -172,7 +172,7 @@ module _ (w : World) (sees : Sees w) (b : Body) (frame : HasFrame w b) (known : 
   -- ---- `&&` and `||`
 
   -- the right operand, and then its truth
-  right_runs : (c : Class) (code : List Part) (f : State → Outcome Value) → IsValue c → Runs w b known locals n h c code f
+  right_runs : (c : Class) (code : List CodePart) (f : State → Outcome Value) → IsValue c → Runs w b known locals n h c code f
       → Runs w b known locals n h number (code ++ truth_code ∷ []) (λ st. and_then (f st) truth_of)
   right_runs c code f some runs = part_row w sees b frame known locals n h c number code (truth_code ∷ []) f truth_of runs follows
     where
@@ -197,14 +197,14 @@ module _ (w : World) (sees : Sees w) (b : Body) (frame : HasFrame w b) (known : 
         holds = (there, stands_for);
       })
 
-  and_follows : (c1 c2 : Class) (code : List Part) (f : State → Outcome Value) → IsValue c1 → IsValue c2 → Runs w b known locals n h c2 code f
+  and_follows : (c1 c2 : Class) (code : List CodePart) (f : State → Outcome Value) → IsValue c1 → IsValue c2 → Runs w b known locals n h c2 code f
       → Follows w sees b frame known locals n h c1 number (unless_zero (size code + 1) ++ (code ++ truth_code ∷ [])) (λ x st. chosen (holds x) (λ st. and_then (f st) truth_of) (gives (values.number 0)) st)
   and_follows c1 c2 code f some1 some2 runs x st t r stands_for here = by_condition (holds x) refl
     where
-      branch : List Part
+      branch : List CodePart
       branch = unless_zero (size code + 1)
 
-      rest : List Part
+      rest : List CodePart
       rest = code ++ truth_code ∷ []
 
       size_rest : size rest ≡ size code + 1
@@ -238,7 +238,7 @@ module _ (w : World) (sees : Sees w) (b : Body) (frame : HasFrame w b) (known : 
           known_value 2 (size (branch ++ rest)) end (values.number 0) st t (record t { pc = pc }) (omega (arith, all)) (jump_runs (size code + 1) rest st t r.at here (omega (arith, size_rest)) is)
           (moved_at w b.stack_pointer b.calls_left st t t.x pc r.at refl refl) refl (omega (arith, all, size_rest)) (is, omega arith)
 
-  pub and_row : (c1 c2 : Class) (code1 code2 : List Part) (n2 : ℕ) (f1 f2 : State → Outcome Value) → IsValue c1 → IsValue c2 → size code2 ≡ n2
+  pub and_row : (c1 c2 : Class) (code1 code2 : List CodePart) (n2 : ℕ) (f1 f2 : State → Outcome Value) → IsValue c1 → IsValue c2 → size code2 ≡ n2
       → Runs w b known locals n h c1 code1 f1 → Runs w b known locals n h c2 code2 f2
       → Runs w b known locals n h number (code1 ++ unless_zero (n2 + 1) ++ code2 ++ truth_code ∷ [])
       (λ st. and_then (f1 st) (λ x st. chosen (holds x) (λ st. and_then (f2 st) truth_of) (gives (values.number 0)) st))
@@ -249,17 +249,17 @@ module _ (w : World) (sees : Sees w) (b : Body) (frame : HasFrame w b) (known : 
       (part_row w sees b frame known locals n h c1 number code1 (unless_zero (size code2 + 1) ++ (code2 ++ truth_code ∷ [])) f1 (λ x st. chosen (holds x) (λ st. and_then (f2 st) truth_of) (gives (values.number 0)) st) runs1
       (and_follows c1 c2 code2 f2 some1 some2 runs2)))
 
-  or_follows : (c1 c2 : Class) (code : List Part) (f : State → Outcome Value) → IsValue c1 → IsValue c2 → Runs w b known locals n h c2 code f
+  or_follows : (c1 c2 : Class) (code : List CodePart) (f : State → Outcome Value) → IsValue c1 → IsValue c2 → Runs w b known locals n h c2 code f
       → Follows w sees b frame known locals n h c1 number ((truth_code ∷ unless_nonzero (size code + 1)) ++ (code ++ truth_code ∷ [])) (λ x st. chosen (holds x) (gives (values.number 1)) (λ st. and_then (f st) truth_of) st)
   or_follows c1 c2 code f some1 some2 runs x st t r stands_for here = by_condition (holds x) refl
     where
       test_word : Inst
       test_word = Sltu 10 0 10
 
-      branch : List Part
+      branch : List CodePart
       branch = unless_nonzero (size code + 1)
 
-      rest : List Part
+      rest : List CodePart
       rest = code ++ truth_code ∷ []
 
       size_rest : size rest ≡ size code + 1
@@ -319,7 +319,7 @@ module _ (w : World) (sees : Sees w) (b : Body) (frame : HasFrame w b) (known : 
           (begins_at 2 (size rest) number end (right st) t v (reaches_then w.code w.words 1 1 t u v first second) refl
           (meets_equal w sees b frame known locals n h (size rest) (size rest) (t.pc + 12 + 4 * size rest) end number (right st) v refl (omega (arith, all)) row))
 
-  pub or_row : (c1 c2 : Class) (code1 code2 : List Part) (n2 : ℕ) (f1 f2 : State → Outcome Value) → IsValue c1 → IsValue c2 → size code2 ≡ n2
+  pub or_row : (c1 c2 : Class) (code1 code2 : List CodePart) (n2 : ℕ) (f1 f2 : State → Outcome Value) → IsValue c1 → IsValue c2 → size code2 ≡ n2
       → Runs w b known locals n h c1 code1 f1 → Runs w b known locals n h c2 code2 f2
       → Runs w b known locals n h number (code1 ++ truth_code ∷ unless_nonzero (n2 + 1) ++ code2 ++ truth_code ∷ [])
       (λ st. and_then (f1 st) (λ x st. chosen (holds x) (gives (values.number 1)) (λ st. and_then (f2 st) truth_of) st))

@@ -15,7 +15,7 @@ use Rattle.pw_tree.specs.States.{Value, State, Locals, Outcome}
 use Rattle.pw_tree.specs.Evaluation.{eval, eval_all}
 use Rattle.pw_tree.specs.WellTypedExpressions.{Class, nothing, number, class_of, class, IsValue, OperandFits, HasFittingParts, ReadsKnown, HasSmallNumbers, Throughout, ThroughoutAll, ArgumentsFit, AreNumbers}
 use Rattle.pw_tree.specs.WellTypedExpressions as classes
-use Rattle.pw_code.specs.Items.{Part, size}
+use Rattle.pw_code.specs.Items.{CodePart, size}
 use Rattle.pw_code.specs.ExpressionCode.{right_slot, expression_words, expression_code, arguments_code}
 use Rattle.pw_code.proofs.Exports.{size-expression}
 use Rattle.pw_simulation.specs.World.{World}
@@ -106,7 +106,7 @@ module _ (w : World) (sees : Sees w) (b : Body) (frame : HasFrame w b) (known : 
   IsFine e = HasFittingParts b.unit b.classes e
 
   -- the same of another class
-  runs_as : (h : ℕ) (c d : Class) (code : List Part) (f : State → Outcome Value) → c ≡ d → Runs w b known locals n h c code f → Runs w b known locals n h d code f
+  runs_as : (h : ℕ) (c d : Class) (code : List CodePart) (f : State → Outcome Value) → c ≡ d → Runs w b known locals n h c code f → Runs w b known locals n h d code f
   runs_as h c d code f e r = subst (λ k. Runs w b known locals n h k code f) e r
 
   mutual

@@ -12,7 +12,7 @@ use Rattle.pw_tree.specs.WellTypedExpressions.{Class, number}
 use Rattle.pw_hart.specs.Bits.{bits64}
 use Rattle.pw_hart.specs.Integer.{add, sll}
 use Rattle.pw_hart.specs.State.{MachineState, set, goes_on}
-use Rattle.pw_code.specs.Items.{Part, instruction, address, size}
+use Rattle.pw_code.specs.Items.{CodePart, instruction, address, size}
 use Rattle.pw_code.specs.LoadImmediate.{load_immediate}
 use Rattle.pw_code.specs.Pieces.{check_index, fault}
 use Rattle.pw_code.proofs.Exports.{size-append}
@@ -32,7 +32,7 @@ use Rattle.pw_simulation.proofs.Sequences.{one_word, one_more, meets_equal, Foll
 use Rattle.pw_simulation.proofs.CheckRows.{fault_stops, short_fault}
 
 -- a tail of the code of an element
-abbrev element_tail : Ref → List Part
+abbrev element_tail : Ref → List CodePart
 element_tail name = instruction (Slli 10 10 3) ∷ address 5 name ∷ instruction (Add 5 5 10) ∷ instruction (Ld 10 5 (pos 0)) ∷ []
 
 tail_words : (name : Ref) → size (element_tail name) ≡ 5
@@ -43,7 +43,7 @@ module _ (w : World) (sees : Sees w) (b : Body) (frame : HasFrame w b) (known : 
   -- ---- the test of an index
 
   -- The index in a0 was tested, and the array's size is left in t1.
-  pub record Passes (array_size line : ℕ) (t : MachineState) (tail : List Part) : Type 0 where
+  pub record Passes (array_size line : ℕ) (t : MachineState) (tail : List CodePart) : Type 0 where
     pub registers : ℕ → ℕ
     pub puts : Puts 6 array_size t.x registers
     pub reaches : Reaches w.code w.words (size (check_index array_size line)) t (record t { x = registers; pc = t.pc + 4 * size (check_index array_size line) })
@@ -55,10 +55,10 @@ module _ (w : World) (sees : Sees w) (b : Body) (frame : HasFrame w b) (known : 
     puts : Puts 6 array_size t.x registers
     reaches : Reaches w.code w.words (size (load_immediate 6 array_size)) t (record t { x = registers; pc = t.pc + 4 * size (load_immediate 6 array_size) })
 
-  loads_size : (array_size line : ℕ) (tail : List Part) (st : State) (t : MachineState) → array_size < 2 ^ 64 → IsAt w b.stack_pointer b.calls_left st t → Stands w b t.pc (check_index array_size line ++ tail) → Loaded array_size t
+  loads_size : (array_size line : ℕ) (tail : List CodePart) (st : State) (t : MachineState) → array_size < 2 ^ 64 → IsAt w b.stack_pointer b.calls_left st t → Stands w b t.pc (check_index array_size line ++ tail) → Loaded array_size t
   loads_size array_size line tail st t small at here =
       let l = leaves_immediate 5 array_size t.x small in
-      let piece : List Part = instruction (Bltu 10 6 (pos (4 * suc (size (fault 1 line))))) ∷ fault 1 line in
+      let piece : List CodePart = instruction (Bltu 10 6 (pos (4 * suc (size (fault 1 line))))) ∷ fault 1 line in
       let li = stands_prefix w b t.pc (load_immediate 6 array_size) piece (stands_prefix w b t.pc (check_index array_size line) tail here) in
       record { registers = l.registers; puts = l.puts; reaches = straight_runs w sees.apart b.self.in_module b.self.in_unit (load_immediate 6 array_size) t l.registers at.ready li.code_at l.is }
 
@@ -67,14 +67,14 @@ module _ (w : World) (sees : Sees w) (b : Body) (frame : HasFrame w b) (known : 
       let branch = Bltu 10 6 (pos (4 * suc (size (fault 1 line)))) in
       size-append (load_immediate 6 array_size) (instruction branch ∷ fault 1 line) ∙ ap (λ k. size (load_immediate 6 array_size) + k) (one_more branch (fault 1 line))
 
-  branch_there : (array_size line : ℕ) (tail : List Part) (p : ℕ) → Stands w b p (check_index array_size line ++ tail)
+  branch_there : (array_size line : ℕ) (tail : List CodePart) (p : ℕ) → Stands w b p (check_index array_size line ++ tail)
       → Stands w b (p + 4 * size (load_immediate 6 array_size)) ((instruction (Bltu 10 6 (pos (4 * suc (size (fault 1 line))))) ∷ fault 1 line) ++ tail)
   branch_there array_size line tail p here =
-      let piece : List Part = instruction (Bltu 10 6 (pos (4 * suc (size (fault 1 line))))) ∷ fault 1 line in
+      let piece : List CodePart = instruction (Bltu 10 6 (pos (4 * suc (size (fault 1 line))))) ∷ fault 1 line in
       stands_rest w b p (p + 4 * size (load_immediate 6 array_size)) (load_immediate 6 array_size) (piece ++ tail) refl
       (subst (λ code. Stands w b p code) (append_assoc (load_immediate 6 array_size) piece tail) here)
 
-  pub index_passes : (array_size line : ℕ) (tail : List Part) (st : State) (t : MachineState) → array_size < 2 ^ 64 → IsAt w b.stack_pointer b.calls_left st t
+  pub index_passes : (array_size line : ℕ) (tail : List CodePart) (st : State) (t : MachineState) → array_size < 2 ^ 64 → IsAt w b.stack_pointer b.calls_left st t
       → Stands w b t.pc (check_index array_size line ++ tail) → t.x 10 < array_size → Passes array_size line t tail
   index_passes array_size line tail st t small at here below =
       let piece = fault 1 line in
@@ -98,7 +98,7 @@ module _ (w : World) (sees : Sees w) (b : Body) (frame : HasFrame w b) (known : 
       ten : ◌≢◌ {A = ℕ} 10 6
       ten e = cc
 
-  pub index_stops : (array_size line : ℕ) (tail : List Part) (st : State) (t : MachineState) → array_size < 2 ^ 64 → line < 2 ^ 64 → IsAt w b.stack_pointer b.calls_left st t
+  pub index_stops : (array_size line : ℕ) (tail : List CodePart) (st : State) (t : MachineState) → array_size < 2 ^ 64 → line < 2 ^ 64 → IsAt w b.stack_pointer b.calls_left st t
       → Stands w b t.pc (check_index array_size line ++ tail) → array_size ≤ t.x 10 → Halts w (size (check_index array_size line ++ tail)) (checked index b.self line) st t
   index_stops array_size line tail st t small small_line at here above =
       let piece = fault 1 line in
@@ -186,10 +186,10 @@ module _ (w : World) (sees : Sees w) (b : Body) (frame : HasFrame w b) (known : 
       nine : ◌≢◌ {A = ℕ} 9 6
       nine e = cc
 
-      tail : List Part
+      tail : List CodePart
       tail = element_tail name
 
-      code : List Part
+      code : List CodePart
       code = check_index array_size line ++ tail
 
       all : size code ≡ size (check_index array_size line) + 5
@@ -217,7 +217,7 @@ module _ (w : World) (sees : Sees w) (b : Body) (frame : HasFrame w b) (known : 
           let above : array_size ≤ m = grind (arith, nat_tests) in
           index_stops array_size line tail st t small small_line r.at here (omega (arith, stands_for.0, above))
 
-  pub element_row : (name : Ref) (array_size line : ℕ) (c : Class) (calls : _) (turns : ℕ) (code : List Part) (f : State → Outcome Value) → MeansVariable w b name (Some array_size) c → array_size < 2 ^ 20 → line < 2 ^ 64
+  pub element_row : (name : Ref) (array_size line : ℕ) (c : Class) (calls : _) (turns : ℕ) (code : List CodePart) (f : State → Outcome Value) → MeansVariable w b name (Some array_size) c → array_size < 2 ^ 20 → line < 2 ^ 64
       → Runs w b known locals n h number code f
       → Runs w b known locals n h c (code ++ check_index array_size line ++ element_tail name)
       (λ st. and_then (f st) (λ x. indexed (context_of w b calls turns) array_size line x (λ k st. gives (st.variables (named_in w.project b.self.in_module b.self.in_unit name) k) st)))

@@ -9,7 +9,7 @@ use Rattle.pw_hart.specs.Integer.{add, sll}
 use Rattle.pw_hart.specs.Word.{addw}
 use Rattle.pw_hart.specs.State.{set}
 use Rattle.pw_hart.specs.Exec as machine
-use Rattle.pw_code.specs.Items.{Part, instruction}
+use Rattle.pw_code.specs.Items.{CodePart, instruction}
 use Rattle.pw_code.specs.LoadImmediate.{is_within, lower, upper_immediate, rest, load_32_bits, load_signed, load_immediate}
 use Rattle.pw_simulation.specs.Straight.{Puts, LoadImmediateLoads}
 use Rattle.pw_simulation.proofs.Straight.{effects, effects_then, carried_out_effects}
@@ -36,7 +36,7 @@ puts_as x y rd u v e p = record { is = p.is ∙ e; others = p.others }
 -- ---- code
 
 -- code leaves a value in a register, and the others as they were
-pub record Leaves (rd value : ℕ) (code : List Part) (x : ℕ → ℕ) : Type 0 where
+pub record Leaves (rd value : ℕ) (code : List CodePart) (x : ℕ → ℕ) : Type 0 where
   pub registers : ℕ → ℕ
   pub is : effects code x ≡ Some registers
   pub puts : Puts rd value x registers
@@ -58,7 +58,7 @@ leaves_32 r v x small false test =
     })
 
 -- of a wider number the rest, then a shift and a sum
-leaves_wide : (r : ℕ) (v : ℤ) (x : ℕ → ℕ) (code : List Part) → magnitude v < 2 ^ 63 → Leaves (suc r) (bits64 (rest v)) code x
+leaves_wide : (r : ℕ) (v : ℤ) (x : ℕ → ℕ) (code : List CodePart) → magnitude v < 2 ^ 63 → Leaves (suc r) (bits64 (rest v)) code x
     → Leaves (suc r) (bits64 v) (code ++ instruction (Slli (suc r) (suc r) 12) ∷ instruction (Addi (suc r) (suc r) (lower v)) ∷ []) x
 leaves_wide r v x code small l =
     let shifted : ℕ = sll (l.registers (suc r)) 12 in

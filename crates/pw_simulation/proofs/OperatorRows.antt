@@ -9,7 +9,7 @@ use Rattle.pw_tree.specs.States.{Value, null, pointer, holds, as_number, State, 
 use Rattle.pw_tree.specs.States as values
 use Rattle.pw_tree.specs.Evaluation.{unary_value}
 use Rattle.pw_tree.specs.WellTypedExpressions.{Class, number, IsValue, OperandFits}
-use Rattle.pw_code.specs.Items.{Part}
+use Rattle.pw_code.specs.Items.{CodePart}
 use Rattle.pw_code.specs.Pieces.{unary_code, binary_code}
 use Rattle.pw_simulation.specs.World.{World}
 use Rattle.pw_simulation.specs.Values.{Represents}
@@ -35,7 +35,7 @@ module _ (w : World) (sees : Sees w) (b : Body) (frame : HasFrame w b) (known : 
       (unary_computes Bang (t.x 10) t.x refl (represents_small w sees c x (t.x 10) some stands_for))
       (ap truth (zero_is_false w sees c x (t.x 10) some stands_for), truth_small (not (holds x)))
 
-  pub unary_row : (op : Un) (c : Class) (code : List Part) (f : State → Outcome Value) → IsValue c → OperandFits op c → Runs w b known locals n h c code f
+  pub unary_row : (op : Un) (c : Class) (code : List CodePart) (f : State → Outcome Value) → IsValue c → OperandFits op c → Runs w b known locals n h c code f
       → Runs w b known locals n h number (code ++ unary_code op) (λ st. and_then (f st) (λ x. gives (unary_value op x)))
   unary_row Bang c code f some fits runs = part_row w sees b frame known locals n h c number code (unary_code Bang) f (λ x. gives (unary_value Bang x)) runs (bang_follows c some)
   unary_row Neg c code f some fits runs = part_row w sees b frame known locals n h c number code (unary_code Neg) f (λ x. gives (unary_value Neg x)) runs

@@ -16,12 +16,12 @@ use Rattle.pw_hart.specs.Bits.{bits64}
 use Rattle.pw_hart.specs.Integer.{add, sub, sll, flag, is_less_signed, slt, sltu, srl, sra}
 use Rattle.pw_hart.specs.Multiply.{mul, div, divu, rem, remu}
 use Rattle.pw_hart.specs.State.{set}
-use Rattle.pw_code.specs.Items.{Part, instruction}
+use Rattle.pw_code.specs.Items.{CodePart, instruction}
 use Rattle.pw_code.specs.Pieces.{unary_code, binary_code, divide, remainder, truth_code}
 use Rattle.pw_simulation.proofs.Straight.{effect, effects}
 
 -- Code computes a value into a0, and leaves the stack pointer and the calls left as they were.
-pub record Computes (code : List Part) (x : ℕ → ℕ) (v : ℕ) : Type 0 where
+pub record Computes (code : List CodePart) (x : ℕ → ℕ) (v : ℕ) : Type 0 where
   pub registers : ℕ → ℕ
   pub is : effects code x ≡ Some registers
   pub value : registers 10 ≡ v

@@ -11,7 +11,7 @@ use Rattle.pw_hart.specs.Bits.{bits64}
 use Rattle.pw_hart.specs.Integer.{add}
 use Rattle.pw_hart.specs.State.{MachineState, Ends, set, goes_on}
 use Rattle.pw_hart.specs.Exec.{exec, upper, is_fault_kind}
-use Rattle.pw_code.specs.Items.{Part, instruction, address, size}
+use Rattle.pw_code.specs.Items.{CodePart, instruction, address, size}
 use Rattle.pw_code.specs.LoadImmediate.{load_immediate}
 use Rattle.pw_code.specs.Pieces.{fault}
 use Rattle.pw_code.proofs.Exports.{size-append}
@@ -27,7 +27,7 @@ use Rattle.pw_simulation.proofs.Placed.{has_prefix, has_rest}
 use Rattle.pw_simulation.proofs.Steps.{step_is, Moves, moves_then, moves_last, moves_on, moves_load}
 
 -- the state after code that changes registers alone
-abbrev pub after_code : MachineState → List Part → (ℕ → ℕ) → MachineState
+abbrev pub after_code : MachineState → List CodePart → (ℕ → ℕ) → MachineState
 after_code s code x = record s { x = x; pc = s.pc + 4 * size code }
 
 two_words : size (instruction (Addi a7 0 (pos 1026)) ∷ instruction Ecall ∷ []) ≡ 2
@@ -42,7 +42,7 @@ kinds_are_known depth = refl
 
 module _ (w : World) (apart : IsApart w) where
   -- register by register
-  pub straight_runs : (m u : ℕ) (code : List Part) (s : MachineState) (x : ℕ → ℕ) → IsReady w s.mem → HasAt w m u s.pc code → effects code s.x ≡ Some x
+  pub straight_runs : (m u : ℕ) (code : List CodePart) (s : MachineState) (x : ℕ → ℕ) → IsReady w s.mem → HasAt w m u s.pc code → effects code s.x ≡ Some x
       → Reaches w.code w.words (size code) s (after_code s code x)
   unfolding size
   straight_runs m u [] s x r here h =
@@ -120,8 +120,8 @@ module _ (w : World) (apart : IsApart w) where
       → Halts w (size (fault (kind_of f) line)) (checked f d line) st s
   fault_halts m u stack_pointer c f line d st s small a here inside =
       let kind : ℕ = kind_of f in
-      let code : List Part = instruction (Addi a0 0 (pos kind)) ∷ load_immediate a1 line in
-      let tail : List Part = instruction (Addi a7 0 (pos 1026)) ∷ instruction Ecall ∷ [] in
+      let code : List CodePart = instruction (Addi a0 0 (pos kind)) ∷ load_immediate a1 line in
+      let tail : List CodePart = instruction (Addi a7 0 (pos 1026)) ∷ instruction Ecall ∷ [] in
       let l = leaves_immediate 10 line (set s.x 10 (add 0 (bits64 (pos kind)))) small in
       let s1 : MachineState = after_code s code l.registers in
       let reach1 : Reaches w.code w.words (size code) s s1 =
@@ -154,5 +154,5 @@ module _ (w : World) (apart : IsApart w) where
       ten : ◌≢◌ {A = ℕ} 10 11
       ten e = cc
 
-      tail_size : (tail : List Part) → tail ≡ instruction (Addi a7 0 (pos 1026)) ∷ instruction Ecall ∷ [] → size tail ≡ 2
+      tail_size : (tail : List CodePart) → tail ≡ instruction (Addi a7 0 (pos 1026)) ∷ instruction Ecall ∷ [] → size tail ≡ 2
       tail_size tail e = ap size e ∙ two_words

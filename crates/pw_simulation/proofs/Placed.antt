@@ -6,17 +6,17 @@ use Rattle.pw_isa.specs.declared.instruction.Inst.{Inst}
 use Rattle.pw_mem.specs.Memory.{Mem, fetch}
 use Rattle.pw_mem.specs.Words.{doubleword, put_doubleword}
 use Rattle.pw_mem.proofs.Words.{word-put_same, word-put_other, fetch-put_word}
-use Rattle.pw_code.specs.Items.{Part, instruction, address, size}
+use Rattle.pw_code.specs.Items.{CodePart, instruction, address, size}
 use Rattle.pw_simulation.specs.World.{World, InStack, IsApart}
 use Rattle.pw_simulation.specs.CodeAt.{HasAt}
 use Rattle.pw_simulation.specs.Memories.{Fetches, HasSome, IsReady, Keeps}
 
-pub has_prefix : (w : World) (m u at : ℕ) (code more : List Part) → HasAt w m u at (code ++ more) → HasAt w m u at code
+pub has_prefix : (w : World) (m u at : ℕ) (code more : List CodePart) → HasAt w m u at (code ++ more) → HasAt w m u at code
 has_prefix w m u at [] more h = tt
 has_prefix w m u at (instruction i ∷ code) more h = (h.0, has_prefix w m u (at + 4) code more h.1)
 has_prefix w m u at (address rd to ∷ code) more h = (h.0, has_prefix w m u (at + 8) code more h.1)
 
-pub has_rest : (w : World) (m u at : ℕ) (code more : List Part) → HasAt w m u at (code ++ more) → HasAt w m u (at + 4 * size code) more
+pub has_rest : (w : World) (m u at : ℕ) (code more : List CodePart) → HasAt w m u at (code ++ more) → HasAt w m u (at + 4 * size code) more
 unfolding size
 has_rest w m u at [] more h = let e : at + 4 * 0 ≡ at = omega arith in subst (λ p. HasAt w m u p more) (sym e) h
 has_rest w m u at (instruction i ∷ code) more h =

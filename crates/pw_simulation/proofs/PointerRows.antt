@@ -19,7 +19,7 @@ use Rattle.pw_mem.specs.Memory.{Mem}
 use Rattle.pw_hart.specs.Bits.{bits64}
 use Rattle.pw_hart.specs.Integer.{add}
 use Rattle.pw_hart.specs.State.{MachineState, set, goes_on}
-use Rattle.pw_code.specs.Items.{Part, instruction, size}
+use Rattle.pw_code.specs.Items.{CodePart, instruction, size}
 use Rattle.pw_code.specs.Pieces.{fault, load_held}
 use Rattle.pw_code.proofs.Exports.{size-append, size-load_held}
 use Rattle.pw_simulation.specs.World.{World}
@@ -98,23 +98,23 @@ module _ (w : World) (sees : Sees w) (b : Body) (frame : HasFrame w b) (known : 
   more_untouched k at (inr u) = inr u
 
   module _ (calls : Definition → List Value → State → Outcome Value) (turns line k : ℕ) (calls_run : CallsRun w calls n) (small : line < 2 ^ 64) (few : h + k ≤ b.frame.held) where
-    abbrev piece : List Part
+    abbrev piece : List CodePart
     piece = fault 3 line
 
     abbrev branch : Inst
     branch = Bne 5 0 (pos (4 * suc (size piece)))
 
     -- the callee is moved and tested
-    abbrev checks : List Part
+    abbrev checks : List CodePart
     checks = instruction (Addi 5 10 (pos 0)) ∷ instruction branch ∷ piece
 
-    abbrev loads : List Part
+    abbrev loads : List CodePart
     loads = load_held b.frame h 10 k
 
-    abbrev tail : List Part
+    abbrev tail : List CodePart
     tail = instruction (Jalr 1 5 (pos 0)) ∷ []
 
-    abbrev ending : List Part
+    abbrev ending : List CodePart
     ending = checks ++ (loads ++ tail)
 
     size_checks : size checks ≡ 2 + size piece
@@ -191,7 +191,7 @@ module _ (w : World) (sees : Sees w) (b : Body) (frame : HasFrame w b) (known : 
         (untouched_above w sees b frame known locals n h) reach (λ _ _. refl) called)
 
     -- arguments, the callee, the call
-    pub pointer_row : (code ecode : List Part) (fs : State → Outcome (List Value)) (fe : State → Outcome Value)
+    pub pointer_row : (code ecode : List CodePart) (fs : State → Outcome (List Value)) (fe : State → Outcome Value)
         → RunsAll w b known locals n h (numbers k) code fs → Runs w b known locals n (h + k) (classes.pointer k) ecode fe
         → Runs w b known locals n h number (code ++ ecode ++ checks ++ loads ++ tail) (λ st. and_then (fs st) (λ xs st. and_then (fe st) (call_through (context_of w b calls turns) line xs)))
     pointer_row code ecode fs fe runs_all runs st s r here =
@@ -213,7 +213,7 @@ module _ (w : World) (sees : Sees w) (b : Body) (frame : HasFrame w b) (known : 
         meets_equal w sees b frame known locals n h (size ending) (size ending) (v.pc + 4 * size ending) end number (call_through (context_of w b calls turns) line xs y last) v refl to
         (pointer_follows xs y last v at_v ready_v.fuel held ends_v.1 ending_there))))
       where
-        all_code : List Part
+        all_code : List CodePart
         all_code = code ++ ecode ++ checks ++ loads ++ tail
 
         together : all_code ≡ code ++ (ecode ++ ending)

@@ -9,7 +9,7 @@ use Rattle.pw_tree.specs.WellTypedExpressions.{nothing, number}
 use Rattle.pw_hart.specs.Bits.{all_ones}
 use Rattle.pw_hart.specs.State.{MachineState, set, Goes}
 use Rattle.pw_hart.specs.Exec.{exec, takes_input}
-use Rattle.pw_code.specs.Items.{Part, instruction, size}
+use Rattle.pw_code.specs.Items.{CodePart, instruction, size}
 use Rattle.pw_simulation.specs.World.{World}
 use Rattle.pw_simulation.specs.Moments.{IsAt, Meets}
 use Rattle.pw_simulation.specs.Sees.{Sees}
@@ -94,6 +94,6 @@ module _ (w : World) (sees : Sees w) (b : Body) (frame : HasFrame w b) (known : 
   output_follows null st s r stands_for here = absurd stands_for
   output_follows (pointer f) st s r stands_for here = absurd stands_for
 
-  pub output_row : (code : List Part) (f : State → Outcome Value) → Runs w b known locals n h number code f
+  pub output_row : (code : List CodePart) (f : State → Outcome Value) → Runs w b known locals n h number code f
       → Runs w b known locals n h nothing (code ++ instruction (Addi 17 0 (pos 1025)) ∷ instruction Ecall ∷ []) (λ st. and_then (f st) (λ x st. gives (values.number 0) (with_output (as_number x) st)))
   output_row code f runs = part_row w sees b frame known locals n h number nothing code (instruction (Addi 17 0 (pos 1025)) ∷ instruction Ecall ∷ []) f (λ x st. gives (values.number 0) (with_output (as_number x) st)) runs output_follows

@@ -11,7 +11,7 @@ use Rattle.pw_mem.proofs.Words.{word-put_same, word-put_other}
 use Rattle.pw_hart.specs.Bits.{bits64}
 use Rattle.pw_hart.specs.Integer.{add}
 use Rattle.pw_hart.specs.State.{MachineState, get}
-use Rattle.pw_code.specs.Items.{Part, size}
+use Rattle.pw_code.specs.Items.{CodePart, size}
 use Rattle.pw_code.specs.Frames.{held_slot}
 use Rattle.pw_code.specs.LoadImmediate.{load_immediate}
 use Rattle.pw_code.proofs.Exports.{size-append}
@@ -31,7 +31,7 @@ use Rattle.pw_simulation.proofs.Pieces.{after_code, straight_runs}
 
 -- ---- places
 
-pub stands_prefix : (w : World) (b : Body) (at : ℕ) (code more : List Part) → Stands w b at (code ++ more) → Stands w b at code
+pub stands_prefix : (w : World) (b : Body) (at : ℕ) (code more : List CodePart) → Stands w b at (code ++ more) → Stands w b at code
 stands_prefix w b at code more h = record {
   code_at = has_prefix w b.self.in_module b.self.in_unit at code more h.code_at;
   body = h.body;
@@ -41,7 +41,7 @@ stands_prefix w b at code more h = record {
   to = omega (arith, h.to, size-append code more);
 }
 
-pub stands_rest : (w : World) (b : Body) (at to : ℕ) (code more : List Part) → at + 4 * size code ≡ to → Stands w b at (code ++ more) → Stands w b to more
+pub stands_rest : (w : World) (b : Body) (at to : ℕ) (code more : List CodePart) → at + 4 * size code ≡ to → Stands w b at (code ++ more) → Stands w b to more
 stands_rest w b at to code more e h = subst (λ p. Stands w b p more) e (record {
   code_at = has_rest w b.self.in_module b.self.in_unit at code more h.code_at;
   body = h.body;
@@ -116,7 +116,7 @@ module _ (w : World) (sees : Sees w) (b : Body) (frame : HasFrame w b) where
   -- ---- the end of a row
 
   -- code that computes a value gives it
-  pub code_gives : (h : ℕ) (c : Class) (code : List Part) (x : Value) (v : ℕ) (st : State) (s : MachineState) → IsAt w b.stack_pointer b.calls_left st s
+  pub code_gives : (h : ℕ) (c : Class) (code : List CodePart) (x : Value) (v : ℕ) (st : State) (s : MachineState) → IsAt w b.stack_pointer b.calls_left st s
       → HasAt w b.self.in_module b.self.in_unit s.pc code → Computes code s.x v → Represents w c x v
       → Meets w (IsUntouched b h) b.stack_pointer b.calls_left (size code) (GivesValue w c (s.pc + 4 * size code)) (gives x st) s
   code_gives h c code x v st s at here computes represents = record {

@@ -10,7 +10,7 @@ use Rattle.pw_tree.specs.WellTypedExpressions.{Class, nothing, number, IsValue}
 use Rattle.pw_tree.specs.WellTypedExpressions as classes
 use Rattle.pw_mem.specs.Words.{doubleword}
 use Rattle.pw_hart.specs.State.{MachineState, set}
-use Rattle.pw_code.specs.Items.{Part, instruction, size}
+use Rattle.pw_code.specs.Items.{CodePart, instruction, size}
 use Rattle.pw_code.specs.Frames.{held_slot}
 use Rattle.pw_code.specs.Pieces.{hold}
 use Rattle.pw_code.proofs.Exports.{size-append}
@@ -57,7 +57,7 @@ pub alone : (i : Inst) → size (instruction i ∷ []) ≡ 1
 unfolding size
 alone i = refl
 
-pub one_more : (i : Inst) (code : List Part) → size (instruction i ∷ code) ≡ 1 + size code
+pub one_more : (i : Inst) (code : List CodePart) → size (instruction i ∷ code) ≡ 1 + size code
 unfolding size
 one_more i code = refl
 
@@ -70,13 +70,13 @@ module _ (w : World) (sees : Sees w) (b : Body) (frame : HasFrame w b) (known : 
       (subst (λ p. Meets w (IsUntouched b h) b.stack_pointer b.calls_left own (GivesValue w c p) o s) f m)
 
   -- What follows an expression, given its value.
-  abbrev pub Follows : (h : ℕ) → Class → Class → List Part → (Value → State → Outcome Value) → Type 0
+  abbrev pub Follows : (h : ℕ) → Class → Class → List CodePart → (Value → State → Outcome Value) → Type 0
   Follows h c d code next =
       (x : Value) (st : State) (t : MachineState) → IsReadyFor w b known locals n st t → Represents w c x (t.x 10) → Stands w b t.pc code
       → Meets w (IsUntouched b h) b.stack_pointer b.calls_left (size code) (GivesValue w d (t.pc + 4 * size code)) (next x st) t
 
   -- an expression, and what follows it
-  pub part_row : (h : ℕ) (c d : Class) (code more : List Part) (f : State → Outcome Value) (next : Value → State → Outcome Value)
+  pub part_row : (h : ℕ) (c d : Class) (code more : List CodePart) (f : State → Outcome Value) (next : Value → State → Outcome Value)
       → Runs w b known locals n h c code f → Follows h c d more next → Runs w b known locals n h d (code ++ more) (λ st. and_then (f st) next)
   part_row h c d code more f next runs follows st s r here =
       let both : size (code ++ more) ≡ size code + size more = size-append code more in
@@ -92,19 +92,19 @@ module _ (w : World) (sees : Sees w) (b : Body) (frame : HasFrame w b) (known : 
       (follows x later t ready gives.1 there)))
 
   -- What follows two operands, given their values: the first in t0, the second in a0.
-  abbrev pub Finishes : (h : ℕ) → Class → Class → Class → List Part → (Value → Value → State → Outcome Value) → Type 0
+  abbrev pub Finishes : (h : ℕ) → Class → Class → Class → List CodePart → (Value → Value → State → Outcome Value) → Type 0
   Finishes h c1 c2 d code finish =
       (x y : Value) (st : State) (t : MachineState) → IsReadyFor w b known locals n st t → Represents w c1 x (t.x 5) → Represents w c2 y (t.x 10) → Stands w b t.pc code
       → Meets w (IsUntouched b h) b.stack_pointer b.calls_left (size code) (GivesValue w d (t.pc + 4 * size code)) (finish x y st) t
 
   -- the second operand, after the first was held
-  second_row : (h : ℕ) (c1 c2 d : Class) (code more : List Part) (x : Value) (word : ℕ) (f : State → Outcome Value) (finish : Value → Value → State → Outcome Value)
+  second_row : (h : ℕ) (c1 c2 d : Class) (code more : List CodePart) (x : Value) (word : ℕ) (f : State → Outcome Value) (finish : Value → Value → State → Outcome Value)
       → h < b.frame.held → Represents w c1 x word → Runs w b known locals n (suc h) c2 code f → Finishes h c1 c2 d more finish
       → (st : State) (s : MachineState) → IsReadyFor w b known locals n st s → doubleword s.mem (b.stack_pointer + 8 * (b.frame.locals + h)) ≡ Some word
       → Stands w b s.pc (code ++ instruction (Ld 5 2 (held_slot b.frame h)) ∷ more)
       → Meets w (IsUntouched b h) b.stack_pointer b.calls_left (size code + (1 + size more)) (GivesValue w d (s.pc + 4 * size code + 4 + 4 * size more)) (and_then (f st) (finish x)) s
   second_row h c1 c2 d code more x word f finish few stands_for runs finishes st s r held here =
-      let load : List Part = instruction (Ld 5 2 (held_slot b.frame h)) ∷ more in
+      let load : List CodePart = instruction (Ld 5 2 (held_slot b.frame h)) ∷ more in
       meets_then w (IsUntouched b h) (IsUntouched b (suc h)) (IsUntouched b h) b.stack_pointer b.calls_left (size code) (1 + size more)
       (GivesValue w c2 (s.pc + 4 * size code)) (GivesValue w d (s.pc + 4 * size code + 4 + 4 * size more)) (f st) (finish x) s more_untouched (λ _ k. k)
       (runs st s r (stands_prefix w b s.pc code load here))
@@ -129,7 +129,7 @@ module _ (w : World) (sees : Sees w) (b : Body) (frame : HasFrame w b) (known : 
       more_untouched at (inr u) = inr u
 
   -- Two operands, of which the first is held in a slot while the second is evaluated.
-  pub held_row : (h : ℕ) (c1 c2 d : Class) (code1 code2 code3 : List Part) (f1 f2 : State → Outcome Value) (finish : Value → Value → State → Outcome Value)
+  pub held_row : (h : ℕ) (c1 c2 d : Class) (code1 code2 code3 : List CodePart) (f1 f2 : State → Outcome Value) (finish : Value → Value → State → Outcome Value)
       → h < b.frame.held → IsValue c1 → Runs w b known locals n h c1 code1 f1 → Runs w b known locals n (suc h) c2 code2 f2 → Finishes h c1 c2 d code3 finish
       → Runs w b known locals n h d (code1 ++ hold b.frame h ∷ code2 ++ instruction (Ld 5 2 (held_slot b.frame h)) ∷ code3) (λ st. and_then (f1 st) (λ x st. and_then (f2 st) (finish x)))
   held_row h c1 c2 d code1 code2 code3 f1 f2 finish few some runs1 runs2 finishes =
@@ -140,7 +140,7 @@ module _ (w : World) (sees : Sees w) (b : Body) (frame : HasFrame w b) (known : 
       follows x st s r stands_for here =
           let store = Sd 2 10 (held_slot b.frame h) in
           let load = Ld 5 2 (held_slot b.frame h) in
-          let rest : List Part = code2 ++ instruction load ∷ code3 in
+          let rest : List CodePart = code2 ++ instruction load ∷ code3 in
           let held = holds_value w sees b frame h st s r.at few (represents_small w sees c1 x (s.x 10) some stands_for) here.code_at.0 in
           let t : MachineState = record s { mem = held.memory; pc = s.pc + 4 } in
           let ready = still_ready w sees b frame known locals n h st st s t r held.at held.keeps (let e : s.steps ≤ s.steps = omega arith in e) in

@@ -9,7 +9,7 @@ use Rattle.pw_hart.specs.Word.{addw}
 use Rattle.pw_hart.specs.Multiply.{mul, div, divu, rem, remu}
 use Rattle.pw_hart.specs.State.{MachineState, Goes, get, set, goes_on}
 use Rattle.pw_hart.specs.Exec.{exec, upper}
-use Rattle.pw_code.specs.Items.{Part, instruction, address, size}
+use Rattle.pw_code.specs.Items.{CodePart, instruction, address, size}
 use Rattle.pw_simulation.specs.Straight.{goes_then, carried_out}
 
 -- the registers after an instruction that changes nothing else, but for the program counter
@@ -66,26 +66,26 @@ exec_effect (Remu rd rs1 rs2) s x h = by_value s (set s.x rd (remu (get s.x rs1)
 exec_effect _ s x h = cc
 
 -- the registers after some code that is made of such instructions
-abbrev pub effects : List Part → (ℕ → ℕ) → Option (ℕ → ℕ)
+abbrev pub effects : List CodePart → (ℕ → ℕ) → Option (ℕ → ℕ)
 effects [] x = Some x
 effects (instruction i ∷ code) x = option_and_then (effects code) (effect i x)
 effects (address rd to ∷ code) x = None
 
 -- the first instruction's registers, and then the others'
-pub record Begins (i : Inst) (code : List Part) (x y : ℕ → ℕ) : Type 0 where
+pub record Begins (i : Inst) (code : List CodePart) (x y : ℕ → ℕ) : Type 0 where
   pub between : ℕ → ℕ
   pub first : effect i x ≡ Some between
   pub others : effects code between ≡ Some y
 
-begins_by : (i : Inst) (code : List Part) (x y : ℕ → ℕ) (o : Option (ℕ → ℕ)) → effect i x ≡ o → option_and_then (effects code) o ≡ Some y → Begins i code x y
+begins_by : (i : Inst) (code : List CodePart) (x y : ℕ → ℕ) (o : Option (ℕ → ℕ)) → effect i x ≡ o → option_and_then (effects code) o ≡ Some y → Begins i code x y
 begins_by i code x y None e h = cc
 begins_by i code x y (Some z) e h = record { between = z; first = e; others = h }
 
-pub begins : (i : Inst) (code : List Part) (x y : ℕ → ℕ) → effects (instruction i ∷ code) x ≡ Some y → Begins i code x y
+pub begins : (i : Inst) (code : List CodePart) (x y : ℕ → ℕ) → effects (instruction i ∷ code) x ≡ Some y → Begins i code x y
 begins i code x y h = begins_by i code x y (effect i x) refl h
 
 -- one piece of code after another
-pub effects_then : (code more : List Part) (x y z : ℕ → ℕ) → effects code x ≡ Some y → effects more y ≡ Some z → effects (code ++ more) x ≡ Some z
+pub effects_then : (code more : List CodePart) (x y z : ℕ → ℕ) → effects code x ≡ Some y → effects more y ≡ Some z → effects (code ++ more) x ≡ Some z
 effects_then [] more x y z h k = let e : x ≡ y = cc in subst (λ r. effects more r ≡ Some z) (sym e) k
 effects_then (instruction i ∷ code) more x y z h k =
     let b = begins i code x y h in
@@ -93,7 +93,7 @@ effects_then (instruction i ∷ code) more x y z h k =
 effects_then (address rd to ∷ code) more x y z h k = cc
 
 -- carried out, the code leaves these registers
-pub carried_out_effects : (code : List Part) (s : MachineState) (y : ℕ → ℕ) → effects code s.x ≡ Some y → s.pc + 4 * size code < 2 ^ 64 →
+pub carried_out_effects : (code : List CodePart) (s : MachineState) (y : ℕ → ℕ) → effects code s.x ≡ Some y → s.pc + 4 * size code < 2 ^ 64 →
     carried_out code s ≡ Goes (record s { x = y; pc = s.pc + 4 * size code })
 unfolding size
 carried_out_effects [] s y h short =

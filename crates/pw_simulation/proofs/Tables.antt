@@ -10,7 +10,7 @@ use Rattle.pw_tree.specs.declared.ty.Ref.{Ref}
 use Rattle.pw_hart.specs.Bits.{bits64}
 use Rattle.pw_hart.specs.Integer.{add}
 use Rattle.pw_hart.specs.Exec as machine
-use Rattle.pw_code.specs.Items.{Part, instruction, address, size}
+use Rattle.pw_code.specs.Items.{CodePart, instruction, address, size}
 use Rattle.pw_code.specs.LoadImmediate.{upper, lower}
 use Rattle.pw_agree.specs.Image.{distance, with_lower}
 use Rattle.pw_simulation.specs.World.{World, target_place}
@@ -76,7 +76,7 @@ in_rest start i is at j h =
 -- ---- code in a world
 
 -- the references of some code, in order
-abbrev pub references : List Part → List Ref
+abbrev pub references : List CodePart → List Ref
 references [] = []
 references (instruction i ∷ code) = references code
 references (address rd to ∷ code) = to ∷ references code
@@ -86,7 +86,7 @@ pub record IsTarget (w : World) (m u : ℕ) (to : Ref) : Type 0 where
   pub low : target_place w m u to < 2 ^ 63
   pub slot : HasSlot w m to
 
-pub table_has : (w : World) (m u : ℕ) (code : List Part) (place : ℕ) → place + 4 * size code < 2 ^ 63 → AllByRecursion (IsTarget w m u) (references code)
+pub table_has : (w : World) (m u : ℕ) (code : List CodePart) (place : ℕ) → place + 4 * size code < 2 ^ 63 → AllByRecursion (IsTarget w m u) (references code)
     → ((at : ℕ) (i : Inst) → in_table place (instructions_at (target_place w m u) place code) at ≡ Some i → w.code at ≡ Some i) → HasAt w m u place code
 unfolding size
 table_has w m u [] place low targets stands = tt
@@ -115,11 +115,11 @@ table_has w m u (address rd to ∷ code) place low targets stands =
           (λ at j h. stands at j (in_rest place first (second ∷ rest) at j (in_rest (place + 4) second rest at j (subst (λ p. in_table p rest at ≡ Some j) (sym twice) h)))),
     )
 
-length_is : (target : Ref → ℕ) (place : ℕ) (code : List Part) → length (instructions_at target place code) ≡ size code
+length_is : (target : Ref → ℕ) (place : ℕ) (code : List CodePart) → length (instructions_at target place code) ≡ size code
 unfolding size
 length_is target place [] = refl
 length_is target place (instruction i ∷ code) = omega (arith, length_is target (place + 4) code)
 length_is target place (address rd to ∷ code) = omega (arith, length_is target (place + 8) code)
 
-pub length_of_instructions : (target : Ref → ℕ) (place : ℕ) (code : List Part) → length (instructions_at target place code) ≡ size code
+pub length_of_instructions : (target : Ref → ℕ) (place : ℕ) (code : List CodePart) → length (instructions_at target place code) ≡ size code
 length_of_instructions target place code = length_is target place code

@@ -16,7 +16,7 @@ use Rattle.pw_mem.specs.Words.{doubleword}
 use Rattle.pw_isa.specs.Registers.{a0}
 use Rattle.pw_hart.specs.State.{MachineState}
 use Rattle.pw_code.specs.declared.frame.Frame.{Frame}
-use Rattle.pw_code.specs.Items.{Part, size}
+use Rattle.pw_code.specs.Items.{CodePart, size}
 use Rattle.pw_code.specs.FunctionCode.{function_words}
 use Rattle.pw_code.specs.Frames.{slot_bytes}
 use Rattle.pw_simulation.specs.World.{World}
@@ -129,7 +129,7 @@ pub record IsReadyFor (w : World) (b : Body) (known : List ℕ) (locals : Locals
   pub fuel : st.steps ≤ n
 
 -- Code of the body stands at a place, inside the function, which is so short that a jump reaches from each word to each.
-pub record Stands (w : World) (b : Body) (at : ℕ) (code : List Part) : Type 0 where
+pub record Stands (w : World) (b : Body) (at : ℕ) (code : List CodePart) : Type 0 where
   pub code_at : HasAt w b.self.in_module b.self.in_unit at code
   pub body : Function
   pub there : function_at w.project b.self ≡ Some body
@@ -142,7 +142,7 @@ abbrev pub GivesValue : World → Class → (to : ℕ) → Value → MachineStat
 GivesValue w c to x t = (t.pc ≡ to) × Represents w c x (t.x a0)
 
 -- The law of an expression: wherever its code stands, the machine does what the expression comes to.
-abbrev pub Runs : (w : World) (b : Body) (known : List ℕ) (locals : Locals) (n h : ℕ) → Class → List Part → (State → Outcome Value) → Type 0
+abbrev pub Runs : (w : World) (b : Body) (known : List ℕ) (locals : Locals) (n h : ℕ) → Class → List CodePart → (State → Outcome Value) → Type 0
 Runs w b known locals n h c code means =
     (st : State) (s : MachineState) → IsReadyFor w b known locals n st s → Stands w b s.pc code →
     Meets w (IsUntouched b h) b.stack_pointer b.calls_left (size code) (GivesValue w c (s.pc + 4 * size code)) (means st) s

@@ -14,7 +14,7 @@ use Rattle.pw_tree.specs.WellTypedExpressions.{Class, class_of, class, Throughou
 use Rattle.pw_mem.specs.Memory.{Mem}
 use Rattle.pw_mem.specs.Words.{doubleword}
 use Rattle.pw_hart.specs.State.{MachineState}
-use Rattle.pw_code.specs.Items.{Part, size}
+use Rattle.pw_code.specs.Items.{CodePart, size}
 use Rattle.pw_code.specs.Frames.{slot_bytes}
 use Rattle.pw_code.specs.ExpressionCode.{expression_code}
 use Rattle.pw_simulation.specs.World.{World}
@@ -50,7 +50,7 @@ abbrev pub GivesValues : World → Body → (h to : ℕ) → List Class → List
 GivesValues w b h to cs xs t = (t.pc ≡ to) × AreHeld w b t.mem h cs xs
 
 -- The law of arguments.
-abbrev pub RunsAll : (w : World) (b : Body) (known : List ℕ) (locals : Locals) (n h : ℕ) → List Class → List Part → (State → Outcome (List Value)) → Type 0
+abbrev pub RunsAll : (w : World) (b : Body) (known : List ℕ) (locals : Locals) (n h : ℕ) → List Class → List CodePart → (State → Outcome (List Value)) → Type 0
 RunsAll w b known locals n h cs code means =
     (st : State) (s : MachineState) → IsReadyFor w b known locals n st s → Stands w b s.pc code →
     Meets w (IsUntouched b h) b.stack_pointer b.calls_left (size code) (GivesValues w b h (s.pc + 4 * size code) cs) (means st) s

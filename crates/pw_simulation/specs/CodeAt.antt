@@ -6,7 +6,7 @@ use Rattle.pw_tree.specs.declared.ty.Ref.TheVariants.{Global, LocalFun, LocalVar
 use Rattle.pw_hart.specs.Bits.{bits64}
 use Rattle.pw_hart.specs.Integer.{add}
 use Rattle.pw_hart.specs.Exec.{upper}
-use Rattle.pw_code.specs.Items.{Part, instruction, address}
+use Rattle.pw_code.specs.Items.{CodePart, instruction, address}
 use Rattle.pw_agree.specs.Image.{with_lower}
 use Rattle.pw_simulation.specs.World.{World, target_place}
 
@@ -26,7 +26,7 @@ pub record Brings (w : World) (m u at rd : ℕ) (to : Ref) : Type 0 where
   pub slot : HasSlot w m to
 
 -- Code of a unit stands at a place.
-abbrev pub HasAt : World → (m u at : ℕ) → List Part → Type 0
+abbrev pub HasAt : World → (m u at : ℕ) → List CodePart → Type 0
 HasAt w m u at [] = ⊤
 HasAt w m u at (instruction i ∷ code) = (w.code at ≡ Some i) × HasAt w m u (at + 4) code
 HasAt w m u at (address rd to ∷ code) = Brings w m u at rd to × HasAt w m u (at + 8) code

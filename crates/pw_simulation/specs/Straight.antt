@@ -3,7 +3,7 @@ use Rattle.std.specs.Prelude.{◌≡◌, ◌≢◌, ℕ, ◌+◌, ◌*◌, ◌^�
 use Rattle.pw_hart.specs.State.{MachineState, Next, Goes, Ends}
 use Rattle.pw_hart.specs.declared.ends.End.TheVariants.{Limit}
 use Rattle.pw_hart.specs.Exec.{exec}
-use Rattle.pw_code.specs.Items.{Part, instruction, address, size}
+use Rattle.pw_code.specs.Items.{CodePart, instruction, address, size}
 use Rattle.pw_code.specs.LoadImmediate.{load_immediate}
 
 -- What follows where a run goes on.
@@ -12,7 +12,7 @@ goes_then next (Goes s) = next s
 goes_then next (Ends end s) = Ends end s
 
 -- Code without references, carried out from its first instruction to its last.
-abbrev pub carried_out : List Part → MachineState → Next
+abbrev pub carried_out : List CodePart → MachineState → Next
 carried_out [] s = Goes s
 carried_out (instruction i ∷ code) s = goes_then (carried_out code) (exec i s)
 carried_out (address rd to ∷ code) s = Ends Limit s
@@ -23,7 +23,7 @@ pub record Puts (rd value : ℕ) (old new : ℕ → ℕ) : Type 0 where
   pub others : (r : ℕ) → r ≢ rd → new r ≡ old r
 
 -- Code goes on after itself, with the value in the register and all else as before.
-pub record Loads (rd value : ℕ) (code : List Part) (s : MachineState) : Type 0 where
+pub record Loads (rd value : ℕ) (code : List CodePart) (s : MachineState) : Type 0 where
   pub registers : ℕ → ℕ
   pub puts : Puts rd value s.x registers
   pub goes : carried_out code s ≡ Goes (record s { x = registers; pc = s.pc + 4 * size code })

@@ -3,12 +3,12 @@ use Rattle.std.specs.Prelude.{ℕ, ◌+◌, List, [], ◌∷◌, Option, Some, N
 use Rattle.pw_isa.specs.declared.instruction.Inst.{Inst}
 use Rattle.pw_isa.specs.declared.instruction.Inst.TheVariants.{Auipc}
 use Rattle.pw_tree.specs.declared.ty.Ref.{Ref}
-use Rattle.pw_code.specs.Items.{Part, instruction, address}
+use Rattle.pw_code.specs.Items.{CodePart, instruction, address}
 use Rattle.pw_code.specs.LoadImmediate.{upper, lower}
 use Rattle.pw_agree.specs.Image.{distance, with_lower}
 
 -- The instructions of some code at a place, given the address of each target.
-abbrev pub instructions_at : (Ref → ℕ) → (place : ℕ) → List Part → List Inst
+abbrev pub instructions_at : (Ref → ℕ) → (place : ℕ) → List CodePart → List Inst
 instructions_at target place [] = []
 instructions_at target place (instruction i ∷ code) = i ∷ instructions_at target (place + 4) code
 instructions_at target place (address rd to ∷ code) =

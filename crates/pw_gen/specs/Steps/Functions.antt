@@ -6,7 +6,7 @@ use Rattle.pw_isa.specs.Registers.{x0, ra, sp, s1}
 use Rattle.pw_tree.specs.Units.{Function, TypedUnit}
 use Rattle.pw_tree.specs.WellTypedUnits.{IsWellTypedFunction}
 use Rattle.pw_code.specs.declared.frame.Frame.{Frame}
-use Rattle.pw_code.specs.Items.{Part, instruction}
+use Rattle.pw_code.specs.Items.{CodePart, instruction}
 use Rattle.pw_code.specs.Frames.{return_slot, frame_bytes}
 use Rattle.pw_code.specs.StatementCode.{statements_words}
 use Rattle.pw_code.specs.FunctionCode.{frame_of, opens_words, falls_off}
@@ -18,13 +18,13 @@ pub record IsOfUnit (f : Function) : Type 0 where
   pub well_typed : IsWellTypedFunction unit f
 
 -- a call is taken, and its frame opened
-abbrev pub open_frame : Frame → List Part
+abbrev pub open_frame : Frame → List CodePart
 open_frame frame =
     instruction (Addi s1 s1 (negsuc 0)) ∷ instruction (Addi sp sp (pos 0 -ℤ pos (frame_bytes frame)))
     ∷ instruction (Sd sp ra (return_slot frame)) ∷ []
 
 -- what stands after the body of a function with this frame
-abbrev pub falls_off_and_closes : Frame → List Part
+abbrev pub falls_off_and_closes : Frame → List CodePart
 falls_off_and_closes frame =
     falls_off ∷ instruction (Ld ra sp (return_slot frame)) ∷ instruction (Addi sp sp (pos (frame_bytes frame)))
     ∷ instruction (Addi s1 s1 (pos 1)) ∷ instruction (Jalr x0 ra (pos 0)) ∷ []

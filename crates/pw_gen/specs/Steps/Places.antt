@@ -2,7 +2,7 @@
 use Rattle.std.specs.Prelude.{ℕ, ◌+◌, List, ◌++◌, Option}
 use Rattle.pw_tree.specs.TypedExpressions.{TypedExpression}
 use Rattle.pw_tree.specs.TypedStatements.{TypedStatement, TypedStatements, OptionalTypedStatement}
-use Rattle.pw_code.specs.Items.{Part}
+use Rattle.pw_code.specs.Items.{CodePart}
 use Rattle.pw_code.specs.ExpressionCode.{expression_words}
 use Rattle.pw_code.specs.StatementCode.{condition_words, statement_words, condition_code, statement_code, statements_code, optional_code, else_code}
 use Rattle.pw_code.specs.StatementCode as scheme
@@ -23,25 +23,25 @@ abbrev pub in_loop : (end next : ℕ) → Place → Place
 in_loop end next place = record place { targets = record { break_to = end; continue_to = next; return_to = place.targets.return_to } }
 
 -- the code of statements at a place
-abbrev pub code_at : Place → TypedStatement → List Part
+abbrev pub code_at : Place → TypedStatement → List CodePart
 code_at place s = statement_code place.frame (targets_of place.targets) place.at s
 
-abbrev pub code_of_all_at : Place → TypedStatements → List Part
+abbrev pub code_of_all_at : Place → TypedStatements → List CodePart
 code_of_all_at place ss = statements_code place.frame (targets_of place.targets) place.at ss
 
-abbrev pub optional_code_at : Place → OptionalTypedStatement → List Part
+abbrev pub optional_code_at : Place → OptionalTypedStatement → List CodePart
 optional_code_at place s = optional_code place.frame (targets_of place.targets) place.at s
 
-abbrev pub else_code_at : Place → OptionalTypedStatement → List Part
+abbrev pub else_code_at : Place → OptionalTypedStatement → List CodePart
 else_code_at place s = else_code place.frame (targets_of place.targets) place.at s
 
 -- the condition of an `if` and its first branch; an `else` after it has this jump
-abbrev pub then_code_at : Place → TypedExpression → TypedStatement → (jump_words : ℕ) → List Part
+abbrev pub then_code_at : Place → TypedExpression → TypedStatement → (jump_words : ℕ) → List CodePart
 then_code_at place c a jump_words =
     only_if place.frame c (statement_words a + jump_words) ++ code_at (after place (expression_words c + 2)) a
 
 -- the condition of a `for` and its body; the last part after it has so many words
-abbrev pub for_body_code_at : Place → Option TypedExpression → TypedStatement → (last_words : ℕ) → List Part
+abbrev pub for_body_code_at : Place → Option TypedExpression → TypedStatement → (last_words : ℕ) → List CodePart
 for_body_code_at top c body last_words =
     let next : ℕ = top.at + condition_words c + statement_words body in
     condition_code top.frame c (statement_words body + (last_words + 1))

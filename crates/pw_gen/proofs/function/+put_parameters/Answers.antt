@@ -5,7 +5,7 @@ use Rattle.std.specs.Int.{w32}
 use Rattle.std.proofs.lemmas.Int.{to_z-of_z}
 use Rattle.pw_isa.specs.declared.instruction.Inst.TheVariants.{Sd}
 use Rattle.pw_isa.specs.Registers.{sp, a0}
-use Rattle.pw_code.specs.Items.{Part, instruction, items}
+use Rattle.pw_code.specs.Items.{CodePart, instruction, items}
 use Rattle.pw_code.specs.Frames.{local_slot}
 use Rattle.pw_code.specs.FunctionCode.{store_parameters}
 use Rattle.pw_genexpr.specs.Appends.{AppendsPrefix, Appends}

@@ -2,7 +2,7 @@
 use Rattle.std.proofs.Common.{◌≡◌, ℕ, Ok, suc, ◌+◌, ◌*◌, ◌++◌, List, [], ◌∷◌, pos, subst, ◌∙◌}
 use Rattle.pw_isa.specs.declared.instruction.Inst.TheVariants.{Bltu}
 use Rattle.pw_isa.specs.Registers.{a0, t1}
-use Rattle.pw_code.specs.Items.{Part, instruction, size}
+use Rattle.pw_code.specs.Items.{CodePart, instruction, size}
 use Rattle.pw_code.specs.LoadImmediate.{load_immediate}
 use Rattle.pw_code.specs.Pieces.{fault, index_fault, past, bytes_of_words}
 use Rattle.pw_genexpr.specs.Appends.{AppendsPrefix, Appends}
@@ -10,7 +10,7 @@ use Rattle.pw_genexpr.proofs.Distances.{past_fault}
 use Rattle.pw_genexpr.proofs.Appending.{prefix_of_more, prefix_after, appends_after, gave_up}
 use Rattle.pw_genexpr.proofs.checks.put_check_index.Goals as goal
 
-abbrev branch_code : ℕ → List Part
+abbrev branch_code : ℕ → List CodePart
 branch_code line = instruction (Bltu a0 t1 (pos (bytes_of_words (suc (size (fault index_fault line)))))) ∷ []
 
 pub returns-in_err-put_load_immediate : goal.returns-in_err-put_load_immediate

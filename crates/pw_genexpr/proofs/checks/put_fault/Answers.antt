@@ -7,16 +7,16 @@ use mir.Val.{to_z, of_z}
 use Rattle.pw_isa.specs.declared.instruction.Inst.TheVariants.{Addi, Ecall}
 use Rattle.pw_isa.specs.Registers.{x0, a0, a1, a7}
 use Rattle.pw_isa.specs.EnvironmentCalls.{fault_call}
-use Rattle.pw_code.specs.Items.{Part, instruction}
+use Rattle.pw_code.specs.Items.{CodePart, instruction}
 use Rattle.pw_code.specs.LoadImmediate.{load_immediate}
 use Rattle.pw_genexpr.specs.Appends.{AppendsPrefix, Appends}
 use Rattle.pw_genexpr.proofs.Appending.{prefix_of_more, prefix_after, appends_after, gave_up}
 use Rattle.pw_genexpr.proofs.checks.put_fault.Goals as goal
 
-abbrev kind_code : ℤ → List Part
+abbrev kind_code : ℤ → List CodePart
 kind_code kind = instruction (Addi a0 x0 kind) ∷ []
 
-abbrev call_code : List Part
+abbrev call_code : List CodePart
 call_code = instruction (Addi a7 x0 (pos fault_call)) ∷ instruction Ecall ∷ []
 
 pub returns-in_err-put_instruction : goal.returns-in_err-put_instruction

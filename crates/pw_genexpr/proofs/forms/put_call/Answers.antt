@@ -3,15 +3,15 @@ use Rattle.std.proofs.Common.{◌≡◌, ◌++◌, List, [], ◌∷◌, pos}
 use Rattle.pw_isa.specs.declared.instruction.Inst.TheVariants.{Jalr}
 use Rattle.pw_isa.specs.Registers.{ra, t0, a0}
 use Rattle.pw_tree.specs.declared.ty.Ref.{Ref}
-use Rattle.pw_code.specs.Items.{Part, instruction, address}
+use Rattle.pw_code.specs.Items.{CodePart, instruction, address}
 use Rattle.pw_code.specs.Pieces.{load_held}
 use Rattle.pw_genexpr.proofs.Appending.{prefix_of_more, prefix_after, appends_after, gave_up}
 use Rattle.pw_genexpr.proofs.forms.put_call.Goals as goal
 
-abbrev jump_code : List Part
+abbrev jump_code : List CodePart
 jump_code = instruction (Jalr ra t0 (pos 0)) ∷ []
 
-abbrev callee_code : Ref → List Part
+abbrev callee_code : Ref → List CodePart
 callee_code f = address t0 f ∷ instruction (Jalr ra t0 (pos 0)) ∷ []
 
 pub returns-in_err-put_load_held : goal.returns-in_err-put_load_held

@@ -2,18 +2,18 @@
 use Rattle.std.proofs.Common.{◌≡◌, ◌++◌, ℕ, Ok, List, [], ◌∷◌, pos}
 use Rattle.pw_isa.specs.declared.instruction.Inst.TheVariants.{Addi, Bne, Jalr}
 use Rattle.pw_isa.specs.Registers.{x0, ra, t0, a0}
-use Rattle.pw_code.specs.Items.{Part, instruction}
+use Rattle.pw_code.specs.Items.{CodePart, instruction}
 use Rattle.pw_code.specs.Pieces.{past, fault, null_call_fault, load_held}
 use Rattle.pw_genexpr.proofs.Appending.{prefix_of_more, prefix_after, appends_after, gave_up}
 use Rattle.pw_genexpr.proofs.forms.put_call_pointer.Goals as goal
 
-abbrev callee_code : List Part
+abbrev callee_code : List CodePart
 callee_code = instruction (Addi t0 a0 (pos 0)) ∷ []
 
-abbrev check_code : ℕ → List Part
+abbrev check_code : ℕ → List CodePart
 check_code line = past (Bne t0 x0) (fault null_call_fault line)
 
-abbrev jump_code : List Part
+abbrev jump_code : List CodePart
 jump_code = instruction (Jalr ra t0 (pos 0)) ∷ []
 
 pub returns-in_err-put_instruction : goal.returns-in_err-put_instruction

@@ -3,18 +3,18 @@ use Rattle.std.proofs.Common.{◌≡◌, ◌+◌, ◌*◌, ◌++◌, List, [], �
 use Rattle.pw_isa.specs.declared.instruction.Inst.TheVariants.{Slli, Add, Ld}
 use Rattle.pw_isa.specs.Registers.{t0, a0}
 use Rattle.pw_tree.specs.declared.ty.Ref.{Ref}
-use Rattle.pw_code.specs.Items.{Part, instruction, address}
+use Rattle.pw_code.specs.Items.{CodePart, instruction, address}
 use Rattle.pw_code.specs.Pieces.{check_index}
 use Rattle.pw_genexpr.proofs.Appending.{prefix_of_more, prefix_after, appends_after, gave_up}
 use Rattle.pw_genexpr.proofs.forms.put_element.Goals as goal
 
-load_code : List Part
+load_code : List CodePart
 load_code = instruction (Add t0 t0 a0) ∷ instruction (Ld a0 t0 (pos 0)) ∷ []
 
-array_code : Ref → List Part
+array_code : Ref → List CodePart
 array_code a = address t0 a ∷ instruction (Add t0 t0 a0) ∷ instruction (Ld a0 t0 (pos 0)) ∷ []
 
-bytes_code : Ref → List Part
+bytes_code : Ref → List CodePart
 bytes_code a = instruction (Slli a0 a0 3) ∷ address t0 a ∷ instruction (Add t0 t0 a0) ∷ instruction (Ld a0 t0 (pos 0)) ∷ []
 
 pub returns-in_err-put_check_index : goal.returns-in_err-put_check_index
