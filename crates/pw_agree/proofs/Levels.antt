@@ -84,7 +84,8 @@ pub has_level : (project : Project) (n : Node) (k : ℕ) → HasWay project k n 
 has_level project n k way none = record { way = way; least = λ j other. no_shorter_way project n k j none other }
 
 -- none of the ends of the ways of k names that leads to a function stands before this one
-pub has_parent : (project : Project) (n : Node) (k : ℕ) (p : Node) → IsLevel project p k → Leads project p n → AllByRecursion (λ q. node_is_before q p ≡ false) (ends project k) → IsParent project n k p
+pub has_parent : (project : Project) (n : Node) (k : ℕ) (p : Node) → IsLevel project p k → Leads project p n →
+    AllByRecursion (λ q. node_is_before q p ≡ false) (ends project k) → IsParent project n k p
 has_parent project n k p level leads none = record {
   level = level;
   leads = leads;
@@ -112,7 +113,8 @@ in_rest : (ds : List Definition) (d : Definition) → IsIn (entry ∷ map define
 in_rest ds d (inl e) = cc
 in_rest ds d (inr h) = in_map ds d h
 
-pub finds_kept : (project : Project) (ds : List Definition) → AllByRecursion (λ d. IsKept project (defined d)) ds → IsClosed project (entry ∷ map defined ds) → FindsKept project (is_one_of ds)
+pub finds_kept : (project : Project) (ds : List Definition) → AllByRecursion (λ d. IsKept project (defined d)) ds →
+    IsClosed project (entry ∷ map defined ds) → FindsKept project (is_one_of ds)
 finds_kept project ds kept closed d = (found, λ h. in_rest ds d (kept_among project (entry ∷ map defined ds) (defined d) closed h))
   where
     found : is_one_of ds d ≡ true → IsKept project (defined d)

@@ -78,7 +78,8 @@ in_units project m u (y ∷ ys) (suc i) unit n there h =
     in_right (flat_map (pointed_by project m u) y.variables) (pointed_by_units project m (suc u) ys) n
     (in_units project m (suc u) ys i unit n there (subst (λ v. IsIn (flat_map (pointed_by project m v) unit.variables) n) next h))
 
-in_modules : (project : Project) (m : ℕ) (modules : List (List TypedUnit)) (i : ℕ) (units : List TypedUnit) (n : Node) → slice_get modules i ≡ Some units
+in_modules : (project : Project) (m : ℕ) (modules : List (List TypedUnit)) (i : ℕ) (units : List TypedUnit) (n : Node) →
+    slice_get modules i ≡ Some units
     → IsIn (pointed_by_units project (m + i) 0 units) n → IsIn (pointed_by_modules project m modules) n
 in_modules project m [] i units n there h = cc
 in_modules project m (y ∷ ys) zero units n there h =
@@ -99,14 +100,16 @@ record Stands (project : Project) (d : Definition) (x : TVar) : Type 0 where
   unit_there : slice_get units d.in_unit ≡ Some unit
   variable_there : slice_get unit.variables d.number ≡ Some x
 
-stands_by : (project : Project) (d : Definition) (x : TVar) (units : List TypedUnit) → slice_get project d.in_module ≡ Some units → (o : Option TypedUnit)
+stands_by : (project : Project) (d : Definition) (x : TVar) (units : List TypedUnit) →
+    slice_get project d.in_module ≡ Some units → (o : Option TypedUnit)
     → slice_get units d.in_unit ≡ o → option_and_then (λ (unit : TypedUnit). slice_get unit.variables d.number) o ≡ Some x → Stands project d x
 stands_by project d x units there None e h = cc
 stands_by project d x units there (Some unit) e h =
     record { units = units; module_there = there; unit = unit; unit_there = e; variable_there = h }
 
 stands_in : (project : Project) (d : Definition) (x : TVar) (o : Option (List TypedUnit)) → slice_get project d.in_module ≡ o
-    → option_and_then (λ (unit : TypedUnit). slice_get unit.variables d.number) (option_and_then (λ units. slice_get units d.in_unit) o) ≡ Some x → Stands project d x
+    → option_and_then (λ (unit : TypedUnit). slice_get unit.variables d.number) (option_and_then (λ units. slice_get units d.in_unit) o) ≡ Some x
+    → Stands project d x
 stands_in project d x None e h = cc
 stands_in project d x (Some units) e h = stands_by project d x units e (slice_get units d.in_unit) refl h
 

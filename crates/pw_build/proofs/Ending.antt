@@ -39,7 +39,8 @@ pub fresh_registers : (v : ℕ) → (λ (r : ℕ). get_or (0 ∷ 0 ∷ v ∷ rep
 fresh_registers v = fun_ext (fresh_register v)
 
 -- the machine's state at the start of a run
-pub starts : (funs : List Writer) (steps : ℕ) (m : ExecutionState) (input : List ℕ) → IsFresh steps m.hart → m.memory.mem ≡ image funs → state_at m input ≡ start funs steps input []
+pub starts : (funs : List Writer) (steps : ℕ) (m : ExecutionState) (input : List ℕ) → IsFresh steps m.hart →
+    m.memory.mem ≡ image funs → state_at m input ≡ start funs steps input []
 starts funs steps m input fresh is =
     ap (λ x. record { x = x; pc = m.hart.pc; steps = m.hart.steps; mem = m.memory.mem; input = input; output = [] }) fresh.x
     ∙ ap (λ pc. record { x = machine.set (λ _. 0) 2 (stack_start + stack_len); pc = pc; steps = m.hart.steps; mem = m.memory.mem; input = input; output = [] }) fresh.pc
@@ -47,19 +48,27 @@ starts funs steps m input fresh is =
     ∙ ap (λ k. record { x = machine.set (λ _. 0) 2 (stack_start + stack_len); pc = text_start; steps = steps; mem = k; input = input; output = [] }) is
 
 -- the run is as meant, whatever the input is
-pub meant : (funs : List Writer) (main : Writer) (steps : ℕ) (m : ExecutionState) (input : List ℕ) → CanPlace funs → main_writer funs ≡ Some main → 1 ≤ steps → IsFresh steps m.hart → m.memory.mem ≡ image funs → RunsAsMeant funs main input [] (run ((steps + 1) * all_words funs) (state_at m input))
+pub meant : (funs : List Writer) (main : Writer) (steps : ℕ) (m : ExecutionState) (input : List ℕ) → CanPlace funs →
+    main_writer funs ≡ Some main → 1 ≤ steps → IsFresh steps m.hart → m.memory.mem ≡ image funs →
+    RunsAsMeant funs main input [] (run ((steps + 1) * all_words funs) (state_at m input))
 meant funs main steps m input placed has bound fresh is =
     let P : machine.MachineState → Type 0 = λ s. RunsAsMeant funs main input [] (run ((steps + 1) * all_words funs) s) in
     subst P (sym (starts funs steps m input fresh is))
     (runs_of_images_are_meant funs main input [] steps ((steps + 1) * all_words funs) placed has bound (limits_suffice funs main steps has bound))
 
 -- so a run that is the machine's ends with the value of `main`
-pub ends_with_main : (funs : List Writer) (main : Writer) (steps : ℕ) (old new : ExecutionState) (end : End) → CanPlace funs → main_writer funs ≡ Some main → 1 ≤ steps → IsFresh steps old.hart → old.memory.mem ≡ image funs → RunsTo ((steps + 1) * all_words funs) old new end → end ≡ ends.Exit (value_of main)
+pub ends_with_main : (funs : List Writer) (main : Writer) (steps : ℕ) (old new : ExecutionState) (end : End) →
+    CanPlace funs → main_writer funs ≡ Some main → 1 ≤ steps → IsFresh steps old.hart → old.memory.mem ≡ image funs →
+    RunsTo ((steps + 1) * all_words funs) old new end → end ≡ ends.Exit (value_of main)
 ends_with_main funs main steps old new end placed has bound fresh is r =
     sym r.ends ∙ (meant funs main steps old r.input placed has bound fresh is).ends
 
 -- a run that ended with a value, and the flush after it
-pub finishes : (funs : List Writer) (steps value : ℕ) (fresh last : Hart) (old new : Outside) (mid : SinkState) (ended : Ended) → IsFresh steps fresh → Runs ((steps + 1) * all_words funs) (execution fresh old) (execution last (record new { out = mid })) (ends.Exit value) → new.store ≡ old.store → new.messages ≡ old.messages → Flushes value mid new.out ended → Executes funs steps old new ended
+pub finishes : (funs : List Writer) (steps value : ℕ) (fresh last : Hart) (old new : Outside) (mid : SinkState) (ended : Ended) →
+    IsFresh steps fresh →
+    Runs ((steps + 1) * all_words funs) (execution fresh old) (execution last (record new { out = mid })) (ends.Exit value) →
+    new.store ≡ old.store → new.messages ≡ old.messages → Flushes value mid new.out ended →
+    Executes funs steps old new ended
 finishes funs steps value fresh last old new mid (Exit v) is_fresh runs files messages flushes = record {
   value = value;
   mid = mid;

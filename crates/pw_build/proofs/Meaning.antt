@@ -41,11 +41,14 @@ nothing_before input (b ∷ taken) rest e f =
     absurd (omega (arith, n, m))
 
 -- what a run takes of the input, where its outcome has the input whole, is nothing
-takes_nothing : (old new : ExecutionState) (input : List ℕ) (o : RunResult) → o.state.input ≡ input → HasResult old input o new → new.input ≡ old.input
+takes_nothing : (old new : ExecutionState) (input : List ℕ) (o : RunResult) → o.state.input ≡ input →
+    HasResult old input o new → new.input ≡ old.input
 takes_nothing old new input o whole l = l.left ∙ ap (λ t. after t old.input) (nothing_before input l.taken o.state.input l.took whole) ∙ after_nothing old.input
 
 -- the memory that a run leaves keeps the text
-keeps_text : (funs : List Writer) (steps k : ℕ) (fresh : Hart) (old : Outside) (new : ExecutionState) (input : List ℕ) → IsFresh steps fresh → old.memory.mem ≡ image funs → HasResult (execution fresh old) input (run k (state_at (execution fresh old) input)) new → KeepsText funs new.memory.mem
+keeps_text : (funs : List Writer) (steps k : ℕ) (fresh : Hart) (old : Outside) (new : ExecutionState) (input : List ℕ) →
+    IsFresh steps fresh → old.memory.mem ≡ image funs →
+    HasResult (execution fresh old) input (run k (state_at (execution fresh old) input)) new → KeepsText funs new.memory.mem
 keeps_text funs steps k fresh old new input is_fresh is l =
     let P : Mem → Type 0 = λ m. KeepsText funs m in
     let stays = text_stays funs input [] steps k in
@@ -53,7 +56,10 @@ keeps_text funs steps k fresh old new input is_fresh is l =
     subst P (ap (λ s. s.mem) l.state) here
 
 -- a run that ended with a value, with the flush after it
-ended_as_meant : (funs : List Writer) (main : Writer) (steps value : ℕ) (fresh last : Hart) (old new : Outside) (mid : SinkState) → CanPlace funs → main_writer funs ≡ Some main → 1 ≤ steps → IsFresh steps fresh → old.memory.mem ≡ image funs → RunsTo ((steps + 1) * all_words funs) (execution fresh old) (execution last (record new { out = mid })) (ends.Exit value) → new.out ≡ flushed_all mid → EndsAsMeant funs old new value
+ended_as_meant : (funs : List Writer) (main : Writer) (steps value : ℕ) (fresh last : Hart) (old new : Outside) (mid : SinkState) →
+    CanPlace funs → main_writer funs ≡ Some main → 1 ≤ steps → IsFresh steps fresh → old.memory.mem ≡ image funs →
+    RunsTo ((steps + 1) * all_words funs) (execution fresh old) (execution last (record new { out = mid })) (ends.Exit value) →
+    new.out ≡ flushed_all mid → EndsAsMeant funs old new value
 ended_as_meant funs main steps value fresh last old new mid placed has bound is_fresh is r flushed =
     let m = meant funs main steps (execution fresh old) r.input placed has bound is_fresh is in
     let l = r.leaves in
@@ -71,7 +77,10 @@ ended_as_meant funs main steps value fresh last old new mid placed has bound is_
     value_same e = cc
 
 -- the output failed at a byte
-broke_off_at : (funs : List Writer) (main : Writer) (steps : ℕ) (fresh last : Hart) (old new : Outside) → CanPlace funs → main_writer funs ≡ Some main → 1 ≤ steps → IsFresh steps fresh → old.memory.mem ≡ image funs → RunsUpTo ((steps + 1) * all_words funs) FailsToWrite (execution fresh old) (execution last new) → BreaksOffAsMeant funs old new
+broke_off_at : (funs : List Writer) (main : Writer) (steps : ℕ) (fresh last : Hart) (old new : Outside) → CanPlace funs →
+    main_writer funs ≡ Some main → 1 ≤ steps → IsFresh steps fresh → old.memory.mem ≡ image funs →
+    RunsUpTo ((steps + 1) * all_words funs) FailsToWrite (execution fresh old) (execution last new) →
+    BreaksOffAsMeant funs old new
 broke_off_at funs main steps fresh last old new placed has bound is_fresh is r =
     let b = r.before in
     let m = meant funs main steps (execution fresh old) b.input placed has bound is_fresh is in
@@ -93,7 +102,10 @@ broke_off_at funs main steps fresh last old new placed has bound is_fresh is r =
     }
 
 -- the input failed at a byte
-stopped_at : (funs : List Writer) (main : Writer) (steps : ℕ) (fresh last : Hart) (old new : Outside) → CanPlace funs → main_writer funs ≡ Some main → 1 ≤ steps → IsFresh steps fresh → old.memory.mem ≡ image funs → RunsUpTo ((steps + 1) * all_words funs) FailsToRead (execution fresh old) (execution last new) → StopsAsMeant funs old new
+stopped_at : (funs : List Writer) (main : Writer) (steps : ℕ) (fresh last : Hart) (old new : Outside) → CanPlace funs →
+    main_writer funs ≡ Some main → 1 ≤ steps → IsFresh steps fresh → old.memory.mem ≡ image funs →
+    RunsUpTo ((steps + 1) * all_words funs) FailsToRead (execution fresh old) (execution last new) →
+    StopsAsMeant funs old new
 stopped_at funs main steps fresh last old new placed has bound is_fresh is r =
     let b = r.before in
     let m = meant funs main steps (execution fresh old) b.input placed has bound is_fresh is in
@@ -115,7 +127,10 @@ stopped_at funs main steps fresh last old new placed has bound is_fresh is r =
     }
 
 -- the output failed at the flush after the last byte
-broke_off_at_flush : (funs : List Writer) (main : Writer) (steps value : ℕ) (fresh last : Hart) (old new : Outside) (mid : SinkState) → CanPlace funs → main_writer funs ≡ Some main → 1 ≤ steps → IsFresh steps fresh → old.memory.mem ≡ image funs → RunsTo ((steps + 1) * all_words funs) (execution fresh old) (execution last (record new { out = mid })) (ends.Exit value) → SinkFails mid new.out → BreaksOffAsMeant funs old new
+broke_off_at_flush : (funs : List Writer) (main : Writer) (steps value : ℕ) (fresh last : Hart) (old new : Outside) (mid : SinkState) →
+    CanPlace funs → main_writer funs ≡ Some main → 1 ≤ steps → IsFresh steps fresh → old.memory.mem ≡ image funs →
+    RunsTo ((steps + 1) * all_words funs) (execution fresh old) (execution last (record new { out = mid })) (ends.Exit value) →
+    SinkFails mid new.out → BreaksOffAsMeant funs old new
 broke_off_at_flush funs main steps value fresh last old new mid placed has bound is_fresh is r fails =
     let m = meant funs main steps (execution fresh old) r.input placed has bound is_fresh is in
     let l = r.leaves in
@@ -132,7 +147,8 @@ broke_off_at_flush funs main steps value fresh last old new mid placed has bound
     }
 
 -- each end of a run has to do with the source what it should
-pub is_meant : (funs : List Writer) (steps : ℕ) (old new : Outside) (ended : Ended) → CanPlace funs → HasMain funs → 1 ≤ steps → old.memory.mem ≡ image funs → Executes funs steps old new ended → IsMeant funs old new ended
+pub is_meant : (funs : List Writer) (steps : ℕ) (old new : Outside) (ended : Ended) → CanPlace funs → HasMain funs →
+    1 ≤ steps → old.memory.mem ≡ image funs → Executes funs steps old new ended → IsMeant funs old new ended
 is_meant funs steps old new (Exit value) placed has bound is f =
     let r = f.runs in
     subst (λ v. EndsAsMeant funs old new v) (sym f.flushes.0)
@@ -147,23 +163,35 @@ abbrev pub outside_of : StoreState → SinkState → ExecutionState → Outside
 outside_of store messages m = outside store m.input m.out messages m.memory
 
 -- no other end of the machine's run than the exit with the value of `main`
-pub only_exit : (funs : List Writer) (steps n : ℕ) (old new : ExecutionState) (end : End) → CanPlace funs → (has : HasMain funs) → 1 ≤ steps → IsFresh steps old.hart → old.memory.mem ≡ image funs → n ≡ (steps + 1) * all_words funs → RunsTo n old new end → end ≡ ends.Exit (value_of has.main)
+pub only_exit : (funs : List Writer) (steps n : ℕ) (old new : ExecutionState) (end : End) → CanPlace funs →
+    (has : HasMain funs) → 1 ≤ steps → IsFresh steps old.hart → old.memory.mem ≡ image funs →
+    n ≡ (steps + 1) * all_words funs → RunsTo n old new end → end ≡ ends.Exit (value_of has.main)
 only_exit funs steps n old new end placed has bound is_fresh is limit r =
     ends_with_main funs has.main steps old new end placed has.is bound is_fresh is (subst (λ k. RunsTo k old new end) limit r)
 
 -- a run that ended with a value, and the flush after it, are as meant
-pub meant_at_exit : (funs : List Writer) (steps n value : ℕ) (old mid : ExecutionState) (out : SinkState) (ended : Ended) (store : StoreState) (messages : SinkState) → CanPlace funs → HasMain funs → 1 ≤ steps → IsFresh steps old.hart → old.memory.mem ≡ image funs → n ≡ (steps + 1) * all_words funs → RunsTo n old mid (ends.Exit value) → Flushes value mid.out out ended → IsMeant funs (outside_of store messages old) (outside store mid.input out messages mid.memory) ended
+pub meant_at_exit : (funs : List Writer) (steps n value : ℕ) (old mid : ExecutionState) (out : SinkState) (ended : Ended)
+    (store : StoreState) (messages : SinkState) →
+    CanPlace funs → HasMain funs → 1 ≤ steps → IsFresh steps old.hart → old.memory.mem ≡ image funs →
+    n ≡ (steps + 1) * all_words funs → RunsTo n old mid (ends.Exit value) → Flushes value mid.out out ended →
+    IsMeant funs (outside_of store messages old) (outside store mid.input out messages mid.memory) ended
 meant_at_exit funs steps n value old mid out ended store messages placed has bound is_fresh is limit r flushes =
     is_meant funs steps (outside_of store messages old) _ ended placed has bound is
     (finishes funs steps value old.hart mid.hart (outside_of store messages old) (outside store mid.input out messages mid.memory) mid.out ended is_fresh
     (subst (λ k. RunsTo k old mid (ends.Exit value)) limit r) refl refl flushes)
 
 -- so is a run whose output failed at a byte
-pub meant_at_fault : (funs : List Writer) (steps n : ℕ) (old new : ExecutionState) (store : StoreState) (messages : SinkState) → CanPlace funs → (has : HasMain funs) → 1 ≤ steps → IsFresh steps old.hart → old.memory.mem ≡ image funs → n ≡ (steps + 1) * all_words funs → RunsUpTo n FailsToWrite old new → BreaksOffAsMeant funs (outside_of store messages old) (outside_of store messages new)
+pub meant_at_fault : (funs : List Writer) (steps n : ℕ) (old new : ExecutionState) (store : StoreState) (messages : SinkState) →
+    CanPlace funs → (has : HasMain funs) → 1 ≤ steps → IsFresh steps old.hart → old.memory.mem ≡ image funs →
+    n ≡ (steps + 1) * all_words funs → RunsUpTo n FailsToWrite old new →
+    BreaksOffAsMeant funs (outside_of store messages old) (outside_of store messages new)
 meant_at_fault funs steps n old new store messages placed has bound is_fresh is limit r =
     broke_off_at funs has.main steps old.hart new.hart (outside_of store messages old) (outside_of store messages new) placed has.is bound is_fresh is (subst (λ k. RunsUpTo k FailsToWrite old new) limit r)
 
 -- and a run whose input failed
-pub meant_at_read_fault : (funs : List Writer) (steps n : ℕ) (old new : ExecutionState) (store : StoreState) (messages : SinkState) → CanPlace funs → (has : HasMain funs) → 1 ≤ steps → IsFresh steps old.hart → old.memory.mem ≡ image funs → n ≡ (steps + 1) * all_words funs → RunsUpTo n FailsToRead old new → StopsAsMeant funs (outside_of store messages old) (outside_of store messages new)
+pub meant_at_read_fault : (funs : List Writer) (steps n : ℕ) (old new : ExecutionState) (store : StoreState) (messages : SinkState) →
+    CanPlace funs → (has : HasMain funs) → 1 ≤ steps → IsFresh steps old.hart → old.memory.mem ≡ image funs →
+    n ≡ (steps + 1) * all_words funs → RunsUpTo n FailsToRead old new →
+    StopsAsMeant funs (outside_of store messages old) (outside_of store messages new)
 meant_at_read_fault funs steps n old new store messages placed has bound is_fresh is limit r =
     stopped_at funs has.main steps old.hart new.hart (outside_of store messages old) (outside_of store messages new) placed has.is bound is_fresh is (subst (λ k. RunsUpTo k FailsToRead old new) limit r)

@@ -15,7 +15,8 @@ use Rattle.pw_first_agree.specs.Image.{text_start, data_start, stack_start, stac
 use Rattle.pw_build.specs.Built.{regions_of, memory_of, rounded}
 
 -- what a put that is not refused leaves
-wrote_ok : (r : Result Mem Access) (old new : MemoryState) (after : Mem) (result : Result (Unit {0}) Access) → Writes r old new result → r ≡ Ok after → new ≡ with_mem old after
+wrote_ok : (r : Result Mem Access) (old new : MemoryState) (after : Mem) (result : Result (Unit {0}) Access) →
+    Writes r old new result → r ≡ Ok after → new ≡ with_mem old after
 wrote_ok r old new after result writes is = ok result (subst (λ q. Writes q old new result) is writes) where
   ok : (result : Result (Unit {0}) Access) → Writes (Ok after) old new result → new ≡ with_mem old after
   ok (Ok _) h = h
@@ -29,7 +30,8 @@ with_bytes_at_start : (r : MappedRegion) (new : List ℕ) → with_bytes r r.sta
 with_bytes_at_start r new = let z : r.start - r.start ≡ 0 = omega arith in rw (z, zero-add (length new)) refl
 
 -- bytes put at the start of the first region
-pub put_first : (r : MappedRegion) (rs : List MappedRegion) (new : List ℕ) → 0 < length new → length new ≤ length r.bytes → put (record { regions = r ∷ rs; sealed = false }) r.start new ≡ Ok (record { regions = starting r new ∷ rs; sealed = false })
+pub put_first : (r : MappedRegion) (rs : List MappedRegion) (new : List ℕ) → 0 < length new → length new ≤ length r.bytes →
+    put (record { regions = r ∷ rs; sealed = false }) r.start new ≡ Ok (record { regions = starting r new ∷ rs; sealed = false })
 put_first r rs new some fits =
     let e : (length new == 0) ≡ false = grind (arith, nat_tests) in
     let h : holds r.start (length new) r ≡ true = grind (arith, nat_tests) in
@@ -37,7 +39,9 @@ put_first r rs new some fits =
     rw (e, h) (ap (λ regions. Ok (record { regions = regions; sealed = false })) w)
 
 -- bytes put at the start of the second region, which lies after the first
-pub put_second : (q r : MappedRegion) (rs : List MappedRegion) (new : List ℕ) → 0 < length new → length new ≤ length r.bytes → q.start + length q.bytes ≤ r.start → put (record { regions = q ∷ r ∷ rs; sealed = false }) r.start new ≡ Ok (record { regions = q ∷ starting r new ∷ rs; sealed = false })
+pub put_second : (q r : MappedRegion) (rs : List MappedRegion) (new : List ℕ) → 0 < length new →
+    length new ≤ length r.bytes → q.start + length q.bytes ≤ r.start →
+    put (record { regions = q ∷ r ∷ rs; sealed = false }) r.start new ≡ Ok (record { regions = q ∷ starting r new ∷ rs; sealed = false })
 put_second q r rs new some fits past =
     let e : (length new == 0) ≡ false = grind (arith, nat_tests) in
     let n : holds r.start (length new) q ≡ false = grind (arith, nat_tests) in
@@ -46,7 +50,8 @@ put_second q r rs new some fits past =
     rw (e, n, h) (ap (λ regions. Ok (record { regions = regions; sealed = false })) w)
 
 -- the eight bytes of a number
-pub eight_bytes : (v : ℕ) → v % 256 ∷ v / 256 % 256 ∷ v / 65536 % 256 ∷ v / 16777216 % 256 ∷ v / 4294967296 % 256 ∷ v / 1099511627776 % 256 ∷ v / 281474976710656 % 256 ∷ v / 72057594037927936 % 256 ∷ [] ≡ le_bytes 8 v
+pub eight_bytes : (v : ℕ) →
+    v % 256 ∷ v / 256 % 256 ∷ v / 65536 % 256 ∷ v / 16777216 % 256 ∷ v / 4294967296 % 256 ∷ v / 1099511627776 % 256 ∷ v / 281474976710656 % 256 ∷ v / 72057594037927936 % 256 ∷ [] ≡ le_bytes 8 v
 eight_bytes v =
     let a : v / 65536 ≡ v / 256 / 256 = omega arith in
     let b : v / 16777216 ≡ v / 256 / 256 / 256 = omega arith in
@@ -67,11 +72,13 @@ abbrev pub fresh_stack : MappedRegion
 fresh_stack = stack_region (zeros stack_len)
 
 -- the regions of a text once it and the slot are put
-pub regions_filled : (text : List ℕ) (main : ℕ) → starting (fresh_text text) text ∷ starting fresh_data (le_bytes 8 main) ∷ fresh_stack ∷ [] ≡ (memory_of text main).regions
+pub regions_filled : (text : List ℕ) (main : ℕ) →
+    starting (fresh_text text) text ∷ starting fresh_data (le_bytes 8 main) ∷ fresh_stack ∷ [] ≡ (memory_of text main).regions
 regions_filled text main = rw (drop-zeros (length text) (rounded (length text)), drop-zeros 8 8, zeros_none) refl
 
 -- the memory once the text and the slot are put
-pub filled : (text : List ℕ) (main : ℕ) (s0 s1 s2 : MemoryState) (r1 r2 : Result (Unit {0}) Access) → 0 < length text → length text ≤ 2 ^ 24 → s0.mem ≡ mapped (regions_of (length text))
+pub filled : (text : List ℕ) (main : ℕ) (s0 s1 s2 : MemoryState) (r1 r2 : Result (Unit {0}) Access) → 0 < length text →
+    length text ≤ 2 ^ 24 → s0.mem ≡ mapped (regions_of (length text))
     → Writes (put s0.mem text_start text) s0 s1 r1 → Writes (put s1.mem data_start (le_bytes 8 main)) s1 s2 r2 → with_mem s2 (seal s2.mem) ≡ with_mem s0 (memory_of text main)
 filled text main s0 s1 s2 r1 r2 some fits is first second =
     let n : length (zeros (rounded (length text))) ≡ rounded (length text) = length-zeros (rounded (length text)) in
@@ -109,7 +116,8 @@ length-text_bytes [] = refl
 length-text_bytes (w ∷ ws) = omega (arith, length-text_bytes ws, length-append (le_bytes 4 w) (text_bytes ws))
 
 -- the rights of the three regions
-pub with_rights : (n : ℕ) (a b c : Rights) → a.0 ≡ 5 → b.0 ≡ 3 → c.0 ≡ 3 → record { start = text_start; len = rounded n; rights = a } ∷ record { start = data_start; len = 8; rights = b } ∷ record { start = stack_start; len = stack_len; rights = c } ∷ [] ≡ regions_of n
+pub with_rights : (n : ℕ) (a b c : Rights) → a.0 ≡ 5 → b.0 ≡ 3 → c.0 ≡ 3 →
+    record { start = text_start; len = rounded n; rights = a } ∷ record { start = data_start; len = 8; rights = b } ∷ record { start = stack_start; len = stack_len; rights = c } ∷ [] ≡ regions_of n
 with_rights n a b c e f g =
     let p : a ≡ record { 0 = 5 } = ap (λ k. record { 0 = k }) e in
     let q : b ≡ record { 0 = 3 } = ap (λ k. record { 0 = k }) f in

@@ -10,14 +10,16 @@ use Rattle.pw_mem.specs.Memory.{zeros}
 use Rattle.pw_first_agree.specs.Image.{CanPlace, all_words, function_size, is_kept, main_writer}
 
 -- the words before a function and its own are at most all
-pub words_to : (funs : List Writer) (i : ℕ) (f : Writer) → CanPlace funs → i < length funs → f ≡ get_or funs i f → all_words (take i funs) + function_size f ≤ 2 ^ 22
+pub words_to : (funs : List Writer) (i : ℕ) (f : Writer) → CanPlace funs → i < length funs → f ≡ get_or funs i f →
+    all_words (take i funs) + function_size f ≤ 2 ^ 22
 words_to funs i f placed inside is =
     let P : Writer → Type 0 = λ g. all_words (take i funs) + function_size g ≤ 2 ^ 22 in
     let all : all_words (take i funs) + function_size (get_or funs i f) ≤ 2 ^ 22 = omega (arith, sum_by_more_le function_size funs i f inside, placed.short) in
     subst P (sym is) all
 
 -- the words of one function more
-pub words_more : (funs : List Writer) (i : ℕ) (f : Writer) → i < length funs → f ≡ get_or funs i f → all_words (take (i + 1) funs) ≡ all_words (take i funs) + function_size f
+pub words_more : (funs : List Writer) (i : ℕ) (f : Writer) → i < length funs → f ≡ get_or funs i f →
+    all_words (take (i + 1) funs) ≡ all_words (take i funs) + function_size f
 words_more funs i f inside is =
     let P : Writer → Type 0 = λ g. all_words (take (i + 1) funs) ≡ all_words (take i funs) + function_size g in
     let all : all_words (take (i + 1) funs) ≡ all_words (take i funs) + function_size (get_or funs i f) = omega (arith, sum_by_more function_size funs i f inside) in
@@ -32,7 +34,8 @@ pub record NoneBefore (funs : List Writer) (i : ℕ) : Type 0 where
   pub found : find is_kept funs ≡ find is_kept (drop i funs)
   pub counted : prefix_len (λ f. not (is_kept f)) funs ≡ i + prefix_len (λ f. not (is_kept f)) (drop i funs)
 
-pub none_before_more : (funs : List Writer) (i : ℕ) (f : Writer) → i < length funs → f ≡ get_or funs i f → is_kept f ≡ false → NoneBefore funs i → NoneBefore funs (i + 1)
+pub none_before_more : (funs : List Writer) (i : ℕ) (f : Writer) → i < length funs → f ≡ get_or funs i f →
+    is_kept f ≡ false → NoneBefore funs i → NoneBefore funs (i + 1)
 none_before_more funs i f inside is other before =
     let e : drop i funs ≡ f ∷ drop (i + 1) funs = drop_more funs i f inside ∙ ap (λ g. g ∷ drop (i + 1) funs) (sym is) in
     record {
@@ -40,7 +43,8 @@ none_before_more funs i f inside is other before =
       counted = before.counted ∙ ap (λ rest. i + prefix_len (λ f. not (is_kept f)) rest) e ∙ rw other (omega arith);
     }
 
-pub main_here : (funs : List Writer) (i : ℕ) (f : Writer) → i < length funs → f ≡ get_or funs i f → is_kept f ≡ true → NoneBefore funs i → (main_writer funs ≡ Some f) × (prefix_len (λ f. not (is_kept f)) funs ≡ i)
+pub main_here : (funs : List Writer) (i : ℕ) (f : Writer) → i < length funs → f ≡ get_or funs i f → is_kept f ≡ true →
+    NoneBefore funs i → (main_writer funs ≡ Some f) × (prefix_len (λ f. not (is_kept f)) funs ≡ i)
 main_here funs i f inside is kept before =
     let e : drop i funs ≡ f ∷ drop (i + 1) funs = drop_more funs i f inside ∙ ap (λ g. g ∷ drop (i + 1) funs) (sym is) in (
       before.found ∙ ap (find is_kept) e ∙ rw kept refl,

@@ -20,7 +20,8 @@ first_part P (x ∷ xs) rest all =
     All-cons P x xs (All-head P x (xs ++ rest) all) (first_part P xs rest (All-tail P x (xs ++ rest) all))
 
 -- a run that stops at its limit fetches at its pc next, where a longer run goes on
-next_fetch : (s : MachineState) (k n : ℕ) → k < n → (run k s).end ≡ Limit → (more : List ℕ) × ((run n s).fetched ≡ (run k s).fetched ++ ((run k s).state.pc ∷ more))
+next_fetch : (s : MachineState) (k n : ℕ) → k < n → (run k s).end ≡ Limit →
+    (more : List ℕ) × ((run n s).fetched ≡ (run k s).fetched ++ ((run k s).state.pc ∷ more))
 next_fetch s k n below stops =
     let at : StopsAtLimit k s (run k s) = limit_path k s stops in
     let ps = (run k s).fetched in
@@ -30,7 +31,9 @@ next_fetch s k n below stops =
     (_, ap (λ m. (run m s).fetched) count ∙ ap (λ o. o.fetched) (run_along s t ps (suc j) at.path))
 
 -- so where all that the longer run fetches lies in kept code, so does that
-pub kept_up_to : (funs : List Writer) (s : MachineState) (k n pc : ℕ) → k < n → (run k s).end ≡ Limit → (run k s).state.pc ≡ pc → All (LiesInKeptCode funs) (run n s).fetched → All (LiesInKeptCode funs) ((run k s).fetched ++ pc ∷ [])
+pub kept_up_to : (funs : List Writer) (s : MachineState) (k n pc : ℕ) → k < n → (run k s).end ≡ Limit →
+    (run k s).state.pc ≡ pc → All (LiesInKeptCode funs) (run n s).fetched →
+    All (LiesInKeptCode funs) ((run k s).fetched ++ pc ∷ [])
 kept_up_to funs s k n pc below stops pc_is kept =
     let ps = (run k s).fetched in
     let next = next_fetch s k n below stops in
@@ -39,7 +42,9 @@ kept_up_to funs s k n pc below stops pc_is kept =
     first_part (LiesInKeptCode funs) (ps ++ pc ∷ []) next.0 (subst (All (LiesInKeptCode funs)) whole kept)
 
 -- and that fetch is added to those of the run
-pub fetches_up_to : (funs : List Writer) (fetched : List ℕ) (pc : ℕ) (old mid new : MemoryState) → All (LiesInKeptCode funs) (fetched ++ pc ∷ []) → AddsFetches fetched old mid → AddsFetches (pc ∷ []) mid new → FetchesKeptCode funs old new
+pub fetches_up_to : (funs : List Writer) (fetched : List ℕ) (pc : ℕ) (old mid new : MemoryState) →
+    All (LiesInKeptCode funs) (fetched ++ pc ∷ []) → AddsFetches fetched old mid → AddsFetches (pc ∷ []) mid new →
+    FetchesKeptCode funs old new
 fetches_up_to funs fetched pc old mid new kept before last = record {
   fetched = fetched ++ pc ∷ [];
   kept = kept;

@@ -39,7 +39,8 @@ pub length-text : (funs : List Writer) → length (text_bytes (text_words funs))
 length-text funs = length-text_bytes (text_words funs) ∙ ap (λ n. 4 * n) (length-text_words funs)
 
 -- a text is never empty, and it is short where the functions can be placed
-pub text_fits : (funs : List Writer) (text : List ℕ) → CanPlace funs → text ≡ text_bytes (text_words funs) → (0 < length text) × (length text ≤ 2 ^ 24)
+pub text_fits : (funs : List Writer) (text : List ℕ) → CanPlace funs → text ≡ text_bytes (text_words funs) →
+    (0 < length text) × (length text ≤ 2 ^ 24)
 text_fits funs text placed is =
     let n : length text ≡ 4 * all_words funs = ap length is ∙ length-text funs in
     (omega (arith, n), omega (arith, n, placed.short))
@@ -55,7 +56,9 @@ memory_is_image funs =
     }) (length-text funs)
 
 -- the parts of the functions, where they are placed, are the image
-pub image_from_parts : (funs : List Writer) (main : Writer) (text : List ℕ) (at : ℕ) (old new : MemoryState) (r : Result (Unit {0}) ImageError) → main_writer funs ≡ Some main → at ≡ main_address funs → text ≡ text_bytes (text_words funs) → Places text at old new r → LeavesImage funs old new r
+pub image_from_parts : (funs : List Writer) (main : Writer) (text : List ℕ) (at : ℕ) (old new : MemoryState) (r : Result (Unit {0}) ImageError) →
+    main_writer funs ≡ Some main → at ≡ main_address funs → text ≡ text_bytes (text_words funs) →
+    Places text at old new r → LeavesImage funs old new r
 image_from_parts funs main text at old new (Ok _) has at_is text_is h = record {
   main = main;
   has_main = has;

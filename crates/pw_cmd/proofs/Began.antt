@@ -25,7 +25,8 @@ exited value ReadFault e = absurd (cc e)
 exited value WriteFault e = absurd (cc e)
 
 -- `one` gave a value
-ran_one : (words : List (List ℕ)) (file : List ℕ) (old new : Outside) (value : ℕ) → AsksForOne words file → one file old new (Ok (outcomes.Ended value)) → Ran words old new value
+ran_one : (words : List (List ℕ)) (file : List ℕ) (old new : Outside) (value : ℕ) → AsksForOne words file →
+    one file old new (Ok (outcomes.Ended value)) → Ran words old new value
 ran_one words file old new value asks done =
     let r = then_gave done in
     let read = call_gave r.2 in

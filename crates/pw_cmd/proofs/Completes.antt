@@ -96,7 +96,8 @@ module _ (main : Writer) (answer : Answer) where
     by_end ReadFault m is = read_failed is
     by_end WriteFault m is = write_failed is
 
-  done_fill : (funs : List Writer) (old new : Outside) → main_writer funs ≡ Some main → Then (fills funs) (λ _. runs_image funs) old new answer → Done main answer
+  done_fill : (funs : List Writer) (old new : Outside) → main_writer funs ≡ Some main →
+      Then (fills funs) (λ _. runs_image funs) old new answer → Done main answer
   done_fill funs old new has (went_on value mid s t) = done_run funs mid new has t
   done_fill funs old new has (stopped why s is) = let f = call_failed s in by_error f.0 f.1 (is ∙ ap Err f.2) where
     by_error : (error : _) → Fills funs old new (Err error) → answer ≡ Err (stop_of_image error) → Done main answer
@@ -127,7 +128,9 @@ module _ (words : List (List ℕ)) (files : Option Files) (funs : List Writer) (
     by_error fronts.NoMemory s is = no_memory is
 
 -- the file
-done_one : (words : List (List ℕ)) (funs : List Writer) (main : Writer) (answer : Answer) (old new : Outside) (p : AsksForProgram words old.store.files funs) → main_writer funs ≡ Some main → one p.file old new answer → Done main answer
+done_one : (words : List (List ℕ)) (funs : List Writer) (main : Writer) (answer : Answer) (old new : Outside)
+    (p : AsksForProgram words old.store.files funs) →
+    main_writer funs ≡ Some main → one p.file old new answer → Done main answer
 done_one words funs main answer old new p has (went_on text mid s t) =
     done_compile words old.store.files funs p main has answer text.items mid new (reported_text words old.store.files funs p text.items (call_gave s).0.2) t
 done_one words funs main answer old new p has (stopped why s is) = let f = call_failed s in by_error f.0 f.1 (is ∙ ap Err f.2) where
@@ -137,7 +140,9 @@ done_one words funs main answer old new p has (stopped why s is) = let f = call_
   by_error stores.NoMemory s is = no_memory is
 
 -- the words
-done_words : (words : List (List ℕ)) (funs : List Writer) (main : Writer) (answer : Answer) (old new : Outside) → AsksForProgram words old.store.files funs → main_writer funs ≡ Some main → performs words old new answer → Done main answer
+done_words : (words : List (List ℕ)) (funs : List Writer) (main : Writer) (answer : Answer) (old new : Outside) →
+    AsksForProgram words old.store.files funs → main_writer funs ≡ Some main → performs words old new answer →
+    Done main answer
 done_words words funs main answer old new p has (went_on file mid s t) =
     let judged = call_gave s in
     done_one words funs main answer old new p has
@@ -170,6 +175,7 @@ completes words old new status a funs main p has low none = by_report a.reported
   by_done status_is (write_failed is) =
       absurd (rises_not_same old.out.faults new.out.faults (subst (λ answer. FailuresStop old (unreported old new) (stop_in answer)) is law) none.out low.out)
 
-  by_report : Reports (message_line words a.answer) (status_of a.answer) old.messages new.messages status → (status ≡ status_of_value (value_of main)) ⊎ (status ≡ 8)
+  by_report : Reports (message_line words a.answer) (status_of a.answer) old.messages new.messages status →
+      (status ≡ status_of_value (value_of main)) ⊎ (status ≡ 8)
   by_report (inr broke) = absurd (rises_not_same old.messages.faults new.messages.faults broke.1.fails.faults none.messages low.messages)
   by_report (inl said) = by_done said.0 (done_words words funs main a.answer old (unreported old new) p has a.performed)

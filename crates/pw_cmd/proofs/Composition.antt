@@ -159,7 +159,8 @@ second_stops first second old mid new a m = record {
   calls = calls_after first m.made old mid new a m.calls;
 }
 
-both_call : (first second : List Asked) (old mid new : Outside) (stop : Option Stop) → MakesCalls first old mid None → MakesCalls second mid new stop → MakesCalls (first ++ second) old new stop
+both_call : (first second : List Asked) (old mid new : Outside) (stop : Option Stop) → MakesCalls first old mid None →
+    MakesCalls second mid new stop → MakesCalls (first ++ second) old new stop
 both_call first second old mid new None a b = calls_after first second old.store mid.store new.store a b
 both_call first second old mid new (Some why) a b = second_stops first second old.store mid.store new.store a b
 

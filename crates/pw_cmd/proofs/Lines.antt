@@ -7,6 +7,7 @@ use Rattle.pw_cmd.proofs.Texts.{broken_at}
 use Rattle.pw_cmd.specs.Message.{PutsLine}
 
 -- the flush after a line that was put
-pub line_ends : (line : List ℕ) (old mid new : SinkState) (result : Result (Unit {0}) Failed) → mid ≡ wrote line old → OnOk result (new ≡ flushed_all mid) → OnErr result (SinkFails mid new) → PutsLine line old new result
+pub line_ends : (line : List ℕ) (old mid new : SinkState) (result : Result (Unit {0}) Failed) → mid ≡ wrote line old →
+    OnOk result (new ≡ flushed_all mid) → OnErr result (SinkFails mid new) → PutsLine line old new result
 line_ends line old mid new (Ok _) put flush fails = flush ∙ ap flushed_all put
 line_ends line old mid new (Err _) put flush fails = broken_at line line [] old mid new (sym (append-nil line)) put fails

@@ -36,13 +36,18 @@ module _ (law : Law) (still : (old new : Outside) → new ≡ old → law old ne
 
 -- ---- the laws
 
-pub each_failures : {A B : Type 0} (stage : ℕ → A → Stage B) → ((number : ℕ) (item : A) → Obeys FailuresStop (stage number item)) → (number : ℕ) (items : List A) → Obeys FailuresStop (each stage number items)
+pub each_failures : {A B : Type 0} (stage : ℕ → A → Stage B) →
+    ((number : ℕ) (item : A) → Obeys FailuresStop (stage number item)) → (number : ℕ) (items : List A) →
+    Obeys FailuresStop (each stage number items)
 each_failures stage obeys = obeys_each FailuresStop none_failed none_failed stage failures_go_on obeys
 
-pub when_failures : {A : Type 0} (stage : A → Stage (Unit {0})) → ((item : A) → Obeys FailuresStop (stage item)) → (item : Option A) → Obeys FailuresStop (when item stage)
+pub when_failures : {A : Type 0} (stage : A → Stage (Unit {0})) → ((item : A) → Obeys FailuresStop (stage item)) →
+    (item : Option A) → Obeys FailuresStop (when item stage)
 when_failures stage obeys = obeys_when FailuresStop none_failed none_failed stage obeys
 
-pub each_looks : {A B : Type 0} (stage : ℕ → A → Stage B) → ((number : ℕ) (item : A) → Obeys OnlyLooks (stage number item)) → (number : ℕ) (items : List A) → Obeys OnlyLooks (each stage number items)
+pub each_looks : {A B : Type 0} (stage : ℕ → A → Stage B) →
+    ((number : ℕ) (item : A) → Obeys OnlyLooks (stage number item)) → (number : ℕ) (items : List A) →
+    Obeys OnlyLooks (each stage number items)
 each_looks stage obeys = obeys_each OnlyLooks leaves_all leaves_all stage (λ old mid new stop a b. leaves_both old mid new a b) obeys
 
 quiet : (old new : Outside) → new ≡ old → MakesCalls [] old new None
@@ -51,7 +56,8 @@ quiet old new same = no_calls old.store new.store (ap (λ o. o.store.calls) same
 quiet_stop : (old new : Outside) → new ≡ old → MakesCalls [] old new (Some NoMemory)
 quiet_stop old new same = makes_none [] old.store new.store (ap (λ o. o.store.calls) same)
 
-pub each_calls : {A B : Type 0} (stage : ℕ → A → Stage B) (order : A → List Asked) → ((number : ℕ) (item : A) → Obeys (MakesCalls (order item)) (stage number item))
+pub each_calls : {A B : Type 0} (stage : ℕ → A → Stage B) (order : A → List Asked) →
+    ((number : ℕ) (item : A) → Obeys (MakesCalls (order item)) (stage number item))
     → (number : ℕ) (items : List A) → Obeys (MakesCalls (calls_of_each order items)) (each stage number items)
 each_calls stage order obeys number [] = obeys_gives (MakesCalls []) quiet quiet_stop []
 each_calls stage order obeys number (item ∷ items) =

@@ -6,7 +6,8 @@ use Rattle.pw_cmd.specs.Answers.{Answers}
 use Rattle.pw_cmd.specs.Shows.{Means}
 use Rattle.pw_cmd.specs.Program.{words_end, Ends}
 
-pub answered : (arguments words : List (List ℕ)) (old new : Outside) (status : ℕ) → words ≡ arguments → AreWords words_end arguments → Answers words old new status → Means words old new status → Ends arguments old new status
+pub answered : (arguments words : List (List ℕ)) (old new : Outside) (status : ℕ) → words ≡ arguments →
+    AreWords words_end arguments → Answers words old new status → Means words old new status → Ends arguments old new status
 answered arguments words old new status same are answers means =
     let A : List (List ℕ) → Type 0 = λ ws. Answers ws old new status in
     let M : List (List ℕ) → Type 0 = λ ws. Means ws old new status in

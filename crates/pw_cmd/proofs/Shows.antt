@@ -52,7 +52,8 @@ not_a_value status value k is same big = omega (arith, is, same, big, value_stat
 -- ---- the meaning
 
 -- the project of one unit of the first form means what its `main` writes and returns
-source_means : (unit : TypedUnit) (funs : List Writer) (main : Writer) (value : ℕ) → IsFirstForm unit funs → main_writer funs ≡ Some main → value ≡ value_of main
+source_means : (unit : TypedUnit) (funs : List Writer) (main : Writer) (value : ℕ) → IsFirstForm unit funs →
+    main_writer funs ≡ Some main → value ≡ value_of main
     → (input : List ℕ) → meaning ((unit ∷ []) ∷ []) input default_steps ≡ record { output = output_of main; rest = input; end = exit value }
 source_means unit funs main value form is_main value_is input =
     means_its_main unit funs main input default_steps form is_main (lit≤ tt)
@@ -96,7 +97,9 @@ shown words old new status value done status_is line =
 -- a status 0 or 1 is that of an answer with a value
 pub means : (words : List (List ℕ)) (old new : Outside) (status : ℕ) → Answers words old new status → Means words old new status
 means words old new status a = by_answer a.answer a.performed a.reported where
-  by_answer : (answer : Answer) → performs words old (unreported old new) answer → Reports (message_line words answer) (status_of answer) old.messages new.messages status → (status ≡ 0) ⊎ (status ≡ 1) → ShowsMeaning words old new status
+  by_answer : (answer : Answer) → performs words old (unreported old new) answer →
+      Reports (message_line words answer) (status_of answer) old.messages new.messages status →
+      (status ≡ 0) ⊎ (status ≡ 1) → ShowsMeaning words old new status
   by_answer answer done (inr broke) which = absurd (not_small status 7 broke.0 (lit≤ tt) which)
   by_answer (Ok (outcomes.Ended value)) done (inl said) which = shown words old new status value done said.0 said.1
   by_answer (Err Usage) done (inl said) which = absurd (not_small status 2 said.0 (lit≤ tt) which)
@@ -117,7 +120,9 @@ reads_a_file words old new (stopped why s is) = let f = call_failed s in absurd 
 reads_a_file words old new (went_on file mid s t) = (file, (call_gave s).0)
 
 -- a status 6 is that of a failed read
-read_only : (words : List (List ℕ)) (old new : Outside) (status : ℕ) (answer : Answer) → performs words old (unreported old new) answer → FailuresStop old (unreported old new) (stop_in answer) → Reports (message_line words answer) (status_of answer) old.messages new.messages status
+read_only : (words : List (List ℕ)) (old new : Outside) (status : ℕ) (answer : Answer) →
+    performs words old (unreported old new) answer → FailuresStop old (unreported old new) (stop_in answer) →
+    Reports (message_line words answer) (status_of answer) old.messages new.messages status
     → status ≡ 6 → (file : List ℕ) × AsksForOne words file × (Rises old.store.faults new.store.faults ⊎ Rises old.input.faults new.input.faults)
 read_only words old new status answer done law (inr broke) six = absurd (omega (arith, broke.0, six))
 read_only words old new status (Ok (outcomes.Ended value)) done law (inl said) six = absurd (not_a_value status value 6 said.0 six (lit≤ tt))
@@ -128,7 +133,9 @@ read_only words old new status (Err WriteFailed) done law (inl said) six = absur
 read_only words old new status (Err NoMemory) done law (inl said) six = absurd (omega (arith, said.0, six))
 
 -- a status 7 is that of a failed write
-write_only : (words : List (List ℕ)) (old new : Outside) (status : ℕ) (answer : Answer) → FailuresStop old (unreported old new) (stop_in answer) → Reports (message_line words answer) (status_of answer) old.messages new.messages status
+write_only : (words : List (List ℕ)) (old new : Outside) (status : ℕ) (answer : Answer) →
+    FailuresStop old (unreported old new) (stop_in answer) →
+    Reports (message_line words answer) (status_of answer) old.messages new.messages status
     → status ≡ 7 → Rises old.out.faults new.out.faults ⊎ Rises old.messages.faults new.messages.faults
 write_only words old new status answer law (inr broke) seven = inr broke.1.fails.faults
 write_only words old new status (Ok (outcomes.Ended value)) law (inl said) seven = absurd (not_a_value status value 7 said.0 seven (lit≤ tt))
@@ -143,7 +150,9 @@ none_with : (old new : Outside) → NoneFailed old (unreported old new) → new.
 none_with old new none messages = record { store = none.store; input = none.input; out = none.out; messages = messages }
 
 -- with another status no call failed
-none_else : (words : List (List ℕ)) (old new : Outside) (status : ℕ) (answer : Answer) → FailuresStop old (unreported old new) (stop_in answer) → Reports (message_line words answer) (status_of answer) old.messages new.messages status
+none_else : (words : List (List ℕ)) (old new : Outside) (status : ℕ) (answer : Answer) →
+    FailuresStop old (unreported old new) (stop_in answer) →
+    Reports (message_line words answer) (status_of answer) old.messages new.messages status
     → status ≢ 6 → status ≢ 7 → NoneFailed old new
 none_else words old new status answer law (inr broke) six seven = absurd (seven broke.0)
 none_else words old new status (Ok (outcomes.Ended value)) law (inl said) six seven = none_with old new law (ap (λ m. m.faults) said.1)
@@ -179,7 +188,9 @@ left_all old new left = record { files = left.files; input = left.input; out = l
 
 pub refused : (words : List (List ℕ)) (old new : Outside) (status : ℕ) → Answers words old new status → LeavesRefused old new status
 refused words old new status a = by_answer a.answer (words_cleanly words old (unreported old new) a.answer a.performed) a.reported where
-  by_answer : (answer : Answer) → RefusesCleanly old (unreported old new) (stop_in answer) → Reports (message_line words answer) (status_of answer) old.messages new.messages status → (status ≡ 2) ⊎ ((status ≡ 3) ⊎ (status ≡ 8)) → LeavesAll old new
+  by_answer : (answer : Answer) → RefusesCleanly old (unreported old new) (stop_in answer) →
+      Reports (message_line words answer) (status_of answer) old.messages new.messages status →
+      (status ≡ 2) ⊎ ((status ≡ 3) ⊎ (status ≡ 8)) → LeavesAll old new
   by_answer answer law (inr broke) which = absurd (not_refused status 7 broke.0 (inr (lit≤ tt, lit≤ tt)) which)
   by_answer (Ok (outcomes.Ended value)) law (inl said) which = absurd (not_refused status _ said.0 (inl (value_status_small value)) which)
   by_answer (Err Usage) law (inl said) which = left_all old new law

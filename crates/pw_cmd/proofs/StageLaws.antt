@@ -156,7 +156,8 @@ fills_calls funs =
 -- ---- the run
 
 -- a run leaves the files and the messages as they are
-run_leaves : (funs : List Writer) (old new : Outside) (ended : Ended) → Executes funs default_steps old new ended → (new.store ≡ old.store) × (new.messages ≡ old.messages)
+run_leaves : (funs : List Writer) (old new : Outside) (ended : Ended) → Executes funs default_steps old new ended →
+    (new.store ≡ old.store) × (new.messages ≡ old.messages)
 run_leaves funs old new (Exit value) e = (e.runs.files, e.runs.messages)
 run_leaves funs old new ReadFault e = (e.files, e.messages)
 run_leaves funs old new WriteFault (inl e) = (e.files, e.messages)
@@ -169,7 +170,8 @@ pub runs_failures : (funs : List Writer) → Obeys FailuresStop (runs_image funs
 runs_failures funs old new result r =
     subst (λ answer. FailuresStop old new (stop_in answer)) (sym r.result_is) (by_end r.ended (run_leaves funs old new r.ended r.executes) r.meant)
   where
-    by_end : (ended : Ended) → (new.store ≡ old.store) × (new.messages ≡ old.messages) → IsMeant funs old new ended → FailuresStop old new (stop_in (outcome_of ended))
+    by_end : (ended : Ended) → (new.store ≡ old.store) × (new.messages ≡ old.messages) → IsMeant funs old new ended →
+        FailuresStop old new (stop_in (outcome_of ended))
     by_end (Exit value) left m = record {
       store = ap (λ s. s.faults) left.0;
       input = ap (λ s. s.faults) m.input;

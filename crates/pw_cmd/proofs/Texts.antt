@@ -6,12 +6,14 @@ use Rattle.pw_cmd.specs.Says.{BreaksOff, PutsAll}
 use Rattle.pw_io.proofs.Sinks.{wrote_wrote}
 
 -- a call that fails once a prefix was put
-pub broken_at : (bytes first more : List ℕ) (old mid new : SinkState) → bytes ≡ first ++ more → mid ≡ wrote first old → SinkFails mid new → BreaksOff bytes old new
+pub broken_at : (bytes first more : List ℕ) (old mid new : SinkState) → bytes ≡ first ++ more → mid ≡ wrote first old →
+    SinkFails mid new → BreaksOff bytes old new
 broken_at bytes first more old mid new whole put fails =
     record { put = first; more = more; whole = whole; fails = subst (λ s. SinkFails s new) put fails }
 
 -- a part that breaks off once a prefix was put
-pub broken_in : (bytes first part more : List ℕ) (old mid new : SinkState) → bytes ≡ first ++ (part ++ more) → mid ≡ wrote first old → BreaksOff part mid new → BreaksOff bytes old new
+pub broken_in : (bytes first part more : List ℕ) (old mid new : SinkState) → bytes ≡ first ++ (part ++ more) →
+    mid ≡ wrote first old → BreaksOff part mid new → BreaksOff bytes old new
 broken_in bytes first part more old mid new whole put broken =
     record {
       put = first ++ broken.put;
@@ -34,6 +36,7 @@ pub put_more : (first part : List ℕ) (old mid new : SinkState) → mid ≡ wro
 put_more first part old mid new before after = after ∙ ap (wrote part) before ∙ wrote_wrote first part old
 
 -- the rest after a prefix
-pub puts_rest : (bytes first rest : List ℕ) (old mid new : SinkState) (result : Result (Unit {0}) Failed) → bytes ≡ first ++ rest → mid ≡ wrote first old → PutsAll rest mid new result → PutsAll bytes old new result
+pub puts_rest : (bytes first rest : List ℕ) (old mid new : SinkState) (result : Result (Unit {0}) Failed) →
+    bytes ≡ first ++ rest → mid ≡ wrote first old → PutsAll rest mid new result → PutsAll bytes old new result
 puts_rest bytes first rest old mid new (Ok _) whole put puts = put_more first rest old mid new put puts ∙ ap (λ b. wrote b old) (sym whole)
 puts_rest bytes first rest old mid new (Err _) whole put puts = broken_in bytes first rest [] old mid new (whole ∙ ap (λ p. first ++ p) (sym (append-nil rest))) put puts

@@ -25,7 +25,8 @@ abbrev pub ◌>>◌ : {A B : Type 0} → Stage A → Stage B → Stage B
 
 -- A call of the layer below as a stage. It answers and leaves what its contract says: a value, or an error, which stops the
 -- command for the reason that is given.
-pub data CallsBelow {A E : Type 0} (says : Outside → Outside → Result A E → Type 0) (reason : E → Stop) (old new : Outside) (result : Result A Stop) : Type 0 where
+pub data CallsBelow {A E : Type 0} (says : Outside → Outside → Result A E → Type 0) (reason : E → Stop)
+    (old new : Outside) (result : Result A Stop) : Type 0 where
   gave : (value : A) → says old new (Ok value) → result ≡ Ok value → CallsBelow says reason old new result
   failed : (error : E) → says old new (Err error) → result ≡ Err (reason error) → CallsBelow says reason old new result
 

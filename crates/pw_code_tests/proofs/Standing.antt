@@ -43,7 +43,8 @@ first_stands unit f e ss h is =
       held_have_slots = omega (arith, h.held, ap held_by_all is);
     }
 
-first_function : (P : Function → Type 0) (funs : List TFun) (f : TFun) → slice_get funs 0 ≡ Some f → AllByRecursion P (map typed_function_of funs) → P (typed_function_of f)
+first_function : (P : Function → Type 0) (funs : List TFun) (f : TFun) → slice_get funs 0 ≡ Some f →
+    AllByRecursion P (map typed_function_of funs) → P (typed_function_of f)
 first_function P [] f e all = absurd cc
 first_function P (g ∷ funs) f e all = let same : g ≡ f = cc in subst (λ x. P (typed_function_of x)) same all.0
 

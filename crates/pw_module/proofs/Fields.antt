@@ -16,7 +16,8 @@ number_or_ok total rest None x e = absurd cc
 number_or_ok total rest (Some n) x e =
     let same = ok_is (n, drop 4 rest) x e in (ap (λ (y : ℕ × List ℕ). Some y.0) same, ap (λ (y : ℕ × List ℕ). y.1) same)
 
-pub number_takes : (total : ℕ) (rest : List ℕ) (x : ℕ × List ℕ) → AreBytes rest → number_at total rest ≡ Ok x → Takes rest (number_bytes x.0) x.1 × (x.0 < 2 ^ 32)
+pub number_takes : (total : ℕ) (rest : List ℕ) (x : ℕ × List ℕ) → AreBytes rest → number_at total rest ≡ Ok x →
+    Takes rest (number_bytes x.0) x.1 × (x.0 < 2 ^ 32)
 unfolding number_at
 number_takes total rest x fits e =
     let o = number_or_ok total rest (first_field 4 rest) x e in
@@ -27,7 +28,8 @@ pub number_again : (total n : ℕ) (rest : List ℕ) → n < 2 ^ 32 → number_a
 unfolding number_at
 number_again total n rest small = rw (written_field_is_read 4 n rest small, drop_at (field 4 n) rest 4 (length-field 4 n)) refl
 
-pub text_takes : (total : ℕ) (rest : List ℕ) (x : List ℕ × List ℕ) → AreBytes rest → sized_string_at total rest ≡ Ok x → Takes rest (sized_string_bytes x.0) x.1 × (length x.0 < 2 ^ 32)
+pub text_takes : (total : ℕ) (rest : List ℕ) (x : List ℕ × List ℕ) → AreBytes rest → sized_string_at total rest ≡ Ok x →
+    Takes rest (sized_string_bytes x.0) x.1 × (length x.0 < 2 ^ 32)
 unfolding sized_string_at
 text_takes total rest x fits e =
     let a = bind_ok (number_at total rest) _ x e in
@@ -42,7 +44,8 @@ text_takes total rest x fits e =
     let spelled : Takes rest (sized_string_bytes (take count after)) (drop count after) = subst (λ (c : ℕ). Takes rest (number_bytes c ++ take count after) (drop count after)) (sym len) both in
     subst (λ (y : List ℕ × List ℕ). Takes rest (sized_string_bytes y.0) y.1 × (length y.0 < 2 ^ 32)) g.1 (spelled, rw len n.1)
 
-pub text_again : (total : ℕ) (bytes rest : List ℕ) → length bytes < 2 ^ 32 → sized_string_at total (sized_string_bytes bytes ++ rest) ≡ Ok (bytes, rest)
+pub text_again : (total : ℕ) (bytes rest : List ℕ) → length bytes < 2 ^ 32 →
+    sized_string_at total (sized_string_bytes bytes ++ rest) ≡ Ok (bytes, rest)
 unfolding sized_string_at
 text_again total bytes rest small =
     let regrouped : sized_string_bytes bytes ++ rest ≡ number_bytes (length bytes) ++ (bytes ++ rest) = append_assoc (number_bytes (length bytes)) bytes rest in

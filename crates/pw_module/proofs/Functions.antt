@@ -59,7 +59,8 @@ fields_take total rest x fits e =
     let t1 = Takes-then rest (number_bytes a.0.0) a.0.1 _ m.0.1.rest ta.0 t2 in
     subst (λ (y : FunRec × List ℕ). HasFields rest y) (ok_is made x m.2) (record { takes = t1; few = rw tm.1 tn.1; start_fits = tc.1; size_fits = td.1 })
 
-fields_again : (total symbols units former : ℕ) (f : FunRec) (rest : List ℕ) → symbols < 2 ^ 32 → units < 2 ^ 32 → IsFunctionRecord symbols units former f → function_fields total (function_bytes f ++ rest) ≡ Ok (f, rest)
+fields_again : (total symbols units former : ℕ) (f : FunRec) (rest : List ℕ) → symbols < 2 ^ 32 → units < 2 ^ 32 →
+    IsFunctionRecord symbols units former f → function_fields total (function_bytes f ++ rest) ≡ Ok (f, rest)
 unfolding function_fields function_bytes
 fields_again total symbols units former f rest few_symbols few_units is =
     let symbol_fits : f.sym < 2 ^ 32 = let below = is.symbol.1 in omega arith in
@@ -87,7 +88,8 @@ record IsFunctionWithin (symbols text units former : ℕ) (f : FunRec) : Type 0 
   is : IsFunctionRecord symbols units former f
   ends : f.start + f.size ≤ text
 
-function_takes : (symbols text units total : ℕ) → TakesEach (function_record_at symbols text units total) function_bytes (IsFunctionWithin symbols text units) end_of_function
+function_takes : (symbols text units total : ℕ) →
+    TakesEach (function_record_at symbols text units total) function_bytes (IsFunctionWithin symbols text units) end_of_function
 unfolding function_record_at function_fault
 function_takes symbols text units total k p x fits e =
     let a = bind_ok (function_fields total p.rest) _ x e in
@@ -112,7 +114,8 @@ function_takes symbols text units total k p x fits e =
     } in
     subst (λ (y : FunRec × Remaining). Taken function_bytes (IsFunctionWithin symbols text units) end_of_function p y) g.1 (record { takes = has.takes; right = record { is = is; ends = range.ends }; leaves = refl })
 
-function_again : (symbols text units total : ℕ) → symbols < 2 ^ 32 → units < 2 ^ 32 → ReadsEach (function_record_at symbols text units total) function_bytes (IsFunctionWithin symbols text units) end_of_function
+function_again : (symbols text units total : ℕ) → symbols < 2 ^ 32 → units < 2 ^ 32 →
+    ReadsEach (function_record_at symbols text units total) function_bytes (IsFunctionWithin symbols text units) end_of_function
 unfolding function_record_at function_fault
 function_again symbols text units total few_symbols few_units k former f rest is =
     let index = index_passes symbols units f is.is.symbol is.is.of is.is.depends in
@@ -120,26 +123,34 @@ function_again symbols text units total few_symbols few_units k former f rest is
     rw (fields_again total symbols units former f rest few_symbols few_units is.is, index, range) refl
 
 -- functions that fill the text each end within it
-last_at_least : (symbols units text former : ℕ) (fs : List FunRec) → Follow (IsFunctionRecord symbols units) end_of_function (λ last. last ≡ text) former fs → former ≤ text
+last_at_least : (symbols units text former : ℕ) (fs : List FunRec) →
+    Follow (IsFunctionRecord symbols units) end_of_function (λ last. last ≡ text) former fs → former ≤ text
 last_at_least symbols units text former [] follow = omega arith
 last_at_least symbols units text former (f ∷ fs) follow =
     let later = last_at_least symbols units text (f.start + f.size) fs follow.1 in
     let starts = follow.0.starts in omega arith
 
-within : (symbols text units former : ℕ) (fs : List FunRec) → Follow (IsFunctionRecord symbols units) end_of_function (λ last. last ≡ text) former fs → Follow (IsFunctionWithin symbols text units) end_of_function (λ last. last ≡ text) former fs
+within : (symbols text units former : ℕ) (fs : List FunRec) →
+    Follow (IsFunctionRecord symbols units) end_of_function (λ last. last ≡ text) former fs →
+    Follow (IsFunctionWithin symbols text units) end_of_function (λ last. last ≡ text) former fs
 within symbols text units former [] follow = follow
 within symbols text units former (f ∷ fs) follow = (record { is = follow.0; ends = last_at_least symbols units text (f.start + f.size) fs follow.1 }, within symbols text units (f.start + f.size) fs follow.1)
 
-without : (symbols text units former : ℕ) (End : ℕ → Type 0) (fs : List FunRec) → Follow (IsFunctionWithin symbols text units) end_of_function End former fs → Follow (IsFunctionRecord symbols units) end_of_function End former fs
+without : (symbols text units former : ℕ) (End : ℕ → Type 0) (fs : List FunRec) →
+    Follow (IsFunctionWithin symbols text units) end_of_function End former fs →
+    Follow (IsFunctionRecord symbols units) end_of_function End former fs
 without symbols text units former End [] follow = follow
 without symbols text units former End (f ∷ fs) follow = (follow.0.is, without symbols text units (f.start + f.size) End fs follow.1)
 
 -- the end of each function, and so of the last, is within the text
-end_within : (symbols text units former : ℕ) (fs : List FunRec) → former ≤ text → Follow (IsFunctionWithin symbols text units) end_of_function (λ _. Unit {0}) former fs → last end_of_function former fs ≤ text
+end_within : (symbols text units former : ℕ) (fs : List FunRec) → former ≤ text →
+    Follow (IsFunctionWithin symbols text units) end_of_function (λ _. Unit {0}) former fs →
+    last end_of_function former fs ≤ text
 end_within symbols text units former [] low follow = low
 end_within symbols text units former (f ∷ fs) low follow = end_within symbols text units (f.start + f.size) fs follow.0.ends follow.1
 
-pub functions_take : (symbols text units total count : ℕ) (rest : List ℕ) (x : List FunRec × List ℕ) → AreBytes rest → functions_at symbols text units total count rest ≡ Ok x
+pub functions_take : (symbols text units total count : ℕ) (rest : List ℕ) (x : List FunRec × List ℕ) → AreBytes rest →
+    functions_at symbols text units total count rest ≡ Ok x
     → Takes rest (flat_map function_bytes x.0) x.1 × (length x.0 ≡ count) × AreFunctionRecords symbols units text x.0
 unfolding functions_at
 functions_take symbols text units total count rest x fits e =
@@ -156,7 +167,8 @@ functions_take symbols text units total count rest x fits e =
     subst (λ (y : List FunRec × List ℕ). Takes rest (flat_map function_bytes y.0) y.1 × (length y.0 ≡ count) × AreFunctionRecords symbols units text y.0) g.1
     (filled.0, filled.1, without symbols text units 0 (λ e. e ≡ text) a.0.0 filled.2)
 
-pub functions_again : (symbols text units total : ℕ) (fs : List FunRec) (rest : List ℕ) → symbols < 2 ^ 32 → units < 2 ^ 32 → AreFunctionRecords symbols units text fs
+pub functions_again : (symbols text units total : ℕ) (fs : List FunRec) (rest : List ℕ) → symbols < 2 ^ 32 →
+    units < 2 ^ 32 → AreFunctionRecords symbols units text fs
     → functions_at symbols text units total (length fs) (flat_map function_bytes fs ++ rest) ≡ Ok (fs, rest)
 unfolding functions_at
 functions_again symbols text units total fs rest few_symbols few_units are =

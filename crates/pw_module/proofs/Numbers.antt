@@ -40,7 +40,8 @@ number_back n false e = refl
 pub unit_number-unit_from_number : (n : ℕ) → unit_number (unit_from_number n) ≡ n
 unit_number-unit_from_number n = number_back n (nat_eq n no_unit) refl
 
-pub unit_from_number-unit_number : (units : ℕ) (unit : Option ℕ) → units < 2 ^ 32 → IsUnitNumber units unit → unit_from_number (unit_number unit) ≡ unit
+pub unit_from_number-unit_number : (units : ℕ) (unit : Option ℕ) → units < 2 ^ 32 → IsUnitNumber units unit →
+    unit_from_number (unit_number unit) ≡ unit
 unit_from_number-unit_number units None few is = refl
 unit_from_number-unit_number units (Some unit) few is = let other : nat_eq unit no_unit ≡ false = ne_eqb unit no_unit (λ same. omega arith) in rw other refl
 
@@ -57,13 +58,15 @@ unit_passes units None other is = refl
 unit_passes units (Some unit) other is = let below = lt-ltb unit units is in rw below refl
 
 -- a function without a bad index names symbols and a unit
-pub index_passed_is : (symbols units : ℕ) (f : FunRec) → bad_index symbols units f ≡ None → IsSymbolNumber symbols f.sym × IsUnitNumber units f.unit × AllByRecursion (IsSymbolNumber symbols) f.deps
+pub index_passed_is : (symbols units : ℕ) (f : FunRec) → bad_index symbols units f ≡ None →
+    IsSymbolNumber symbols f.sym × IsUnitNumber units f.unit × AllByRecursion (IsSymbolNumber symbols) f.deps
 unfolding bad_index
 index_passed_is symbols units f e =
     let a = kept _ _ _ e in
     let b = unit_passed units f.unit (bad_in symbols f.deps) a.1 in (symbol_from symbols f.sym a.0, b.0, all_symbols symbols f.deps b.1)
 
-pub index_passes : (symbols units : ℕ) (f : FunRec) → IsSymbolNumber symbols f.sym → IsUnitNumber units f.unit → AllByRecursion (IsSymbolNumber symbols) f.deps → bad_index symbols units f ≡ None
+pub index_passes : (symbols units : ℕ) (f : FunRec) → IsSymbolNumber symbols f.sym → IsUnitNumber units f.unit →
+    AllByRecursion (IsSymbolNumber symbols) f.deps → bad_index symbols units f ≡ None
 unfolding bad_index
 index_passes symbols units f sym_is unit_is deps_are =
     let good = symbol_to symbols f.sym sym_is in rw (good, unit_passes units f.unit (bad_in symbols f.deps) unit_is) (no_bad_symbol symbols f.deps deps_are)

@@ -17,8 +17,10 @@ pub record Taken {A : Type 0} (spell : A → List ℕ) (Right : ℕ → A → Ty
 abbrev pub TakesEach : {A : Type 0} → (ℕ → Remaining → Result (A × Remaining) DepError) → (A → List ℕ) → (ℕ → A → Type 0) → (ℕ → A → ℕ) → Type 0
 TakesEach {A = A} step spell Right next = (k : ℕ) (p : Remaining) (x : A × Remaining) → AreBytes p.rest → step k p ≡ Ok x → Taken spell Right next p x
 
-pub many_take : {A : Type 0} (step : ℕ → Remaining → Result (A × Remaining) DepError) (spell : A → List ℕ) (Right : ℕ → A → Type 0) (next : ℕ → A → ℕ) (End : ℕ → Type 0)
-    → TakesEach step spell Right next → (count k : ℕ) (p : Remaining) (x : List A × Remaining) → AreBytes p.rest → many step k count p ≡ Ok x → End x.1.former
+pub many_take : {A : Type 0} (step : ℕ → Remaining → Result (A × Remaining) DepError) (spell : A → List ℕ)
+    (Right : ℕ → A → Type 0) (next : ℕ → A → ℕ) (End : ℕ → Type 0)
+    → TakesEach step spell Right next → (count k : ℕ) (p : Remaining) (x : List A × Remaining) → AreBytes p.rest
+    → many step k count p ≡ Ok x → End x.1.former
     → Takes p.rest (flat_map spell x.0) x.1.rest × (length x.0 ≡ count) × Follow Right next End p.former x.0
 unfolding many
 many_take {A = A} step spell Right next End each zero k p x fits e ends =
@@ -42,14 +44,16 @@ abbrev pub last : {A : Type 0} → (ℕ → A → ℕ) → ℕ → List A → �
 last next former [] = former
 last next former (x ∷ xs) = last next (next former x) xs
 
-pub last_ends : {A : Type 0} (Right : ℕ → A → Type 0) (next : ℕ → A → ℕ) (End : ℕ → Type 0) (former : ℕ) (xs : List A) → Follow Right next End former xs → End (last next former xs)
+pub last_ends : {A : Type 0} (Right : ℕ → A → Type 0) (next : ℕ → A → ℕ) (End : ℕ → Type 0) (former : ℕ) (xs : List A) →
+    Follow Right next End former xs → End (last next former xs)
 last_ends Right next End former [] follow = follow
 last_ends Right next End former (x ∷ xs) follow = last_ends Right next End (next former x) xs follow.1
 
 abbrev pub ReadsEach : {A : Type 0} → (ℕ → Remaining → Result (A × Remaining) DepError) → (A → List ℕ) → (ℕ → A → Type 0) → (ℕ → A → ℕ) → Type 0
 ReadsEach {A = A} step spell Right next = (k former : ℕ) (x : A) (rest : List ℕ) → Right former x → step k (remaining former (spell x ++ rest)) ≡ Ok (x, remaining (next former x) rest)
 
-pub many_again : {A : Type 0} (step : ℕ → Remaining → Result (A × Remaining) DepError) (spell : A → List ℕ) (Right : ℕ → A → Type 0) (next : ℕ → A → ℕ) (End : ℕ → Type 0)
+pub many_again : {A : Type 0} (step : ℕ → Remaining → Result (A × Remaining) DepError) (spell : A → List ℕ)
+    (Right : ℕ → A → Type 0) (next : ℕ → A → ℕ) (End : ℕ → Type 0)
     → ReadsEach step spell Right next → (xs : List A) (k former : ℕ) (rest : List ℕ) → Follow Right next End former xs
     → many step k (length xs) (remaining former (flat_map spell xs ++ rest)) ≡ Ok (xs, remaining (last next former xs) rest)
 unfolding many
@@ -63,10 +67,12 @@ many_again step spell Right next End each (x ∷ xs) k former rest follow =
 abbrev pub stays : {A : Type 0} → ℕ → A → ℕ
 stays former x = former
 
-pub follow_from_all : {A : Type 0} (Right : A → Type 0) (xs : List A) (former : ℕ) → AllByRecursion Right xs → Follow (λ _ x. Right x) stays (λ _. Unit {0}) former xs
+pub follow_from_all : {A : Type 0} (Right : A → Type 0) (xs : List A) (former : ℕ) → AllByRecursion Right xs →
+    Follow (λ _ x. Right x) stays (λ _. Unit {0}) former xs
 follow_from_all Right [] former all = tt
 follow_from_all Right (x ∷ xs) former all = (all.0, follow_from_all Right xs former all.1)
 
-pub all_from_follow : {A : Type 0} (Right : A → Type 0) (xs : List A) (former : ℕ) → Follow (λ _ x. Right x) stays (λ _. Unit {0}) former xs → AllByRecursion Right xs
+pub all_from_follow : {A : Type 0} (Right : A → Type 0) (xs : List A) (former : ℕ) →
+    Follow (λ _ x. Right x) stays (λ _. Unit {0}) former xs → AllByRecursion Right xs
 all_from_follow Right [] former follow = tt
 all_from_follow Right (x ∷ xs) former follow = (follow.0, all_from_follow Right xs former follow.1)

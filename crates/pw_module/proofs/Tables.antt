@@ -48,7 +48,8 @@ counts_take total rest x fits e =
     let made : RecordCounts × List ℕ = (record { units = a.0.0; funs = b.0.0; roots = c.0.0; types = d.0.0 }, d.0.1) in
     subst (λ (y : RecordCounts × List ℕ). AreCounts rest y) (ok_is made x d.2) (record { takes = t1; units = ta.1; funs = tb.1; roots = tc.1; types = td.1 })
 
-counts_again : (total : ℕ) (c : RecordCounts) (rest : List ℕ) → c.units < 2 ^ 32 → c.funs < 2 ^ 32 → c.roots < 2 ^ 32 → c.types < 2 ^ 32 → counts_at total (counts_bytes c ++ rest) ≡ Ok (c, rest)
+counts_again : (total : ℕ) (c : RecordCounts) (rest : List ℕ) → c.units < 2 ^ 32 → c.funs < 2 ^ 32 → c.roots < 2 ^ 32 →
+    c.types < 2 ^ 32 → counts_at total (counts_bytes c ++ rest) ≡ Ok (c, rest)
 unfolding counts_at
 counts_again total c rest u f r t =
     let r3 = number_bytes c.types ++ rest in
@@ -71,7 +72,8 @@ record IsRead (symbols text_size : ℕ) (rest : List ℕ) (x : DepTable × List 
   takes : Takes rest (body x.0) x.1
   allowed : IsTableOf symbols text_size x.0
 
-records_take : (symbols text_size total : ℕ) (rest : List ℕ) (x : DepTable × List ℕ) → AreBytes rest → records_at symbols text_size total rest ≡ Ok x → IsRead symbols text_size rest x
+records_take : (symbols text_size total : ℕ) (rest : List ℕ) (x : DepTable × List ℕ) → AreBytes rest →
+    records_at symbols text_size total rest ≡ Ok x → IsRead symbols text_size rest x
 unfolding records_at
 records_take symbols text_size total rest x fits e =
     let a = bind_ok (counts_at total rest) _ x e in
@@ -104,7 +106,8 @@ records_take symbols text_size total rest x fits e =
     } in
     subst (λ (y : DepTable × List ℕ). IsRead symbols text_size rest y) (ok_is made x f.2) (record { takes = t1; allowed = allowed })
 
-records_again : (symbols text_size total : ℕ) (t : DepTable) → symbols < 2 ^ 32 → IsTableOf symbols text_size t → records_at symbols text_size total (body t) ≡ Ok (t, [])
+records_again : (symbols text_size total : ℕ) (t : DepTable) → symbols < 2 ^ 32 → IsTableOf symbols text_size t →
+    records_at symbols text_size total (body t) ≡ Ok (t, [])
 unfolding records_at
 records_again symbols text_size total t few is =
     let counts = is.counts in
@@ -131,7 +134,8 @@ table_is : (t : DepTable) → table_bytes t ≡ number_bytes t.version ++ body t
 unfolding table_bytes head_bytes
 table_is t = append_assoc (number_bytes t.version) (counts_bytes (counts_of t)) _
 
-pub read_table_is_spelled_so : (symbols text_size : ℕ) (bytes : List ℕ) (t : DepTable) → AreBytes bytes → table_at symbols text_size bytes ≡ Ok t → ReadsTable symbols text_size bytes t
+pub read_table_is_spelled_so : (symbols text_size : ℕ) (bytes : List ℕ) (t : DepTable) → AreBytes bytes →
+    table_at symbols text_size bytes ≡ Ok t → ReadsTable symbols text_size bytes t
 unfolding table_at started versioned
 read_table_is_spelled_so symbols text_size bytes t fits e =
     let a = bind_ok (started symbols text_size (length bytes) bytes) _ t e in
@@ -147,14 +151,16 @@ read_table_is_spelled_so symbols text_size bytes t fits e =
     ∙ ap (λ (n : ℕ). number_bytes n ++ body a.0.0) version in
     subst (λ (y : DepTable). ReadsTable symbols text_size bytes y) g.1 (record { allowed = r.allowed; spelled = parts ∙ sym (table_is a.0.0) })
 
-pub spelled_table_is_read : (symbols text_size : ℕ) (bytes : List ℕ) (t : DepTable) → symbols < 2 ^ 32 → ReadsTable symbols text_size bytes t → table_at symbols text_size bytes ≡ Ok t
+pub spelled_table_is_read : (symbols text_size : ℕ) (bytes : List ℕ) (t : DepTable) → symbols < 2 ^ 32 →
+    ReadsTable symbols text_size bytes t → table_at symbols text_size bytes ≡ Ok t
 unfolding table_at started versioned
 spelled_table_is_read symbols text_size bytes t few reads =
     let spelled : bytes ≡ number_bytes 1 ++ body t = reads.spelled ∙ table_is t ∙ ap (λ (n : ℕ). number_bytes n ++ body t) reads.allowed.version in
     let start : number_at (length bytes) bytes ≡ Ok (1, body t) = ap (number_at (length bytes)) spelled ∙ number_again (length bytes) 1 (body t) (omega arith) in
     rw (start, records_again symbols text_size (length bytes) t few reads.allowed) refl
 
-table_or_fault : (symbols text_size : ℕ) (bytes : List ℕ) (r : Result DepTable DepError) → symbols < 2 ^ 32 → AreBytes bytes → table_at symbols text_size bytes ≡ r
+table_or_fault : (symbols text_size : ℕ) (bytes : List ℕ) (r : Result DepTable DepError) → symbols < 2 ^ 32 →
+    AreBytes bytes → table_at symbols text_size bytes ≡ r
     → ((t : DepTable) × ReadsTable symbols text_size bytes t) ⊎ ((fault : DepError) × HasTableFault symbols text_size bytes fault)
 table_or_fault symbols text_size bytes (Ok t) few fits e = inl (t, read_table_is_spelled_so symbols text_size bytes t fits e)
 table_or_fault symbols text_size bytes (Err fault) few fits e =

@@ -14,11 +14,15 @@ pub record ReadsTable (symbols text : ℕ) (bytes : List ℕ) (t : DepTable) : T
 
 -- a table that is read is allowed, and the bytes are its bytes
 abbrev pub ReadTableIsSpelledSo : Type 0
-ReadTableIsSpelledSo = (symbols text : ℕ) (bytes : List ℕ) (t : DepTable) → AreBytes bytes → table_at symbols text bytes ≡ Ok t → ReadsTable symbols text bytes t
+ReadTableIsSpelledSo =
+    (symbols text : ℕ) (bytes : List ℕ) (t : DepTable) → AreBytes bytes → table_at symbols text bytes ≡ Ok t →
+    ReadsTable symbols text bytes t
 
 -- the bytes of an allowed table are read as that table
 abbrev pub SpelledTableIsRead : Type 0
-SpelledTableIsRead = (symbols text : ℕ) (bytes : List ℕ) (t : DepTable) → symbols < 2 ^ 32 → ReadsTable symbols text bytes t → table_at symbols text bytes ≡ Ok t
+SpelledTableIsRead =
+    (symbols text : ℕ) (bytes : List ℕ) (t : DepTable) → symbols < 2 ^ 32 → ReadsTable symbols text bytes t →
+    table_at symbols text bytes ≡ Ok t
 
 -- a first fault: the bytes are those of no allowed table
 pub record HasTableFault (symbols text : ℕ) (bytes : List ℕ) (fault : DepError) : Type 0 where

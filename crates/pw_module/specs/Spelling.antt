@@ -26,7 +26,9 @@ unit_number (Some unit) = unit
 
 -- a function: its symbol, unit, start and size, how many symbols it depends on, and these
 unfoldable pub function_bytes : FunRec → List ℕ
-function_bytes f = number_bytes f.sym ++ (number_bytes (unit_number f.unit) ++ (number_bytes f.start ++ (number_bytes f.size ++ (number_bytes (length f.deps) ++ flat_map number_bytes f.deps))))
+function_bytes f =
+    number_bytes f.sym ++ (number_bytes (unit_number f.unit) ++ (number_bytes f.start ++ (number_bytes f.size
+    ++ (number_bytes (length f.deps) ++ flat_map number_bytes f.deps))))
 
 -- a root: the variable's symbol and the function's
 unfoldable pub root_bytes : RootRec → List ℕ
@@ -38,8 +40,12 @@ type_bytes t = number_bytes t.sym ++ sized_string_bytes t.text
 
 -- the version, and how many units, functions, roots and types there are
 unfoldable pub head_bytes : DepTable → List ℕ
-head_bytes t = number_bytes t.version ++ (number_bytes (length t.units) ++ (number_bytes (length t.funs) ++ (number_bytes (length t.roots) ++ number_bytes (length t.types))))
+head_bytes t =
+    number_bytes t.version ++ (number_bytes (length t.units) ++ (number_bytes (length t.funs)
+    ++ (number_bytes (length t.roots) ++ number_bytes (length t.types))))
 
 -- a table
 unfoldable pub table_bytes : DepTable → List ℕ
-table_bytes t = head_bytes t ++ (flat_map sized_string_bytes t.units ++ (flat_map function_bytes t.funs ++ (flat_map root_bytes t.roots ++ flat_map type_bytes t.types)))
+table_bytes t =
+    head_bytes t ++ (flat_map sized_string_bytes t.units ++ (flat_map function_bytes t.funs
+    ++ (flat_map root_bytes t.roots ++ flat_map type_bytes t.types)))
