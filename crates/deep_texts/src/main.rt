@@ -12,7 +12,7 @@ use std::io;
 /// More bytes than each of the texts has.
 const LONGEST: usize = 1 << 20;
 
-/// A text of a function: what is repeated in front of the core, and what behind it.
+/// A text of a function: what is repeated before the core, and what after it.
 #[derive(Drop)]
 struct Shape {
     name: &'static str,

@@ -51,12 +51,13 @@ function_image project keep d f =
     then words_at (target_address project d.in_module d.in_unit) (function_address project d) (function_code f)
     else zeros (function_words f)
 
--- The words of the functions of a unit from number i on, and of the units of a module from number u on.
+-- The words of the functions of a unit from number i on.
 unfoldable pub functions_image : Project → Keep → (m u i : ℕ) → List Function → List ℕ
 functions_image project keep m u i [] = []
 functions_image project keep m u i (f ∷ fs) =
     function_image project keep (record { in_module = m; in_unit = u; number = i }) f ++ functions_image project keep m u (suc i) fs
 
+-- The words of the units of a module from number u on.
 unfoldable pub units_image : Project → Keep → (m u : ℕ) → List TypedUnit → List ℕ
 units_image project keep m u [] = []
 units_image project keep m u (unit ∷ units) =
@@ -100,10 +101,11 @@ data_image project m =
 abbrev pub doubleword_bytes : List ℕ → List ℕ
 doubleword_bytes values = flat_map (le_bytes 8) values
 
--- A text's bytes are those of its words, and zeros up to a multiple of 8; it may be read and executed.
+-- Bytes, with zeros after them up to a multiple of 8.
 abbrev pub whole_doublewords : List ℕ → List ℕ
 whole_doublewords bytes = bytes ++ zeros ((length bytes + 7) / 8 * 8 - length bytes)
 
+-- The region of a text has the bytes of its words; it may be read and executed.
 abbrev pub text_region : Project → Keep → ℕ → MappedRegion
 text_region project keep m = record {
   start = text_of m;

@@ -11,6 +11,7 @@ pub record ProjectModule : Type 0 where
   pub needs : List (List ℕ)
   pub units : List TypedUnit
 
+-- What the load order goes by.
 abbrev pub needing_of : ProjectModule → Needing
 needing_of m = record { name = m.name; needs = m.needs }
 

@@ -19,13 +19,15 @@ use Rattle.pw_code.specs.Objects.{is_initialised, is_uninitialised}
 abbrev pub units_of : Project → ℕ → List TypedUnit
 units_of project m = option_map_or (λ units. units) (slice_get project m) []
 
--- The address of a module (gABI, "Base Address"), of its text and of its data.
+-- The address of a module (gABI, "Base Address").
 abbrev pub base_of : ℕ → ℕ
 base_of m = module_span * suc m
 
+-- The address of a module's text.
 abbrev pub text_of : ℕ → ℕ
 text_of m = base_of m + text_offset
 
+-- The address of a module's data.
 abbrev pub data_of : ℕ → ℕ
 data_of m = base_of m + data_offset
 
@@ -36,10 +38,11 @@ abbrev pub code_before_functions : ℕ → List CodePart
 code_before_functions zero = entry_code
 code_before_functions (suc m) = []
 
--- How many words some functions have, and the functions of a unit.
+-- How many words some functions have.
 abbrev pub words_of_functions : List Function → ℕ
 words_of_functions fs = sum_by function_words fs
 
+-- How many words the functions of a unit have.
 abbrev pub words_of_unit : TypedUnit → ℕ
 words_of_unit unit = words_of_functions unit.functions
 
@@ -91,10 +94,11 @@ slot_address project m name = data_of m + 8 * prefix_len (λ other. not (bytes_e
 abbrev pub elements_of : List TVar → ℕ
 elements_of xs = sum_by (λ x. room x.count) xs
 
--- The variables of a unit, those of the units before it, and those of a module, for which a test holds.
+-- The variables of a unit for which a test holds.
 abbrev pub variables_of_unit : (TVar → Bool) → TypedUnit → List TVar
 variables_of_unit test unit = filter test unit.variables
 
+-- The variables of several units for which a test holds.
 abbrev pub variables_of_units : (TVar → Bool) → List TypedUnit → List TVar
 variables_of_units test units = flat_map (variables_of_unit test) units
 

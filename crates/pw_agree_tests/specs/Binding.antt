@@ -21,6 +21,7 @@ program_returning e = record {
 abbrev pub using_unit : TypedUnit
 using_unit = program_returning (element (at 2) (Global (codes "t")) 16 (constant (at 2) 0))
 
+-- the array is declared, and not used
 abbrev pub declaring_unit : TypedUnit
 declaring_unit = program_returning (constant (at 2) 0)
 
@@ -32,9 +33,11 @@ library_unit = record {
   names = record { name = codes "t"; text = codes "l[8]" } ∷ [];
 }
 
+-- the unit as a program that needs the library
 abbrev pub with_library : TypedUnit → Project
 with_library unit = (unit ∷ []) ∷ (library_unit ∷ []) ∷ []
 
+-- the unit as a program that needs nothing
 abbrev pub alone : TypedUnit → Project
 alone unit = (unit ∷ []) ∷ []
 

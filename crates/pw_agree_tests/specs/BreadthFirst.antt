@@ -38,21 +38,27 @@ project_modules =
     module_of (codes "app") (codes "a" ∷ codes "b" ∷ []) program_unit ∷ module_of (codes "c") [] c_unit
     ∷ module_of (codes "b") (codes "c" ∷ []) b_unit ∷ module_of (codes "a") (codes "c" ∷ []) a_unit ∷ []
 
+-- the modules in load order
 abbrev pub project : Project
 project = (program_unit ∷ []) ∷ (a_unit ∷ []) ∷ (b_unit ∷ []) ∷ (c_unit ∷ []) ∷ []
 
+-- the program's `main`
 abbrev pub main : Definition
 main = definition 0 0 0
 
+-- a's `g`
 abbrev pub a_g : Definition
 a_g = definition 1 0 0
 
+-- b's `f`
 abbrev pub b_f : Definition
 b_f = definition 2 0 0
 
+-- c's `f`
 abbrev pub c_f : Definition
 c_f = definition 3 0 0
 
+-- `main`, and the `f` that it calls, which is b's
 abbrev pub keep : Keep
 keep d = list_any (same_definition d) (main ∷ b_f ∷ [])
 
@@ -83,5 +89,6 @@ pub record IsImage : Type 0 where
   pub program_data : data_image project 0 ≡ 0x5000018 ∷ 0xd000000 ∷ []
   pub b_data : data_image project 2 ≡ []
 
+-- What is expected of these modules.
 abbrev pub SearchIsBreadthFirst : Type 0
 SearchIsBreadthFirst = IsPlaced × IsKeptSo × IsImage

@@ -28,21 +28,27 @@ library_unit = unit_of_functions
     (external_function (codes "f") 1 (constant (at 1) 2) ∷ external_function (codes "g") 2 (call (at 2) (Global (codes "f")) nil) ∷ [])
     (function_named (codes "f") ∷ function_named (codes "g") ∷ [])
 
+-- the program needs the library
 abbrev pub project_modules : List ProjectModule
 project_modules = module_of (codes "app") (codes "liba" ∷ []) program_unit ∷ module_of (codes "liba") [] library_unit ∷ []
 
+-- the modules in load order
 abbrev pub project : Project
 project = (program_unit ∷ []) ∷ (library_unit ∷ []) ∷ []
 
+-- the program's `f`
 abbrev pub program_f : Definition
 program_f = definition 0 0 0
 
+-- the program's `main`
 abbrev pub main : Definition
 main = definition 0 0 1
 
+-- the library's `f`
 abbrev pub library_f : Definition
 library_f = definition 1 0 0
 
+-- the library's `g`
 abbrev pub library_g : Definition
 library_g = definition 1 0 1
 
@@ -86,5 +92,6 @@ pub record IsImage : Type 0 where
   pub program_data : data_image project 0 ≡ 0x5000054 ∷ 0x900003c ∷ []
   pub library_data : data_image project 1 ≡ 0x5000018 ∷ []
 
+-- What is expected of these modules.
 abbrev pub ProgramInterposes : Type 0
 ProgramInterposes = IsPlaced × IsKeptSo × IsImage

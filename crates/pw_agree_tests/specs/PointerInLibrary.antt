@@ -28,21 +28,27 @@ library_unit = record {
   names = record { name = codes "hook"; text = codes "0" } ∷ [];
 }
 
+-- the program needs the library
 abbrev pub project_modules : List ProjectModule
 project_modules = module_of (codes "app") (codes "liba" ∷ []) program_unit ∷ module_of (codes "liba") [] library_unit ∷ []
 
+-- the modules in load order
 abbrev pub project : Project
 project = (program_unit ∷ []) ∷ (library_unit ∷ []) ∷ []
 
+-- the program's `main`
 abbrev pub main : Definition
 main = definition 0 0 0
 
+-- the library's function `cb`
 abbrev pub callback : Definition
 callback = definition 1 0 0
 
+-- the library's variable `hook`
 abbrev pub hook : Definition
 hook = definition 1 0 0
 
+-- `main`, and `cb`, which `hook` points to
 abbrev pub keep : Keep
 keep d = list_any (same_definition d) (main ∷ callback ∷ [])
 
@@ -71,5 +77,6 @@ pub record IsImage : Type 0 where
   pub program_data : data_image project 0 ≡ 0x5000018 ∷ []
   pub library_data : data_image project 1 ≡ 0x9000000 ∷ []
 
+-- What is expected of these modules.
 abbrev pub PointerKeeps : Type 0
 PointerKeeps = IsPlaced × IsKeptSo × IsImage

@@ -12,6 +12,7 @@ use Rattle.pw_module.specs.Reach.{FunctionNumber, IsKeptRecord, IsRootRecord, Re
 
 -- ---- modules, by what the search and the reach go by
 
+-- a module with these symbols, the first of which has number 1, and these records
 abbrev pub module_of : (name : List ℕ) → (needs : List (List ℕ)) → List Symbol → List FunRec → List RootRec → Option ℕ → Module
 module_of name needs symbols funs roots entry = record {
   soname = name;
@@ -26,29 +27,37 @@ module_of name needs symbols funs roots entry = record {
   entry = entry;
 }
 
+-- a symbol with its name, linkage, kind and type string
 abbrev pub symbol_named : (name : List ℕ) → Bool → SymKind → (text : List ℕ) → Symbol
 symbol_named name global kind text = record { name = name; global = global; kind = kind; text = text }
 
+-- the record of a function of the one unit
 abbrev pub function_record : (sym start size : ℕ) → (deps : List ℕ) → FunRec
 function_record sym start size deps = record { sym = sym; unit = Some 0; start = start; size = size; deps = deps }
 
+-- the record of a program's entry, which depends on the symbol of `main`
 abbrev pub entry_record : (main : ℕ) → FunRec
 entry_record main = record { sym = 1; unit = None; start = 0; size = 24; deps = main ∷ [] }
 
+-- the symbol of a program's entry
 abbrev pub entry_symbol : Symbol
 entry_symbol = symbol_named (codes "_start") false (Fun 0 24) (codes "v()")
 
+-- an external symbol of a function `long f(void)` that stands here
 abbrev pub defined_at : (name : List ℕ) → (start size : ℕ) → Symbol
 defined_at name start size = symbol_named name true (Fun start size) (codes "l()")
 
+-- the symbol of such a function that another module defines
 abbrev pub undefined : (name : List ℕ) → Symbol
 undefined name = symbol_named name true Undefined (codes "l()")
 
+-- a function by the place of its module in the load order and the number of its record
 abbrev pub number : (place record_number : ℕ) → FunctionNumber
 number place record_number = record { place = place; record_number = record_number }
 
 -- ---- four modules: the program needs a and b, and both need c; b and c define f
 
+-- in the order app, c, b, a, which is not the order in which they are loaded
 abbrev pub four_modules : List Module
 four_modules =
     module_of (codes "app") (codes "a" ∷ codes "b" ∷ [])
@@ -67,8 +76,9 @@ pub record BreadthFirst : Type 0 where
   pub main_leads : RecordLeads four_modules (number 0 1) (number 2 0)
   pub kept : IsKeptRecord four_modules (number 2 0)
 
--- ---- a library that names its own f, which the program defines_name too; a pointer of it keeps its static function
+-- ---- a library that names its own f, which the program defines too; a pointer of it keeps its static function
 
+-- the program, and the library with the records of f, g and the static hook
 abbrev pub interposed : List Module
 interposed =
     module_of (codes "app") (codes "liba" ∷ [])
@@ -89,6 +99,7 @@ pub record ProgramIsFirst : Type 0 where
 
 -- ---- faults: without a definition, and with another type
 
+-- f has no definition, and g is declared `l()` and defined `v()`
 abbrev pub faulty : List Module
 faulty =
     module_of (codes "app") (codes "liba" ∷ [])
@@ -97,9 +108,11 @@ faulty =
     ∷ module_of (codes "liba") [] (symbol_named (codes "g") true (Fun 0 60) (codes "v()") ∷ []) (function_record 1 0 60 [] ∷ []) [] None
     ∷ []
 
+-- Each of the two symbols has its fault.
 pub record AreFaulty : Type 0 where
   pub unbound : IsUnboundSymbol faulty 0 3
   pub differs : DiffersFromBound faulty 0 4
 
+-- What is expected of these modules.
 abbrev pub ReadModulesAreSearched : Type 0
 ReadModulesAreSearched = BreadthFirst × ProgramIsFirst × AreFaulty

@@ -27,24 +27,31 @@ second_unit = unit_of_functions
     (static_function (codes "h") 1 (constant (at 1) 4) ∷ external_function (codes "other") 2 (call (at 2) (LocalFun 0) nil) ∷ [])
     (function_named (codes "other") ∷ [])
 
+-- one module of two units
 abbrev pub project_modules : List ProjectModule
 project_modules = record { name = codes "app"; needs = []; units = first_unit ∷ second_unit ∷ [] } ∷ []
 
+-- the modules in load order
 abbrev pub project : Project
 project = (first_unit ∷ second_unit ∷ []) ∷ []
 
+-- the first unit's `h`
 abbrev pub first_h : Definition
 first_h = definition 0 0 0
 
+-- the program's `main`
 abbrev pub main : Definition
 main = definition 0 0 1
 
+-- the second unit's `h`
 abbrev pub second_h : Definition
 second_h = definition 0 1 0
 
+-- the second unit's `other`
 abbrev pub other : Definition
 other = definition 0 1 1
 
+-- `main`, and the `h` that it calls, its own unit's
 abbrev pub keep : Keep
 keep d = list_any (same_definition d) (first_h ∷ main ∷ [])
 
@@ -81,5 +88,6 @@ pub record IsImage : Type 0 where
       ++ zeros 32
   pub slot : data_image project 0 ≡ 0x5000054 ∷ []
 
+-- What is expected of this program.
 abbrev pub StaticNamesAreOwn : Type 0
 StaticNamesAreOwn = IsPlaced × IsKeptSo × IsImage

@@ -24,9 +24,11 @@ returning external identifier in_line e = record {
   body = cons (returns (Some e)) nil;
 }
 
+-- such a function with external linkage
 abbrev pub external_function : (identifier : List ℕ) → (in_line : ℕ) → TypedExpression → Function
 external_function identifier in_line e = returning true identifier in_line e
 
+-- such a function that is static
 abbrev pub static_function : (identifier : List ℕ) → (in_line : ℕ) → TypedExpression → Function
 static_function identifier in_line e = returning false identifier in_line e
 

@@ -62,12 +62,15 @@ library_unit = record {
       ∷ record { name = codes "table"; text = codes "l[2]" } ∷ function_named (codes "f") ∷ [];
 }
 
+-- the program needs the library
 abbrev pub project_modules : List ProjectModule
 project_modules = module_of (codes "app") (codes "liba" ∷ []) program_unit ∷ module_of (codes "liba") [] library_unit ∷ []
 
+-- the modules in load order
 abbrev pub project : Project
 project = (program_unit ∷ []) ∷ (library_unit ∷ []) ∷ []
 
+-- the program's `main`
 abbrev pub main : Definition
 main = definition 0 0 0
 
@@ -104,5 +107,6 @@ pub record IsImage : Type 0 where
   pub program_data : data_image project 0 ≡ 0x5000018 ∷ 0x6000040 ∷ 0xa000010 ∷ 0x6000020 ∷ 1 ∷ 7 ∷ 0 ∷ 0 ∷ 0 ∷ 0 ∷ []
   pub library_data : data_image project 1 ≡ 0x6000020 ∷ 9 ∷ 2 ∷ 0 ∷ 0 ∷ []
 
+-- What is expected of these modules.
 abbrev pub InitialisedStandFirst : Type 0
 InitialisedStandFirst = IsPlaced × IsImage

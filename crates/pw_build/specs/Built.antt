@@ -16,7 +16,7 @@ abbrev pub IsMainAddress : List Writer → Option ℕ → Type 0
 IsMainAddress funs (Some at) = (at ≡ main_address funs) × ((main : Writer) × (main_writer funs ≡ Some main))
 IsMainAddress funs None = main_writer funs ≡ None
 
--- the words are after the old ones, or memory was refused
+-- the words are after the old ones, or memory ran out
 abbrev pub Appended : (words old new : List ℕ) → Result (Unit {0}) NoMemory → Type 0
 Appended words old new (Ok _) = new ≡ old ++ words
 Appended words old new (Err _) = Unit {0}
@@ -54,7 +54,7 @@ pub record HoldsParts (text : List ℕ) (main : ℕ) (new : MemoryState) : Type 
   pub mem : new.mem ≡ memory_of text main
   pub no_fetch : NoFetches new
 
--- the parts are placed, or memory was refused, and it is as before
+-- the parts are placed, or memory ran out, and it is as before
 abbrev pub Places : List ℕ → ℕ → MemoryState → MemoryState → Result (Unit {0}) ImageError → Type 0
 Places text main old new (Ok _) = HoldsParts text main new
 Places text main old new (Err errors.NoMain) = ⊥

@@ -20,7 +20,7 @@ pub enum ImageError {
     /// No function is named `main`.
     #[error("no main")]
     NoMain,
-    /// Memory was refused.
+    /// Out of memory.
     #[error("out of memory")]
     NoMemory,
 }

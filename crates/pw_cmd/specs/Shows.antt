@@ -109,7 +109,7 @@ pub record CountsCanRise (old : Outside) : Type 0 where
   pub out : old.out.faults < 2 ^ 64 - 1
   pub messages : old.messages.faults < 2 ^ 64 - 1
 
--- a program with a `main`, where no call fails, gives the status of what `main` returns, unless memory is refused
+-- a program with a `main`, where no call fails, gives the status of what `main` returns, unless memory runs out
 abbrev pub Completes : List (List ℕ) → Outside → Outside → ℕ → Type 0
 Completes words old new status =
     (funs : List Writer) (main : Writer) → AsksForProgram words old.store.files funs → main_writer funs ≡ Some main

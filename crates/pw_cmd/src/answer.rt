@@ -22,7 +22,7 @@ pub enum Stop {
     ReadFailed,
     /// A call to write failed.
     WriteFailed,
-    /// Memory was refused.
+    /// Out of memory.
     NoMemory,
 }
 

@@ -10,7 +10,7 @@ use std::alloc::Global;
 pub enum CommandError {
     /// They are of none.
     NoCommand,
-    /// Memory was refused.
+    /// Out of memory.
     NoMemory,
 }
 

@@ -29,6 +29,7 @@ opens f =
     ∷ instruction (Addi sp sp (pos 0 -ℤ pos (frame_bytes (frame_of f)))) ∷ instruction (Sd sp ra (return_slot (frame_of f)))
     ∷ store_parameters 0 (length f.sig.params)
 
+-- How many words that is.
 abbrev pub opens_words : Function → ℕ
 opens_words f = 4 + fault_words f.line + length f.sig.params
 

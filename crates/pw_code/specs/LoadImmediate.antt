@@ -54,5 +54,6 @@ signed_words (suc times) v =
     then (if is_within 11 v then 1 else 2)
     else signed_words times (rest v) + 2
 
+-- How many words the code has that loads the 64 bits of a number.
 abbrev pub immediate_words : ℕ → ℕ
 immediate_words v = signed_words 3 (cast_signed w64 v)

@@ -36,6 +36,7 @@ unfoldable mutual
   functions_in (input at) = []
   functions_in (output at e) = functions_in e
 
+  -- Those of several expressions, one after another.
   pub functions_in_all : TypedExpressions → List Ref
   functions_in_all nil = []
   functions_in_all (cons e es) = functions_in e ++ functions_in_all es
@@ -62,10 +63,12 @@ unfoldable mutual
   functions_of breaks = []
   functions_of continues = []
 
+  -- Those of several statements, one after another.
   pub functions_of_all : TypedStatements → List Ref
   functions_of_all nil = []
   functions_of_all (cons s ss) = functions_of s ++ functions_of_all ss
 
+  -- Those of a statement that may be absent.
   pub functions_of_optional : OptionalTypedStatement → List Ref
   functions_of_optional absent = []
   functions_of_optional (present s) = functions_of s
@@ -92,6 +95,7 @@ dependencies f = each_once (functions_of_all f.body)
 abbrev pub is_initialised : TVar → Bool
 is_initialised x = is_some x.init
 
+-- Whether it has none.
 abbrev pub is_uninitialised : TVar → Bool
 is_uninitialised x = is_none x.init
 
@@ -99,6 +103,7 @@ is_uninitialised x = is_none x.init
 abbrev pub fill : TVar → List Init → List Init
 fill x values = values ++ replicate (room x.count - length values) (Num 0)
 
+-- A variable whose initialiser, if any, has a value for each element.
 abbrev pub filled : TVar → TVar
 filled x = record x { init = option_map (fill x) x.init }
 
@@ -119,6 +124,7 @@ ref_in_order xs (Global name) = Global name
 ref_in_order xs (LocalFun i) = LocalFun i
 ref_in_order xs (LocalVar i) = LocalVar (number_in_order xs i)
 
+-- An item whose reference goes by that number.
 abbrev pub item_in_order : List TVar → Item → Item
 item_in_order xs (Word w) = Word w
 item_in_order xs (Addr rd to) = Addr rd (ref_in_order xs to)

@@ -46,16 +46,19 @@ past branch piece = instruction (branch (pos (bytes_of_words (suc (size piece)))
 
 -- ---- checked faults
 
--- the kinds of checked faults
+-- the kind of the checked fault of an index out of its array
 abbrev pub index_fault : ℕ
 index_fault = 1
 
+-- the kind of a division by 0
 abbrev pub division_fault : ℕ
 division_fault = 2
 
+-- the kind of a call of null
 abbrev pub null_call_fault : ℕ
 null_call_fault = 3
 
+-- the kind of a call past the limit of calls alive
 abbrev pub depth_fault : ℕ
 depth_fault = 4
 
@@ -73,6 +76,7 @@ fault_words line = 3 + immediate_words line
 abbrev pub check_index : (array_size line : ℕ) → List CodePart
 check_index array_size line = load_immediate t1 array_size ++ past (Bltu a0 t1) (fault index_fault line)
 
+-- how many words that is
 abbrev pub check_index_words : (array_size line : ℕ) → ℕ
 check_index_words array_size line = immediate_words array_size + suc (fault_words line)
 
@@ -97,19 +101,22 @@ flip_code = instruction (Xori a0 a0 (pos 1))
 abbrev pub check_divisor : (line : ℕ) → List CodePart
 check_divisor line = past (Bne a0 x0) (fault division_fault line)
 
--- the instruction that compares, shifts or divides, signed or unsigned
+-- the instruction that compares, as signed or unsigned numbers
 abbrev pub less : (unsigned : Bool) → (rd rs1 rs2 : ℕ) → Inst
 less true rd rs1 rs2 = Sltu rd rs1 rs2
 less false rd rs1 rs2 = Slt rd rs1 rs2
 
+-- the instruction that shifts right, with the sign copied in or zeros
 abbrev pub shift_right : (unsigned : Bool) → (rd rs1 rs2 : ℕ) → Inst
 shift_right true rd rs1 rs2 = Srl rd rs1 rs2
 shift_right false rd rs1 rs2 = Sra rd rs1 rs2
 
+-- the instruction that divides, as signed or unsigned numbers
 abbrev pub divide : (unsigned : Bool) → (rd rs1 rs2 : ℕ) → Inst
 divide true rd rs1 rs2 = Divu rd rs1 rs2
 divide false rd rs1 rs2 = Div rd rs1 rs2
 
+-- the instruction that gives the remainder, of signed or unsigned numbers
 abbrev pub remainder : (unsigned : Bool) → (rd rs1 rs2 : ℕ) → Inst
 remainder true rd rs1 rs2 = Remu rd rs1 rs2
 remainder false rd rs1 rs2 = Rem rd rs1 rs2
@@ -148,6 +155,7 @@ binary_words line operators.AndAnd = 0
 binary_words line operators.OrOr = 0
 binary_words line op = 1
 
+-- how many words the code of a unary operator has
 abbrev pub unary_words : Un → ℕ
 unary_words Plus = 0
 unary_words op = 1

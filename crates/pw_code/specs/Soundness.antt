@@ -20,10 +20,11 @@ use Rattle.pw_code.specs.Objects.{is_initialised, is_uninitialised}
 
 -- ---- what references name
 
--- A definition of this number is there, and is static.
+-- The function of this number is there, and is static.
 abbrev pub IsStaticFunction : Object → ℕ → Type 0
 IsStaticFunction object i = option_map (λ f. f.global) (slice_get object.funs i) ≡ Some false
 
+-- The variable of this number is there, and is static.
 abbrev pub IsStaticVariable : Object → ℕ → Type 0
 IsStaticVariable object i = option_map (λ x. x.global) (slice_get object.vars i) ≡ Some false
 
@@ -66,6 +67,7 @@ pub record IsSoundFunction (object : Object) (f : FunCode) : Type 0 where
 
 -- ---- variables
 
+-- An element of an initialiser is a number, or names a function.
 abbrev pub IsSoundElement : Object → Init → Type 0
 IsSoundElement object (Num value) = ⊤
 IsSoundElement object (Fun f) = IsFunctionRef object f

@@ -45,10 +45,12 @@ unfoldable mutual
   statement_words breaks = 1
   statement_words continues = 1
 
+  -- how many words several statements have
   pub statements_words : TypedStatements → ℕ
   statements_words nil = 0
   statements_words (cons s ss) = statement_words s + statements_words ss
 
+  -- how many words a statement has that may be absent
   pub optional_words : OptionalTypedStatement → ℕ
   optional_words absent = 0
   optional_words (present s) = statement_words s
@@ -134,6 +136,7 @@ unfoldable mutual
   statements_code frame targets at (cons s ss) =
       statement_code frame targets at s ++ statements_code frame targets (at + statement_words s) ss
 
+  -- the code of a statement that may be absent
   pub optional_code : Frame → Targets → (at : ℕ) → OptionalTypedStatement → List CodePart
   optional_code frame targets at absent = []
   optional_code frame targets at (present s) = statement_code frame targets at s

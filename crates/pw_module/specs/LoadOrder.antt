@@ -8,6 +8,7 @@ pub record Needing : Type 0 where
   pub name : List ℕ
   pub needs : List (List ℕ)
 
+-- The name and the needs of a module that is there as a whole.
 abbrev pub needing : Module → Needing
 needing m = record { name = m.soname; needs = m.needs }
 

@@ -53,6 +53,7 @@ pub record IsPointerRecord (modules : List Module) (g : FunctionNumber) : Type 0
   pub root : Contains it.deps.roots r
   pub means : BindsRecord modules place r.fun g
 
+-- The roots: the entry, and each function that a record of a root names.
 abbrev pub IsRootRecord : List Module → FunctionNumber → Type 0
 IsRootRecord modules g = IsEntryRecord modules g ⊎ IsPointerRecord modules g
 

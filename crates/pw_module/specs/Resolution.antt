@@ -14,12 +14,13 @@ use Rattle.pw_module.specs.LoadOrder.{order_of}
 
 -- ---- symbols
 
+-- A symbol of this kind is defined in its own module.
 abbrev pub is_defined : SymKind → Bool
 is_defined (Fun start size) = true
 is_defined (Var start size) = true
 is_defined Undefined = false
 
--- A symbol defines_name a name for other modules.
+-- A symbol defines a name for other modules.
 abbrev pub defines_name : List ℕ → Option Symbol → Bool
 defines_name name None = false
 defines_name name (Some s) = s.global && is_defined s.kind && bytes_eq s.name name
@@ -34,6 +35,7 @@ abbrev pub symbol_in : Option Module → ℕ → Option Symbol
 symbol_in None n = None
 symbol_in (Some m) n = option_and_then (λ s. s) (slice_get m.symbols n)
 
+-- The symbol of number n in module number m.
 abbrev pub module_symbol : List Module → (m n : ℕ) → Option Symbol
 module_symbol modules m n = symbol_in (slice_get modules m) n
 
@@ -44,6 +46,7 @@ abbrev pub as_definition : ℕ → Option ℕ → Option Def
 as_definition m None = None
 as_definition m (Some n) = Some (record { «module» = m; sym = n })
 
+-- The first definition of a name in the module of a number.
 abbrev pub bound_in : Option Module → ℕ → List ℕ → Option Def
 bound_in None m name = None
 bound_in (Some it) m name = as_definition m (defining_from 0 it.symbols name)
@@ -61,6 +64,7 @@ bound_name modules name = first_bound modules (order_of modules) name
 abbrev pub bound_to : List Module → (m n : ℕ) → Symbol → Option Def
 bound_to modules m n s = if s.global then bound_name modules s.name else Some (record { «module» = m; sym = n })
 
+-- What the symbol of number n in module number m means.
 abbrev pub bound_symbol : List Module → (m n : ℕ) → Option Def
 bound_symbol modules m n = option_and_then (bound_to modules m n) (module_symbol modules m n)
 

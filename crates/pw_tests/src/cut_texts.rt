@@ -1,5 +1,5 @@
-//! A text with every form of the grammar, cut behind each of its tokens: a unit where a declaration ends, as an
-//! independent model of the language tells, and else a fault at the end.
+//! A text with every form of the grammar, cut after each of its tokens: a unit where a declaration ends, as an
+//! independent model of the language says, and else a fault at the end.
 
 use pw_grammar::SyntaxError;
 use pw_lex::{Token, tokens};

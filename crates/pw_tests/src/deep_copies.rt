@@ -8,7 +8,7 @@ use std::alloc::{AllocError, Global};
 use std::process::Abort;
 use std::test::Fail;
 
-/// A function whose body is one statement, which nests: what is repeated in front of the core, and what behind it.
+/// A function whose body is one statement, which nests: what is repeated before the core, and what after it.
 #[derive(Clone, Copy)]
 struct Deep {
     head: &'static [u8],
@@ -53,7 +53,7 @@ fn done(open: &'static [u8], close: &'static [u8], times: usize, last: u32) -> D
     }
 }
 
-/// Prefix operators, choices behind a colon and behind a question mark, right operands, brackets and calls.
+/// Prefix operators, choices after a colon and after a question mark, right operands, brackets and calls.
 fn expressions() -> [Deep; 6] {
     [
         returned(b"-~", b"1", b"", 4000, 8008),

@@ -12,6 +12,7 @@ use Rattle.pw_tree.specs.declared.tunit.Init.TheVariants.{Num}
 use Rattle.pw_tree.specs.WellTypedUnits.{IsWellTyped}
 use Rattle.pw_tree_tests.specs.Units.{at, at_pointer, static_function, unit_of_function}
 
+-- the unit is not well typed
 abbrev pub IsIllTyped : TypedUnit → Type 0
 IsIllTyped unit = IsWellTyped unit → ⊥
 

@@ -6,16 +6,19 @@ use Rattle.pw_tree.specs.Units.{Function, TypedUnit}
 use Rattle.pw_tree.specs.declared.ty.Ty.{Ty}
 use Rattle.pw_tree.specs.declared.ty.Ty.TheVariants.{Void, Long, Ulong, Fn}
 
--- the marks of a long, an unsigned long, void, and a pointer to a function of k longs, at a line
+-- the mark of a long at a line
 abbrev pub at : ℕ → Mark
 at line = record { ty = Long; line = line }
 
+-- the mark of an unsigned long
 abbrev pub at_unsigned : ℕ → Mark
 at_unsigned line = record { ty = Ulong; line = line }
 
+-- the mark of void
 abbrev pub at_void : ℕ → Mark
 at_void line = record { ty = Void; line = line }
 
+-- the mark of a pointer to a function of k longs
 abbrev pub at_pointer : ℕ → ℕ → Mark
 at_pointer k line = record { ty = Fn k; line = line }
 
