@@ -6,56 +6,74 @@ use std::test::Fail;
 
 /// A text, and what stands after `refused: ` in its message.
 const ROWS: [(&str, &str); 18] = [
+    // no operand
     (
         "long main(void) { return 1 + ; }",
         "main.c: syntax at line 1 token 9",
     ),
+    // the text ends too early
     ("long", "main.c: syntax at line 1 token 1"),
+    // a comment without an end
     ("/*", "main.c: open comment at line 1 byte 0"),
+    // octal digits
     ("long x = 010;", "main.c: bad number at line 1 byte 9"),
+    // a fault of syntax comes before one of types
     (
         "long main(void) { return x; }\nlong g( {",
         "main.c: syntax at line 2 token 13",
     ),
+    // a fault of the text comes before one of syntax
     (
         "long main(void) { return x; }\nlong g( {@",
         "main.c: bad byte at line 2 byte 39",
     ),
+    // above 64 bits
     (
         "long main(void) { return 0x1ffffffffffffffff; }",
         "main.c: number too wide at line 1 byte 25",
     ),
+    // 64 bytes
     (
         "long aaaaaaaaaaaaaaaaaaaaaaaaaaaaaaaaaaaaaaaaaaaaaaaaaaaaaaaaaaaaaaaa;",
         "main.c: name too long at line 1 byte 5",
     ),
+    // no declaration
     (
         "long main(void) { return x; }",
         "main.c: type Unknown at line 1 token 7",
     ),
+    // an argument too few
     (
         "long f(long a) { return a; }\nlong main(void) { return f(); }",
         "main.c: type ArgCount at line 2 token 20",
     ),
+    // no loop
     (
         "long main(void) { break; return 0; }",
         "main.c: type OutsideLoop at line 1 token 7",
     ),
+    // a keyword of C
     ("long register;", "main.c: type Reserved at line 1 token 1"),
+    // an operator
     (
         "long main(void) { return 1 + 1; }",
         "main.c: form not built",
     ),
+    // a number above 2047
     ("long main(void) { return 2048; }", "main.c: form not built"),
+    // a variable
     (
         "long x; long main(void) { return 0; }",
         "main.c: form not built",
     ),
+    // a static function
     (
         "static long f(void) { return 1; } long main(void) { return 0; }",
         "main.c: form not built",
     ),
+    // no function
     ("", "app: no main"),
+    // no `main`
     ("long f(void) { return 1; }", "app: no main"),
 ];
 

@@ -6,29 +6,38 @@ use std::test::Fail;
 
 /// Texts at the limits of elements and parameters.
 const SIZES: [Row; 9] = [
+    // the least size
     ("long t[1];", "var t external size 1 values 0;name t l[1];"),
+    // the largest size
     (
         "long t[65536];",
         "var t external size 65536 values 0;name t l[65536];",
     ),
+    // one more
     ("long t[65537];", "ArraySize at line 1 token 4"),
+    // as many elements in all as a unit may have
     (
         "long a[65536]; long b[65536]; long c[65536]; static long d[65536];",
         "var a external size 65536 values 0;var b external size 65536 values 0;var c external size 65536 values 0;var d internal size 65536 values 0;name a l[65536];name b l[65536];name c l[65536];",
     ),
+    // an `extern` array has no elements here
     (
         "long a[65536]; long b[65536]; long c[65536]; static long d[65535]; extern long f[65536]; long e;",
         "var a external size 65536 values 0;var b external size 65536 values 0;var c external size 65536 values 0;var d internal size 65535 values 0;var e external size 0 values 0;name a l[65536];name b l[65536];name c l[65536];name e l;",
     ),
+    // one element more than a unit may have
     (
         "long a[65536]; long b[65536]; long c[65536]; static long d[65536]; extern long f[65536]; long e;",
         "ArraySize at line 1 token 33",
     ),
+    // as many parameters as there may be
     ("long f(long, unsigned long, fn6, long, long, long);", ""),
+    // the seventh is at fault, not the eighth
     (
         "long f(long, long, long, long, long, long, long, long);",
         "TooManyParameters at line 1 token 15",
     ),
+    // as many in a definition
     (
         "long f(long a, long b, long c, long d, long e, long g) { return 0; }",
         "fun f external line 1 locals 6 held 0;name f l(llllll);",

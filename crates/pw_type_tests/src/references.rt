@@ -7,46 +7,57 @@ use std::test::Fail;
 
 /// A text, and what the name means that its last function returns or calls.
 const MEANT: [Row; 11] = [
+    // the inner of two locals
     (
         "long w; long x; long main(void) { long x; long z; { long x; return x; } }",
         "local 2",
     ),
+    // the outer one after the block
     (
         "long w; long x; long main(void) { long x; long z; { long x; } return x; }",
         "local 0",
     ),
+    // after the block the name at file scope
     (
         "long w; long x; long main(void) { { long x; } return x; }",
         "external x",
     ),
+    // a name that no local hides
     (
         "long w; long x; long main(void) { long x; { long x; return w; } }",
         "external w",
     ),
+    // the second static variable
     (
         "static long a; static long b; long main(void) { return b; }",
         "variable 1",
     ),
+    // external, so by its name
     (
         "static long a; long b; long main(void) { return b; }",
         "external b",
     ),
+    // counted among the variables that the unit defines
     (
         "extern long f; long gg; long f; extern long gg; static long ff; long main(void) { return ff; }",
         "variable 2",
     ),
+    // counted by definitions, and not by prototypes
     (
         "static long f(void); static long f2(void) { return 0; } static long f(void) { return 0; } long main(void) { return f(); }",
         "function 1",
     ),
+    // defined before the other one
     (
         "static long f(void); static long f2(void) { return 0; } static long f(void) { return 0; } long main(void) { return f2(); }",
         "function 0",
     ),
+    // declared alone, so by its name
     (
         "long f(void); static long f2(void) { return 0; } long main(void) { return f(); }",
         "external f",
     ),
+    // a function as a value
     (
         "static long g(void) { return 0; } static long f(void) { return 0; } fn0 main(void) { return f; }",
         "function 1",
