@@ -170,14 +170,23 @@ fn a_thousand_arguments_are_no_command(rt: HostRuntime) -> Result<(), Fail> {
 #[test]
 fn words_are_text_and_fewer_than_the_limit_with_fewer_bytes(rt: HostRuntime) -> Result<(), Fail> {
     let rows: [(&[&[u8]], bool); 9] = [
+        // none
         (&[], true),
+        // empty ones
         (&[b"", b""], true),
+        // fewer than the limit
         (&[b"a", b"b"], true),
+        // two bytes that are one character
         (&[b"\xc3\xa4"], true),
+        // as many as the limit
         (&[b"", b"", b""], false),
+        // as many bytes as the limit
         (&[b"abc"], false),
+        // the bytes of all count together
         (&[b"ab", b"c"], false),
+        // the first byte of a character alone
         (&[b"\xc3"], false),
+        // a byte that no text has
         (&[b"a", b"\xff"], false),
     ];
     for (arguments, are_words) in rows {

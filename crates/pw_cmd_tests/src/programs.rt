@@ -46,9 +46,13 @@ const MAIN: [u32; 21] = [
 fn each_status_has_its_line_and_its_output(rt: HostRuntime) -> Result<(), Fail> {
     let one = ["one", "main.c"];
     let rows: [(&[&str], &[u8], Fails, u8, &[u8], &[u8]); 13] = [
+        // a program that ends with 0
         (&one, TWO_BYTES, NONE, 0, b"Hi", b"ended 0\n"),
+        // comments and brackets change nothing
         (&one, WITH_COMMENTS, NONE, 0, b"Hi", b"ended 0\n"),
+        // no function
         (&one, b"", NONE, 3, b"", b"refused: app: no main\n"),
+        // a number that is too large for the form
         (
             &one,
             b"long main(void) { return 2048; }",
@@ -57,6 +61,7 @@ fn each_status_has_its_line_and_its_output(rt: HostRuntime) -> Result<(), Fail> 
             b"",
             b"refused: main.c: form not built\n",
         ),
+        // the largest number
         (
             &one,
             b"long main(void) { return 2047; }",
@@ -65,7 +70,9 @@ fn each_status_has_its_line_and_its_output(rt: HostRuntime) -> Result<(), Fail> 
             b"",
             b"ended 2047\n",
         ),
+        // a file that is not there
         (&["one", "other.c"], b"", NONE, 6, b"", b"read failed\n"),
+        // a word that is no name
         (
             &["one", "a b"],
             b"",
@@ -74,6 +81,7 @@ fn each_status_has_its_line_and_its_output(rt: HostRuntime) -> Result<(), Fail> 
             b"",
             b"usage: pw COMMAND ARGUMENTS\n",
         ),
+        // no file is named
         (
             &["one"],
             b"",
@@ -82,7 +90,9 @@ fn each_status_has_its_line_and_its_output(rt: HostRuntime) -> Result<(), Fail> 
             b"",
             b"usage: pw COMMAND ARGUMENTS\n",
         ),
+        // no words
         (&[], b"", NONE, 2, b"", b"usage: pw COMMAND ARGUMENTS\n"),
+        // the third byte fails
         (
             &one,
             THREE_BYTES,
@@ -91,6 +101,7 @@ fn each_status_has_its_line_and_its_output(rt: HostRuntime) -> Result<(), Fail> 
             b"ab",
             b"write failed\n",
         ),
+        // the flush fails
         (
             &one,
             THREE_BYTES,
@@ -99,6 +110,7 @@ fn each_status_has_its_line_and_its_output(rt: HostRuntime) -> Result<(), Fail> 
             b"abc",
             b"write failed\n",
         ),
+        // the read fails
         (
             &one,
             TWO_BYTES,
@@ -110,6 +122,7 @@ fn each_status_has_its_line_and_its_output(rt: HostRuntime) -> Result<(), Fail> 
             b"",
             b"read failed\n",
         ),
+        // the third byte of the line fails
         (
             &one,
             TWO_BYTES,

@@ -12,39 +12,52 @@ use std::test::Fail;
 
 /// A text, and its functions and variables (name and line, or name alone) or its fault.
 const ROWS: [(&str, &str); 13] = [
+    // no operand
     (
         "long main(void) { return 1 + ; }",
         "syntax at line 1 token 9",
     ),
+    // the text ends too early
     ("long", "syntax at line 1 token 1"),
+    // the same, on the line of its end
     ("long\n\n", "syntax at line 3 token 1"),
+    // a comment without an end
     ("/*", "open comment at line 1 byte 0"),
+    // octal digits
     ("long x = 010;", "bad number at line 1 byte 9"),
+    // a fault of syntax comes before one of types
     (
         "long main(void) { return x; }\nlong g( {",
         "syntax at line 2 token 13",
     ),
+    // a fault of the text comes before one of syntax
     (
         "long main(void) { return x; }\nlong g( {@",
         "bad byte at line 2 byte 39",
     ),
+    // above 64 bits
     (
         "long main(void) { return 18446744073709551616; }",
         "number too wide at line 1 byte 25",
     ),
+    // no declaration
     (
         "long main(void) { return x; }",
         "type Unknown at line 1 token 7",
     ),
+    // an argument too few
     (
         "long f(long a) { return a; }\nlong main(void) { return f(); }",
         "type ArgCount at line 2 token 20",
     ),
+    // no loop
     (
         "long main(void) { break; return 0; }",
         "type OutsideLoop at line 1 token 7",
     ),
+    // a keyword of C
     ("long register;", "type Reserved at line 1 token 1"),
+    // no fault
     ("long x;\nlong main(void) { return x; }\n", "main/2 x "),
 ];
 
