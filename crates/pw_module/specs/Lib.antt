@@ -1,4 +1,5 @@
--- The data of modules, and what the bytes of a dependency table mean as such data.
+-- The data of modules: what the bytes of a dependency table mean as such data, with its laws, and what several modules are
+-- together: the load order, what symbols mean, and which functions are kept.
 pub mod Spelling
 pub mod Allowed
 pub mod Reading

@@ -1,7 +1,8 @@
 //! The data of modules, and what the bytes of a file mean as such data.
 //!
 //! Of the dependency table, `specs/` says what its bytes are, which tables are allowed, and how it is read from
-//! its first byte to its last with the first of its faults; the laws below tie the three together.
+//! its first byte to its last with the first of its faults; the laws below tie the three together. Of several modules, it
+//! says in which order they are loaded, what their symbols mean, and which functions are kept.
 #![tactic(auto)]
 
 mod dep_error;

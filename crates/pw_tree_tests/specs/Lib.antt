@@ -1,3 +1,4 @@
+-- Typed units that are written out: well-typed ones, and some that are not.
 pub mod Units
 pub mod Countdown
 pub mod ArithmeticUnits
