@@ -58,13 +58,21 @@ fn agree(rt: &impl Abort, alloc: Global, rows: &[Row]) -> Result<(), Fail> {
 }
 
 const EXPRESSIONS_STAND_DEEP_AND_LONG: [Row; 8] = [
+    // choices to the right
     (2000, b"a?a:", b"a", b"", (0, 8000, 8001)),
+    // choices in one another
     (2000, b"a?", b"a", b":a", (0, 8000, 8001)),
+    // prefix operators
     (8181, b"- ", b"5", b"", (0, 8181, 8182)),
+    // operands in a row
     (4090, b"a+", b"a", b"", (0, 8180, 8181)),
+    // brackets
     (199, b"(", b"a", b")", (199, 199, 399)),
+    // calls in arguments
     (199, b"f(a,", b"a", b")", (0, 995, 996)),
+    // indices under `-`
     (199, b"-a[", b"a", b"]", (0, 796, 797)),
+    // calls of what calls give
     (2700, b"", b"a", b"()", (0, 5400, 5401)),
 ];
 
