@@ -7,16 +7,24 @@ use std::test::Fail;
 
 /// Lines at every boundary of the code that loads them, and the code of a fault there.
 const FAULTS: [(u32, &str); 8] = [
+    // one instruction
     (1, "00100513 00100593 40200893 00000073"),
+    // the last of one
     (2047, "00100513 7ff00593 40200893 00000073"),
+    // the first of two
     (2048, "00100513 000015b7 8005859b 40200893 00000073"),
+    // the last whose upper part is positive
     (2147481599, "00100513 7ffff5b7 7ff5859b 40200893 00000073"),
+    // the first whose upper part wraps
     (2147481600, "00100513 800005b7 8005859b 40200893 00000073"),
+    // the last of 31 bits
     (2147483647, "00100513 800005b7 fff5859b 40200893 00000073"),
+    // the first that needs more than 31 bits
     (
         2147483648,
         "00100513 000805b7 0005859b 00c59593 00058593 40200893 00000073",
     ),
+    // the last line
     (
         4294967295,
         "00100513 001005b7 0005859b 00c59593 fff58593 40200893 00000073",
@@ -48,21 +56,25 @@ fn a_test_goes_past_its_fault_however_long_that_is(rt: HostRuntime) -> Result<()
 
 /// Sizes of arrays and lines, and the check of an index.
 const INDEXES: [(u32, u32, &str); 4] = [
+    // the least
     (
         1,
         1,
         "00100313 00656a63 00100513 00100593 40200893 00000073",
     ),
+    // the last of one instruction
     (
         2047,
         2047,
         "7ff00313 00656a63 00100513 7ff00593 40200893 00000073",
     ),
+    // the first of two
     (
         2048,
         2048,
         "00001337 8003031b 00656c63 00100513 000015b7 8005859b 40200893 00000073",
     ),
+    // the largest size and the last line
     (
         65536,
         4294967295,

@@ -40,9 +40,13 @@ fn result(alloc: Global, word: u32, dividend: u64, divisor: u64) -> Result<u64, 
 fn no_division_stops_the_processor(rt: HostRuntime) -> Result<(), Fail> {
     let least = 1 << 63;
     let rows = [
+        // overflow: the dividend
         (DIV, least, u64::MAX, least),
+        // overflow: 0
         (REM, least, u64::MAX, 0),
+        // by zero: all ones
         (DIV, 7, 0, u64::MAX),
+        // by zero: the dividend
         (REM, 7, 0, 7),
     ];
     for (word, dividend, divisor, want) in rows {
