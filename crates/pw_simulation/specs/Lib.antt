@@ -12,3 +12,4 @@ pub mod Straight
 pub mod Laws
 pub mod Tables
 pub mod Witness
+pub mod Programs
