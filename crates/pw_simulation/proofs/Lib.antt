@@ -23,3 +23,4 @@ pub mod ReadRows
 pub mod Singles
 pub mod Tables
 pub mod Witness
+pub mod CallPieces
