@@ -1,41 +1,36 @@
 -- The pieces of a call: the frame is opened, the parameters are stored, or no call is left; and the frame is left.
-use Rattle.std.proofs.Common.{◌≡◌, ℕ, zero, suc, ◌+◌, ◌-◌, ◌*◌, ◌/◌, ◌%◌, ◌^◌, ◌<◌, ◌≤◌, ◌≢◌, List, [], ◌∷◌, ◌++◌, length, refl, sym, ◌∙◌, ap, subst, arith, Some, pos, negsuc, ◌⊎◌, inl, inr}
+use Rattle.std.proofs.Common.{◌≡◌, ℕ, zero, suc, ◌+◌, ◌-◌, ◌*◌, ◌/◌, ◌%◌, ◌^◌, ◌<◌, ◌≤◌, ◌≢◌, List, ◌∷◌, length, refl, ◌∙◌, ap, subst, arith, Some, pos, negsuc}
 use Rattle.std.specs.Prelude.{◌-ℤ◌}
-use Rattle.std.specs.List.{AllByRecursion}
 use Rattle.std.proofs.lemmas.Int.{ints}
 use Rattle.std.proofs.lemmas.Bool.Decides.{nat_tests}
-use Rattle.pw_isa.specs.declared.instruction.Inst.TheVariants.{Sd, Ld, Addi, Bne, Jalr}
+use Rattle.pw_isa.specs.declared.instruction.Inst.TheVariants.{Sd, Addi, Bne}
 use Rattle.pw_tree.specs.Units.{Function}
 use Rattle.pw_tree.specs.Names.{Definition}
-use Rattle.pw_tree.specs.States.{Value, State, depth, checked}
-use Rattle.pw_tree.specs.WellTypedExpressions.{Class, IsValue}
-use Rattle.pw_mem.specs.Memory.{Mem}
+use Rattle.pw_tree.specs.States.{State, depth, checked}
 use Rattle.pw_mem.specs.Words.{doubleword, put_doubleword}
 use Rattle.pw_mem.proofs.Words.{word-put_same}
 use Rattle.pw_hart.specs.Bits.{bits64}
 use Rattle.pw_hart.specs.Integer.{add}
-use Rattle.pw_hart.specs.State.{MachineState, get, set, goes_on}
+use Rattle.pw_hart.specs.State.{MachineState, set, goes_on}
 use Rattle.pw_code.specs.Items.{CodePart, instruction, size}
-use Rattle.pw_code.specs.Frames.{frame_bytes, return_slot, local_slot}
+use Rattle.pw_code.specs.Frames.{frame_bytes, return_slot}
 use Rattle.pw_code.specs.Pieces.{past, fault}
-use Rattle.pw_code.specs.FunctionCode.{frame_of, store_parameters, opens, closes, function_words}
+use Rattle.pw_code.specs.FunctionCode.{frame_of, store_parameters, opens, closes}
 use Rattle.pw_code.proofs.Exports.{size-fault, fault_words_at_most}
 use Rattle.pw_simulation.specs.World.{World, InStack}
 use Rattle.pw_simulation.specs.CodeAt.{HasAt}
 use Rattle.pw_simulation.specs.Memories.{Keeps}
-use Rattle.pw_simulation.specs.Values.{Represents, IsCarried}
 use Rattle.pw_simulation.specs.Moments.{IsAt, Reaches, IsInside, Halts}
 use Rattle.pw_simulation.specs.Sees.{Sees, IsKeptFunction}
-use Rattle.pw_simulation.specs.Bodies.{Body, HasFrame, HasCallRoom}
-use Rattle.pw_simulation.specs.Calls.{AreInRegisters, IsAbove}
+use Rattle.pw_simulation.specs.Bodies.{Body, slots_end, HasFrame, HasCallRoom}
+use Rattle.pw_simulation.specs.Calls.{IsAbove}
 use Rattle.pw_simulation.specs.Programs.{body_of, IsRunnableFunction}
-use Rattle.pw_simulation.proofs.Reach.{reaches_here}
 use Rattle.pw_simulation.proofs.Placed.{has_prefix, has_rest, keeps_put}
 use Rattle.pw_simulation.proofs.Steps.{Moves, moves_then, moves_last, moves_on, moves_load, moves_store, moves_past, moves_into, moves_back}
-use Rattle.pw_simulation.proofs.Meets.{moved_at, halts_as, halts_after}
+use Rattle.pw_simulation.proofs.Meets.{moved_at, halts_after}
 use Rattle.pw_simulation.proofs.Pieces.{fault_halts}
 use Rattle.pw_simulation.proofs.Rows.{offset_is, put_at}
-use Rattle.pw_simulation.proofs.Sequences.{represents_small, one_more}
+use Rattle.pw_simulation.proofs.Sequences.{one_more}
 
 -- ---- the size of a frame
 
@@ -54,8 +49,36 @@ less_by p zero fits small = omega arith
 less_by p (suc k) fits small =
     let e : pos 0 -ℤ pos (suc k) ≡ negsuc k = omega (arith, ints) in ap (λ z. add p (bits64 z)) e ∙ omega arith
 
-get_parameter : (x : ℕ → ℕ) (i : ℕ) → get x (10 + i) ≡ x (10 + i)
-get_parameter x i = let e : 10 + i ≡ suc (9 + i) = omega arith in rw e refl
+module _ (w : World) (sees : Sees w) (d : Definition) (f : Function) (kept : IsKeptFunction w d f) (r : IsRunnableFunction w d f) where
+  -- how long the code of the fault is
+  short_fault : size (fault 4 f.line) ≤ 7
+  short_fault = omega (arith, size-fault 4 f.line, fault_words_at_most f.line r.typed.line)
+
+  past_words : (n : ℕ) (p : ℕ) → p + 4 * size (past (Bne 9 0) (fault 4 n)) ≡ p + 4 * suc (size (fault 4 n))
+  past_words n p = omega (arith, one_more (Bne 9 0 (pos (4 * suc (size (fault 4 n))))) (fault 4 n))
+
+  -- the code behind the test
+  abbrev opens_frame : List CodePart
+  opens_frame =
+      instruction (Addi 9 9 (negsuc 0)) ∷ instruction (Addi 2 2 (pos 0 -ℤ pos (frame_bytes (frame_of f)))) ∷ instruction (Sd 2 1 (return_slot (frame_of f)))
+      ∷ store_parameters 0 (length f.sig.params)
+
+  -- ---- no call is left
+
+  inside_function : (at : ℕ) → w.function_place d ≤ at → at < w.function_place d + 4 + 4 * size (fault 4 f.line) → IsInside w d at
+  inside_function at from to = record { function = f; there = kept.there; from = from; to = let words = size-fault 4 f.line in omega arith }
+
+  pub faults : (m u : ℕ) (st : State) (s : MachineState) (sp : ℕ) → IsAt w sp 0 st s → s.pc ≡ w.function_place d → HasAt w m u s.pc (opens f)
+      → Halts w (1 + size (fault 4 f.line)) (checked depth d f.line) st s
+  faults m u st s sp at place here =
+      let piece = fault 4 f.line in
+      let s1 : MachineState = record s { pc = s.pc + 4 } in
+      let go : Moves w s s1 = moves_into w sees.apart s 9 (4 * suc (size piece)) at.ready here.0 at.register in
+      let at1 = moved_at w sp 0 st s s.x s1.pc at refl refl in
+      let there = (has_prefix w m u s.pc (past (Bne 9 0) piece) opens_frame here).1 in
+      let small : f.line < 2 ^ 64 = let l = r.typed.line in omega arith in
+      halts_after w 1 (size piece) (checked depth d f.line) st s s1 (moves_last w s s1 go)
+      (fault_halts w sees.apart m u sp 0 depth f.line d st s1 small at1 there (λ a from to. inside_function a (omega arith) (omega arith)))
 
 -- ---- a call of a function, from a stack pointer, that leaves so many calls
 
@@ -91,10 +114,14 @@ module _ (w : World) (sees : Sees w) (d : Definition) (f : Function) (kept : IsK
   return_in : InStack w return_place
   return_in = let h = frame in let low = h.low in let top = h.high in let e = h.even in record { from = omega arith; to = omega arith; even = omega arith }
 
+  -- what stands behind the frame stands behind its slots
+  pub past_frame : (a : ℕ) → IsAbove stack_pointer a → slots_end body ≤ a
+  past_frame a above = let least = frame_least slots in let f_fits = fits in omega arith
+
   -- ---- the frame is opened
 
   -- A call is taken, the frame opened, and the return address kept.
-  pub record Opened (st : State) (s : MachineState) : Type 0 where
+  pub record Opened (m u : ℕ) (st : State) (s : MachineState) : Type 0 where
     pub end : MachineState
     pub reaches : Reaches w.code w.words 4 s end
     pub pc : end.pc ≡ s.pc + 4 * (4 + size (fault 4 f.line))
@@ -102,27 +129,15 @@ module _ (w : World) (sees : Sees w) (d : Definition) (f : Function) (kept : IsK
     pub keeps : Keeps (IsAbove stack_pointer) s.mem end.mem
     pub saved : doubleword end.mem return_place ≡ Some (s.x 1)
     pub arguments : (k : ℕ) → 10 ≤ k → end.x k ≡ s.x k
+    pub stores : HasAt w m u end.pc (store_parameters 0 (length f.sig.params))
 
-  -- how long the code of the fault is
-  short_fault : size (fault 4 f.line) ≤ 7
-  short_fault = omega (arith, size-fault 4 f.line, fault_words_at_most f.line r.typed.line)
-
-  past_words : (n : ℕ) (p : ℕ) → p + 4 * size (past (Bne 9 0) (fault 4 n)) ≡ p + 4 * suc (size (fault 4 n))
-  past_words n p = omega (arith, one_more (Bne 9 0 (pos (4 * suc (size (fault 4 n))))) (fault 4 n))
-
-  -- the code behind the test
-  abbrev opens_frame : List CodePart
-  opens_frame =
-      instruction (Addi 9 9 (negsuc 0)) ∷ instruction (Addi 2 2 (pos 0 -ℤ pos (frame_bytes (frame_of f)))) ∷ instruction (Sd 2 1 (return_slot (frame_of f)))
-      ∷ store_parameters 0 (length f.sig.params)
-
-  pub opens_runs : (m u : ℕ) (st : State) (s : MachineState) → IsAt w stack_pointer (suc c) st s → s.x 1 < 2 ^ 64 → HasAt w m u s.pc (opens f) → Opened st s
+  pub opens_runs : (m u : ℕ) (st : State) (s : MachineState) → IsAt w stack_pointer (suc c) st s → s.x 1 < 2 ^ 64 → HasAt w m u s.pc (opens f) → Opened m u st s
   opens_runs m u st s at small here =
       let h = frame in
       let piece = fault 4 f.line in
-      let short = short_fault in
+      let short = short_fault w sees d f kept r in
       let top = sees.apart.stack_is_low in
-      let code = subst (λ p. HasAt w m u p opens_frame) (past_words f.line s.pc) (has_rest w m u s.pc (past (Bne 9 0) piece) opens_frame here) in
+      let code = subst (λ p. HasAt w m u p (opens_frame w sees d f kept r)) (past_words w sees d f kept r f.line s.pc) (has_rest w m u s.pc (past (Bne 9 0) piece) (opens_frame w sees d f kept r) here) in
       let nine : s.x 9 ≢ 0 = λ e. omega (arith, at.register, e) in
       let s1 : MachineState = record s { pc = s.pc + 4 * suc (size piece) } in
       let go1 : Moves w s s1 = moves_past w sees.apart s 9 (4 * suc (size piece)) at.ready here.0 nine (omega arith) (omega arith) (omega arith) in
@@ -155,27 +170,11 @@ module _ (w : World) (sees : Sees w) (d : Definition) (f : Function) (kept : IsK
         keeps = keeps_put w s.mem return_place (s.x 1) (IsAbove stack_pointer) at.ready return_in (λ a above. let least = frame_least slots in let f = fits in omega arith);
         saved = word-put_same s.mem return_place was.value (s.x 1) small was.is;
         arguments = λ k from. others k from;
+        stores = code.1.1.1;
       }
     where
       others : (k : ℕ) → 10 ≤ k → set (set s.x 9 c) 2 base k ≡ s.x k
       others k from = let a : ◌≢◌ {A = ℕ} k 2 = (λ e. omega (arith, e)) in let b : ◌≢◌ {A = ℕ} k 9 = (λ e. omega (arith, e)) in grind (arith, nat_tests)
-
-  -- ---- no call is left
-
-  inside_function : (at : ℕ) → w.function_place d ≤ at → at < w.function_place d + 4 + 4 * size (fault 4 f.line) → IsInside w d at
-  inside_function at from to = record { function = f; there = kept.there; from = from; to = let words = size-fault 4 f.line in omega arith }
-
-  pub faults : (m u : ℕ) (st : State) (s : MachineState) (sp : ℕ) → IsAt w sp 0 st s → s.pc ≡ w.function_place d → HasAt w m u s.pc (opens f)
-      → Halts w (1 + size (fault 4 f.line)) (checked depth d f.line) st s
-  faults m u st s sp at place here =
-      let piece = fault 4 f.line in
-      let s1 : MachineState = record s { pc = s.pc + 4 } in
-      let go : Moves w s s1 = moves_into w sees.apart s 9 (4 * suc (size piece)) at.ready here.0 at.register in
-      let at1 = moved_at w sp 0 st s s.x s1.pc at refl refl in
-      let there = (has_prefix w m u s.pc (past (Bne 9 0) piece) opens_frame here).1 in
-      let small : f.line < 2 ^ 64 = let l = r.typed.line in omega arith in
-      halts_after w 1 (size piece) (checked depth d f.line) st s s1 (moves_last w s s1 go)
-      (fault_halts w sees.apart m u sp 0 depth f.line d st s1 small at1 there (λ a from to. inside_function a (omega arith) (omega arith)))
 
   -- ---- the frame is left
 

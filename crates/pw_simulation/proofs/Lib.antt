@@ -24,3 +24,6 @@ pub mod Singles
 pub mod Tables
 pub mod Witness
 pub mod CallPieces
+pub mod Parameters
+pub mod CallLaws
+pub mod Calls
