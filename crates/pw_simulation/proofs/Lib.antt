@@ -27,3 +27,4 @@ pub mod CallPieces
 pub mod Parameters
 pub mod CallLaws
 pub mod Calls
+pub mod Runs

@@ -126,11 +126,14 @@ module _ (w : World) (sees : Sees w) (b : Body) (frame : HasFrame w b) where
             (subst (λ k. Reaches w.code w.words k s end) own (moves_then w (length cs) s t end go rest.reaches));
         at = same_pc st end (s.pc + 4 * suc (length cs)) next rest.at;
         keeps = λ a beside. rest.keeps a (beside_more a beside) ∙ keeps_put w s.mem place word (IsBeside i (suc (length cs))) at.ready in_it (λ p p_beside. apart p p_beside) a beside;
-        stored = ((record {
-          word = word;
-          is = rest.keeps place (inl (omega arith)) ∙ word-put_same s.mem place was.value word small was.is;
-          represents = subst (λ v. Represents w c x v) (sym word_is) h.0;
-        }), rest.stored);
+        stored = (
+          (record {
+            word = word;
+            is = rest.keeps place (inl (omega arith)) ∙ word-put_same s.mem place was.value word small was.is;
+            represents = subst (λ v. Represents w c x v) (sym word_is) h.0;
+          }),
+          rest.stored,
+        );
       }
     where
       beside_more : (a : ℕ) → IsBeside i (suc (length cs)) a → IsBeside (suc i) (length cs) a
