@@ -28,3 +28,5 @@ pub mod Parameters
 pub mod CallLaws
 pub mod Calls
 pub mod Runs
+pub mod AnyRun
+pub mod LimitedRuns

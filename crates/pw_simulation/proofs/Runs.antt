@@ -1,5 +1,5 @@
 -- Whole runs: the entry calls `main`, and the run ends with what that comes to.
-use Rattle.std.proofs.Common.{◌≡◌, ◌≢◌, ℕ, ◌+◌, ◌*◌, ◌≤◌, List, [], ◌∷◌, length, length-append, map, refl, sym, ◌∙◌, ap, subst, arith, codes, pos}
+use Rattle.std.proofs.Common.{◌≡◌, ◌≢◌, ℕ, ◌+◌, ◌*◌, ◌<◌, ◌≤◌, List, [], ◌∷◌, ◌++◌, length, length-append, map, refl, sym, ◌∙◌, ap, subst, arith, codes, pos}
 use Rattle.std.specs.List.{AllByRecursion}
 use Rattle.pw_isa.specs.declared.instruction.Inst.TheVariants.{Addi, Ecall}
 use Rattle.pw_tree.specs.declared.ty.Ref.TheVariants.{Global}
@@ -8,7 +8,7 @@ use Rattle.pw_tree.specs.States as values
 use Rattle.pw_tree.specs.Meaning.{call_of, definition_or_first, initial_state, Run, run_of, meaning, main_definition}
 use Rattle.pw_tree.specs.WellTypedExpressions.{class_of, number}
 use Rattle.pw_hart.specs.declared.ends.End.{End}
-use Rattle.pw_hart.specs.declared.ends.End.TheVariants.{Exit}
+use Rattle.pw_hart.specs.declared.ends.End.TheVariants.{Exit, Limit}
 use Rattle.pw_hart.specs.State.{MachineState, Ends, set}
 use Rattle.pw_hart.specs.Run.{run, step}
 use Rattle.pw_code.specs.Items.{instruction}
@@ -21,9 +21,11 @@ use Rattle.pw_simulation.specs.Sees.{Sees, IsKeptFunction}
 use Rattle.pw_simulation.specs.Bodies.{GivesValue}
 use Rattle.pw_simulation.specs.Calls.{AreInRegisters, IsCalling, IsAbove, CallsRun}
 use Rattle.pw_simulation.specs.Programs.{HasMain, LiesInKeptCode, IsRunnable, IsStart, EndsAs, RunsAsMeant}
+use Rattle.pw_simulation.specs.AnyRuns.{BeginsAsMeant}
 use Rattle.pw_simulation.proofs.Reach.{run_to_end, all_append, reaches_then, reaches_as}
 use Rattle.pw_simulation.proofs.Steps.{step_is, Moves, moves_then, moves_last, moves_on}
 use Rattle.pw_simulation.proofs.Pieces.{address_runs}
+use Rattle.pw_simulation.proofs.LimitedRuns.{limited_runs_go_on, fetched_next}
 
 module _ (w : World) (sees : Sees w) (runnable : IsRunnable w) (input : List ℕ) (bound : ℕ) (s : MachineState) (start : IsStart w input bound s) where
   abbrev main : HasMain w
@@ -171,3 +173,29 @@ module _ (w : World) (sees : Sees w) (runnable : IsRunnable w) (input : List ℕ
       let met = calls w.stack_high 1000 main.d main.function_is [] first c.at_call c.calling (omega arith) in
       as_meant (meaning w.project input bound) limit enough
       (subst (λ d. Finishes (run_of (call_of w.project bound d [] first))) main_is (finishes c (call_of w.project bound main.d [] first) met))
+
+-- ---- runs that are cut short
+
+left_kept : (P : ℕ → Type 0) (ps qs : List ℕ) → AllByRecursion P (ps ++ qs) → AllByRecursion P ps
+left_kept P [] qs h = tt
+left_kept P (p ∷ ps) qs h = (h.0, left_kept P ps qs h.1)
+
+first_kept : (P : ℕ → Type 0) (ps qs : List ℕ) (p : ℕ) → AllByRecursion P (ps ++ p ∷ qs) → P p
+first_kept P [] qs p h = h.0
+first_kept P (q ∷ ps) qs p h = first_kept P ps qs p h.1
+
+-- the beginning of a run that is as meant
+pub begins_as_meant : (w : World) (means : Run) (bound k limit : ℕ) (s : MachineState) → k < limit → (run k s).end ≡ Limit
+    → RunsAsMeant w means bound (run limit s) → BeginsAsMeant w means (run k s)
+begins_as_meant w means bound k limit s below e o =
+    let longer = limited_runs_go_on k limit s (omega arith) e in
+    let next = fetched_next k limit s below e in
+    let all = subst (λ ps. AllByRecursion (LiesInKeptCode w) ps) next.1 o.kept in
+    record {
+      more_output = longer.more_output;
+      output = sym o.writes ∙ longer.output;
+      taken = longer.taken;
+      input = longer.input ∙ ap (λ rest. longer.taken ++ rest) o.reads;
+      kept = left_kept (LiesInKeptCode w) (run k s).fetched ((run k s).state.pc ∷ next.0) all;
+      next = first_kept (LiesInKeptCode w) (run k s).fetched next.0 (run k s).state.pc all;
+    }

@@ -14,3 +14,4 @@ pub mod Laws
 pub mod Tables
 pub mod Witness
 pub mod Programs
+pub mod AnyRuns

@@ -1,5 +1,6 @@
 //! The laws of a run, over definitions alone. Each is the contract of a function, which does nothing.
 
+ghost use Rattle.pw_simulation.specs.AnyRuns.{SealedTextStaysInRuns, LimitedRunsGoOn};
 ghost use Rattle.pw_simulation.specs.Calls.{ExpressionsRun};
 ghost use Rattle.pw_simulation.specs.Laws.{AddressesAreBrought, LoadsAreCarriedOut, StoresAreCarriedOut, FaultsStop};
 ghost use Rattle.pw_simulation.specs.Straight.{LoadImmediateLoads};
@@ -39,4 +40,14 @@ pub fn expressions_run()
 /// pointer: the laws about worlds are not empty.
 pub fn a_world_shows_a_project()
     ensures { WorldSees }
+{}
+
+/// However long a run is, the text of a sealed memory stays, and so do its regions.
+pub fn sealed_text_stays_in_runs()
+    ensures { SealedTextStaysInRuns }
+{}
+
+/// A run that stops at its limit is the beginning of each longer run.
+pub fn limited_runs_go_on()
+    ensures { LimitedRunsGoOn }
 {}

@@ -6,5 +6,6 @@ mod laws;
 
 pub use laws::{
     a_world_shows_a_project, addresses_are_brought, expressions_run, faults_stop,
-    load_immediate_loads, loads_are_carried_out, stores_are_carried_out,
+    limited_runs_go_on, load_immediate_loads, loads_are_carried_out, sealed_text_stays_in_runs,
+    stores_are_carried_out,
 };
