@@ -30,3 +30,4 @@ pub mod Calls
 pub mod Runs
 pub mod AnyRun
 pub mod LimitedRuns
+pub mod Meaning
