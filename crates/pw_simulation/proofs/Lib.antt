@@ -19,6 +19,7 @@ pub mod CallRows
 pub mod PointerRows
 pub mod BinaryRows
 pub mod Expressions
+pub mod StatementParts
 pub mod ReadRows
 pub mod Singles
 pub mod Tables
