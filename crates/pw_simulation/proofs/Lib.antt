@@ -20,6 +20,7 @@ pub mod PointerRows
 pub mod BinaryRows
 pub mod Expressions
 pub mod StatementParts
+pub mod StatementRows
 pub mod ReadRows
 pub mod Singles
 pub mod Tables

@@ -3,7 +3,7 @@ use Rattle.std.proofs.Common.{◌≡◌, ℕ, suc, ◌+◌, ◌-◌, ◌*◌, �
 use Rattle.std.specs.Prelude.{◌||◌, nat_lt, nat_eq}
 use Rattle.std.proofs.lemmas.Bool.Decides.{nat_tests}
 use Rattle.pw_isa.specs.declared.instruction.Inst.TheVariants.{Jal}
-use Rattle.pw_tree.specs.States.{Value, State, Locals, Outcome, gives, stops, and_then}
+use Rattle.pw_tree.specs.States.{Value, State, Locals, Outcome, gives, and_then}
 use Rattle.pw_tree.specs.Execution.{Completion, normal, broke, continued, returned, followed}
 use Rattle.pw_tree.specs.TypedStatements.{TypedStatement}
 use Rattle.pw_tree.specs.WellTypedExpressions.{Class, IsKnown}
@@ -15,15 +15,15 @@ use Rattle.pw_hart.specs.Integer.{add}
 use Rattle.pw_hart.specs.State.{MachineState, Goes, Ends}
 use Rattle.pw_hart.specs.Run.{step}
 use Rattle.pw_code.specs.Items.{CodePart, instruction, size}
-use Rattle.pw_code.specs.Pieces.{back, jump}
+use Rattle.pw_code.specs.Pieces.{jump}
 use Rattle.pw_code.proofs.Exports.{size-append}
 use Rattle.pw_simulation.specs.World.{World}
 use Rattle.pw_simulation.specs.Memories.{IsReady, Keeps}
 use Rattle.pw_simulation.specs.Values.{Represents}
-use Rattle.pw_simulation.specs.Moments.{IsAt, IsCode, Meets}
+use Rattle.pw_simulation.specs.Moments.{IsAt, Meets}
 use Rattle.pw_simulation.specs.Sees.{Sees}
 use Rattle.pw_simulation.specs.Bodies.{Body, HasFrame, IsUntouched, AreLocalsCarried, IsReadyFor, GivesValue, Runs}
-use Rattle.pw_simulation.specs.Statements.{word_place, IsPastSlots, Surroundings, IsAhead, AreAhead, IsAboutToRun, CompletesAt, RunsStatement}
+use Rattle.pw_simulation.specs.Statements.{word_place, IsPastSlots, Surroundings, AreAhead, IsAboutToRun, CompletesAt, RunsStatement}
 use Rattle.pw_simulation.proofs.Reach.{reaches_here, reaches_as}
 use Rattle.pw_simulation.proofs.Steps.{step_is, Moves, moves_ahead}
 use Rattle.pw_simulation.proofs.Meets.{meets_then, meets_as}
