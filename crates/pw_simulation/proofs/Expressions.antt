@@ -75,7 +75,7 @@ AreOf (c ∷ cs) (cons e es) = (class e ≡ c) × IsValue c × AreOf cs es
 AreOf [] (cons e es) = ⊥
 AreOf (c ∷ cs) nil = ⊥
 
-value_class : (ty : Ty) → Rattle.pw_tree.specs.Types.IsValueType ty → IsValue (class_of ty)
+pub value_class : (ty : Ty) → Rattle.pw_tree.specs.Types.IsValueType ty → IsValue (class_of ty)
 value_class Void h = absurd h
 value_class Long h = tt
 value_class Ulong h = tt

@@ -21,6 +21,7 @@ pub mod BinaryRows
 pub mod Expressions
 pub mod StatementParts
 pub mod StatementRows
+pub mod VariableRows
 pub mod ReadRows
 pub mod Singles
 pub mod Tables
