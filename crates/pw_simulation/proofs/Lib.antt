@@ -22,6 +22,7 @@ pub mod Expressions
 pub mod StatementParts
 pub mod StatementRows
 pub mod VariableRows
+pub mod SetElementRows
 pub mod ReadRows
 pub mod Singles
 pub mod Tables

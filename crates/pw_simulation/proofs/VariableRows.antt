@@ -1,44 +1,37 @@
--- The rows that set a variable and an element of an array, and what a store in an element leaves.
+-- The row that sets a variable, and what a store in an element leaves.
 use Rattle.std.proofs.Common.{◌≡◌, ◌≢◌, ℕ, suc, ◌+◌, ◌*◌, ◌%◌, ◌^◌, ◌<◌, ◌≤◌, Bool, true, false, eqb, List, [], ◌∷◌, ◌++◌, Option, Some, refl, sym, ◌∙◌, ap, subst, arith, inl, inr, pos, append_assoc}
-use Rattle.std.specs.Prelude.{◌&&◌, nat_eq, nat_lt, ℤ}
+use Rattle.std.specs.Prelude.{◌&&◌, nat_eq}
 use Rattle.std.proofs.lemmas.Bool.Decides.{nat_tests}
-use Rattle.pw_isa.specs.declared.instruction.Inst.TheVariants.{Slli, Add, Ld, Sd}
+use Rattle.pw_isa.specs.declared.instruction.Inst.TheVariants.{Sd}
 use Rattle.pw_tree.specs.declared.tunit.TVar.{TVar}
 use Rattle.pw_tree.specs.declared.ty.Ref.{Ref}
 use Rattle.pw_tree.specs.Meaning.{named_in, definition_or_first}
 use Rattle.pw_tree.specs.Names.{Definition, same_definition}
-use Rattle.pw_tree.specs.States.{Value, null, pointer, State, with_element, Locals, Outcome, gives, and_then, index, chosen}
-use Rattle.pw_tree.specs.States as values
-use Rattle.pw_tree.specs.Evaluation.{indexed, fails}
+use Rattle.pw_tree.specs.States.{Value, State, with_element, Locals, Outcome, gives, and_then}
 use Rattle.pw_tree.specs.Execution.{Completion, normal, stores}
-use Rattle.pw_tree.specs.WellTypedExpressions.{Class, number, class_of, IsValue}
+use Rattle.pw_tree.specs.WellTypedExpressions.{Class, class_of, IsValue}
 use Rattle.pw_mem.specs.Memory.{Mem}
 use Rattle.pw_mem.specs.Words.{doubleword, put_doubleword}
 use Rattle.pw_mem.proofs.Words.{word-put_same, word-put_other, fetch-put_word}
 use Rattle.pw_hart.specs.Bits.{bits64}
-use Rattle.pw_hart.specs.Integer.{add, sll}
-use Rattle.pw_hart.specs.State.{MachineState, set, goes_on}
+use Rattle.pw_hart.specs.Integer.{add}
+use Rattle.pw_hart.specs.State.{MachineState}
 use Rattle.pw_code.specs.Items.{CodePart, instruction, address, size}
-use Rattle.pw_code.specs.Frames.{held_slot}
-use Rattle.pw_code.specs.Pieces.{check_index, hold}
 use Rattle.pw_code.proofs.Exports.{size-append}
 use Rattle.pw_agree.proofs.Levels.{same_definition_is}
 use Rattle.pw_simulation.specs.World.{World, entity_place}
 use Rattle.pw_simulation.specs.Memories.{IsReady}
 use Rattle.pw_simulation.specs.Values.{Represents, IsCarried, IsElement, AreCarried}
-use Rattle.pw_simulation.specs.Moments.{IsAt, Reaches, Meets}
+use Rattle.pw_simulation.specs.Moments.{IsAt, Meets}
 use Rattle.pw_simulation.specs.Sees.{Sees}
-use Rattle.pw_simulation.specs.Bodies.{Body, HasFrame, IsUntouched, MeansVariable, AreLocalsCarried, IsReadyFor, context_of, Stands, GivesValue, Runs}
-use Rattle.pw_simulation.specs.Statements.{word_place, IsPastSlots, Surroundings, IsAboutToRun, CompletesAt, RunsStatement}
-use Rattle.pw_simulation.proofs.Reach.{reaches_then}
+use Rattle.pw_simulation.specs.Bodies.{Body, HasFrame, MeansVariable, AreLocalsCarried, IsReadyFor, Stands, Runs}
+use Rattle.pw_simulation.specs.Statements.{word_place, IsPastSlots, Surroundings, CompletesAt, RunsStatement}
 use Rattle.pw_simulation.proofs.Placed.{fetches_same, some_after}
-use Rattle.pw_simulation.proofs.Steps.{Moves, moves_then, moves_last, moves_on, moves_load, moves_store}
-use Rattle.pw_simulation.proofs.Meets.{moved_at, meets_after, meets_then, meets_as}
+use Rattle.pw_simulation.proofs.Steps.{moves_last, moves_store}
+use Rattle.pw_simulation.proofs.Meets.{moved_at, meets_after}
 use Rattle.pw_simulation.proofs.Pieces.{address_runs}
-use Rattle.pw_simulation.proofs.Rows.{stands_prefix, stands_rest, offset_is, still_ready, holds_value}
-use Rattle.pw_simulation.proofs.Sequences.{represents_small, one_word, one_more}
-use Rattle.pw_simulation.proofs.IndexRows.{index_passes, index_stops}
-use Rattle.pw_simulation.proofs.StatementParts.{carried_stay, ready_after, about_rest, AfterValue, part_as, value_part}
+use Rattle.pw_simulation.proofs.Sequences.{represents_small}
+use Rattle.pw_simulation.proofs.StatementParts.{ready_after, part_as, value_part}
 
 both_left : (t u : Bool) → (t && u) ≡ true → t ≡ true
 both_left true u h = refl
@@ -54,14 +47,6 @@ both_hold false u e h = cc
 
 itself : (d : Definition) → same_definition d d ≡ true
 itself d = grind (arith, nat_tests)
-
--- a tail of the code that sets an element
-abbrev put_tail : (slot : ℤ) → Ref → List CodePart
-put_tail slot name = instruction (Ld 6 2 slot) ∷ instruction (Slli 6 6 3) ∷ address 5 name ∷ instruction (Add 5 5 6) ∷ instruction (Sd 5 10 (pos 0)) ∷ []
-
-put_words : (slot : ℤ) (name : Ref) → size (put_tail slot name) ≡ 6
-unfolding size
-put_words slot name = refl
 
 variable_words : (name : Ref) → size (address 5 name ∷ instruction (Sd 5 10 (pos 0)) ∷ []) ≡ 3
 unfolding size
@@ -141,7 +126,7 @@ module _ (w : World) (sees : Sees w) (b : Body) (frame : HasFrame w b) where
     named = named_in w.project b.self.in_module b.self.in_unit name
 
     -- a0 is put into an element, whose address is in t0
-    store_meets : (behind k : ℕ) (locals : Locals) (y : Value) (st : State) (s : MachineState) → IsReadyFor w b known locals n st s → IsElement w means.d k means.variable
+    pub store_meets : (behind k : ℕ) (locals : Locals) (y : Value) (st : State) (s : MachineState) → IsReadyFor w b known locals n st s → IsElement w means.d k means.variable
         → w.code s.pc ≡ Some (Sd 5 10 (pos 0)) → s.x 5 ≡ w.variable_place means.d + 8 * k → Represents w c y (s.x 10) → s.pc + 4 ≡ word_place w b behind
         → Meets w (IsPastSlots b) b.stack_pointer b.calls_left 1 (CompletesAt w b around known known behind) (gives (normal locals) (with_element named k y st)) s
     store_meets behind k locals y st s r element here is stands_for next =
