@@ -23,6 +23,7 @@ pub mod StatementParts
 pub mod StatementRows
 pub mod VariableRows
 pub mod SetElementRows
+pub mod IfRows
 pub mod ReadRows
 pub mod Singles
 pub mod Tables

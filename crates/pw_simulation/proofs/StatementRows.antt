@@ -69,19 +69,19 @@ module _ (w : World) (sees : Sees w) (b : Body) (frame : HasFrame w b) (n : ℕ)
   -- ---- jumps
 
   -- a jump to a target
-  pub jump_runs : (around : Surroundings) (at to : ℕ) (rest : List CodePart) (st : State) (s : MachineState) → IsAt w b.stack_pointer b.calls_left st s → IsAboutToRun w b around at (jump at to ∷ rest) s → at < to → to < 2 ^ 18
+  pub target_runs : (around : Surroundings) (at to : ℕ) (rest : List CodePart) (st : State) (s : MachineState) → IsAt w b.stack_pointer b.calls_left st s → IsAboutToRun w b around at (jump at to ∷ rest) s → at < to → to < 2 ^ 18
       → Reaches w.code w.words 1 s (record s { pc = word_place w b to })
-  jump_runs around at to rest st s at_s here less near =
+  target_runs around at to rest st s at_s here less near =
       let there = subst (λ part. IsAboutToRun w b around at (part ∷ rest) s) (jump_is_ahead at to (omega arith)) here in
       moves_last w s (record s { pc = word_place w b to }) (moves_to_word w sees b at to s at_s.ready here.here there.code_there.code_at.0 less near)
 
   -- and what it comes to
-  pub jump_meets : {A : Type 0} (P : A → MachineState → Type 0) (around : Surroundings) (at to : ℕ) (rest : List CodePart) (x : A) (st : State) (s : MachineState) → IsAt w b.stack_pointer b.calls_left st s
+  pub target_meets : {A : Type 0} (P : A → MachineState → Type 0) (around : Surroundings) (at to : ℕ) (rest : List CodePart) (x : A) (st : State) (s : MachineState) → IsAt w b.stack_pointer b.calls_left st s
       → IsAboutToRun w b around at (jump at to ∷ rest) s → at < to → to < 2 ^ 18 → P x (record s { pc = word_place w b to })
       → Meets w (IsPastSlots b) b.stack_pointer b.calls_left 1 P (gives x st) s
-  jump_meets P around at to rest x st s at_s here less near holds = record {
+  target_meets P around at to rest x st s at_s here less near holds = record {
     end = record s { pc = word_place w b to };
-    reaches = jump_runs around at to rest st s at_s here less near;
+    reaches = target_runs around at to rest st s at_s here less near;
     at = moved_at w b.stack_pointer b.calls_left st s s.x (word_place w b to) at_s refl refl;
     keeps = λ _ _. refl;
     holds = holds;
@@ -93,7 +93,7 @@ module _ (w : World) (sees : Sees w) (b : Body) (frame : HasFrame w b) (n : ℕ)
       let target = here.ahead.for_break e in
       let from = target.from in
       meets_as w (IsPastSlots b) b.stack_pointer b.calls_left 1 (size code) Q Q (gives (broke locals) st) s (omega (arith, one)) (λ _ _ g. g)
-      (jump_meets Q around at around.targets.break_to [] (broke locals) st s r.at here (omega (arith, one)) target.near (e, refl, r.carried))
+      (target_meets Q around at around.targets.break_to [] (broke locals) st s r.at here (omega (arith, one)) target.near (e, refl, r.carried))
     where
       code : List CodePart
       code = jump at around.targets.break_to ∷ []
@@ -107,7 +107,7 @@ module _ (w : World) (sees : Sees w) (b : Body) (frame : HasFrame w b) (n : ℕ)
       let target = here.ahead.for_continue e in
       let from = target.from in
       meets_as w (IsPastSlots b) b.stack_pointer b.calls_left 1 (size code) Q Q (gives (continued locals) st) s (omega (arith, one)) (λ _ _ g. g)
-      (jump_meets Q around at around.targets.continue_to [] (continued locals) st s r.at here (omega (arith, one)) target.near (e, refl, r.carried))
+      (target_meets Q around at around.targets.continue_to [] (continued locals) st s r.at here (omega (arith, one)) target.near (e, refl, r.carried))
     where
       code : List CodePart
       code = jump at around.targets.continue_to ∷ []
@@ -123,7 +123,7 @@ module _ (w : World) (sees : Sees w) (b : Body) (frame : HasFrame w b) (n : ℕ)
       let one = jump_size at around.targets.return_to [] in
       let target = here.ahead.for_return in
       let from = target.from in
-      jump_meets (CompletesAt w b around known known behind) around at around.targets.return_to [] (returned x) st s at_s here (omega (arith, one)) target.near (refl, stands_for)
+      target_meets (CompletesAt w b around known known behind) around at around.targets.return_to [] (returned x) st s at_s here (omega (arith, one)) target.near (refl, stands_for)
 
   -- `return;`
   pub return_row : (around : Surroundings) (known : List ℕ) (at : ℕ) → around.result ≡ nothing → RunsStatement w b around known known n at (jump (at + 0) around.targets.return_to ∷ []) (λ locals st. and_then (gives None st) (λ v. gives (returned v)))
