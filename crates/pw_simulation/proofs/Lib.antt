@@ -24,6 +24,7 @@ pub mod StatementRows
 pub mod VariableRows
 pub mod SetElementRows
 pub mod IfRows
+pub mod Loops
 pub mod ReadRows
 pub mod Singles
 pub mod Tables

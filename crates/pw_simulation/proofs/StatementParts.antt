@@ -1,6 +1,6 @@
 -- What the rows of statements stand on: known locals, places among words, jumps, and one part of a statement after another.
 use Rattle.std.proofs.Common.{◌≡◌, ℕ, suc, ◌+◌, ◌-◌, ◌*◌, ◌%◌, ◌^◌, ◌<◌, ◌≤◌, Bool, true, false, eqb, leb, List, ◌∷◌, ◌++◌, Some, refl, sym, ◌∙◌, subst, arith, inr, pos, negsuc}
-use Rattle.std.specs.Prelude.{◌||◌, nat_lt, nat_eq}
+use Rattle.std.specs.Prelude.{◌||◌, nat_lt, nat_eq, ℤ}
 use Rattle.std.proofs.lemmas.Bool.Decides.{nat_tests}
 use Rattle.pw_isa.specs.declared.instruction.Inst.TheVariants.{Jal}
 use Rattle.pw_tree.specs.States.{Value, State, Locals, Outcome, gives, and_then}
@@ -22,7 +22,7 @@ use Rattle.pw_simulation.specs.Memories.{IsReady, Keeps}
 use Rattle.pw_simulation.specs.Values.{Represents}
 use Rattle.pw_simulation.specs.Moments.{IsAt, Meets}
 use Rattle.pw_simulation.specs.Sees.{Sees}
-use Rattle.pw_simulation.specs.Bodies.{Body, HasFrame, IsUntouched, AreLocalsCarried, IsReadyFor, GivesValue, Runs}
+use Rattle.pw_simulation.specs.Bodies.{Body, HasFrame, IsUntouched, AreLocalsCarried, IsReadyFor, Stands, GivesValue, Runs}
 use Rattle.pw_simulation.specs.Statements.{word_place, IsPastSlots, Surroundings, AreAhead, IsAboutToRun, CompletesAt, RunsStatement}
 use Rattle.pw_simulation.proofs.Reach.{reaches_here, reaches_as}
 use Rattle.pw_simulation.proofs.Steps.{step_is, Moves, moves_ahead}
@@ -87,29 +87,43 @@ module _ (w : World) (sees : Sees w) (b : Body) where
       let e : s.pc + 4 * (to - from) ≡ word_place w b to = omega arith in
       subst (λ p. Moves w s (record s { pc = p })) e (moves_ahead w sees.apart s (4 * (to - from)) ready there (omega arith) (omega arith) (omega arith))
 
-  -- a jump back to a word takes a step,
-  pub step_back : (from to left : ℕ) (s : MachineState) → IsReady w s.mem → s.pc ≡ word_place w b from → w.code s.pc ≡ Some (Jal 0 (negsuc (3 + 4 * (from - suc to)))) → to < from → s.steps ≡ suc left
+  -- A jump to the same word or back stands at a word.
+  pub record GoesRound (from to : ℕ) (s : MachineState) : Type 0 where
+    pub by : ℤ
+    pub there : w.code s.pc ≡ Some (Jal 0 by)
+    pub target : add s.pc (bits64 by) ≡ word_place w b to
+
+  pub goes_round : (from to : ℕ) (rest : List CodePart) (s : MachineState) → s.pc ≡ word_place w b from → Stands w b s.pc (jump from to ∷ rest) → to ≤ from → GoesRound from to s
+  goes_round from to rest s here there less = by_test (nat_lt to from) refl
+    where
+      by_test : (t : Bool) → nat_lt to from ≡ t → GoesRound from to s
+      by_test true e =
+          let below : to < from = grind (arith, nat_tests) in
+          let stands = subst (λ part. Stands w b s.pc (part ∷ rest)) (jump_is_back from to below) there in
+          let low = sees.apart.code_low s.pc (Jal 0 (negsuc (3 + 4 * (from - suc to)))) stands.code_at.0 in
+          record { by = negsuc (3 + 4 * (from - suc to)); there = stands.code_at.0; target = omega arith }
+      by_test false e =
+          let same : from ≤ to = grind (arith, nat_tests) in
+          let stands = subst (λ part. Stands w b s.pc (part ∷ rest)) (jump_is_ahead from to same) there in
+          let low = sees.apart.code_low s.pc (Jal 0 (pos (4 * (to - from)))) stands.code_at.0 in
+          record { by = pos (4 * (to - from)); there = stands.code_at.0; target = omega arith }
+
+  -- it takes a step,
+  pub step_round : (from to left : ℕ) (s : MachineState) → IsReady w s.mem → s.pc ≡ word_place w b from → GoesRound from to s → to ≤ from → s.steps ≡ suc left
       → step s ≡ Goes (record s { pc = word_place w b to; steps = left })
-  step_back from to left s ready here there less steps =
-      let i = Jal 0 (negsuc (3 + 4 * (from - suc to))) in
-      let low = sees.apart.code_low s.pc i there in
-      let even = sees.apart.code_even s.pc i there in
-      let target : add s.pc (bits64 (negsuc (3 + 4 * (from - suc to)))) ≡ word_place w b to = omega arith in
+  step_round from to left s ready here g less steps =
+      let even = sees.apart.code_even s.pc (Jal 0 g.by) g.there in
       let aligned : eqb (word_place w b to % 4) 0 ≡ true = grind (arith, nat_tests) in
       let behind : leb (word_place w b to) s.pc ≡ true = grind (arith, nat_tests) in
-      step_is w s i ready there ∙ rw (target, aligned, behind, steps) refl
+      step_is w s (Jal 0 g.by) ready g.there ∙ rw (g.target, aligned, behind, steps) refl
 
   -- and where none is left, it is not carried out
-  pub step_back_spent : (from to : ℕ) (s : MachineState) → IsReady w s.mem → s.pc ≡ word_place w b from → w.code s.pc ≡ Some (Jal 0 (negsuc (3 + 4 * (from - suc to)))) → to < from → s.steps ≡ 0
-      → step s ≡ Ends Spent s
-  step_back_spent from to s ready here there less steps =
-      let i = Jal 0 (negsuc (3 + 4 * (from - suc to))) in
-      let low = sees.apart.code_low s.pc i there in
-      let even = sees.apart.code_even s.pc i there in
-      let target : add s.pc (bits64 (negsuc (3 + 4 * (from - suc to)))) ≡ word_place w b to = omega arith in
+  pub step_round_spent : (from to : ℕ) (s : MachineState) → IsReady w s.mem → s.pc ≡ word_place w b from → GoesRound from to s → to ≤ from → s.steps ≡ 0 → step s ≡ Ends Spent s
+  step_round_spent from to s ready here g less steps =
+      let even = sees.apart.code_even s.pc (Jal 0 g.by) g.there in
       let aligned : eqb (word_place w b to % 4) 0 ≡ true = grind (arith, nat_tests) in
       let behind : leb (word_place w b to) s.pc ≡ true = grind (arith, nat_tests) in
-      step_is w s i ready there ∙ rw (target, aligned, behind, steps) refl
+      step_is w s (Jal 0 g.by) ready g.there ∙ rw (g.target, aligned, behind, steps) refl
 
 module _ (w : World) (sees : Sees w) (b : Body) (frame : HasFrame w b) (n : ℕ) where
   -- ---- moments
