@@ -30,7 +30,7 @@ pub two_words : (i j : Inst) → size (instruction i ∷ instruction j ∷ []) �
 unfolding size
 two_words i j = refl
 
-associated : (a b c d : List CodePart) → a ++ b ++ c ++ d ≡ a ++ (b ++ (c ++ d))
+pub associated : (a b c d : List CodePart) → a ++ b ++ c ++ d ≡ a ++ (b ++ (c ++ d))
 associated a b c d = append_assoc (a ++ b) c d ∙ append_assoc a b (c ++ d)
 
 or_associated : (a b c d : List CodePart) → a ++ truth_code ∷ b ++ c ++ d ≡ a ++ ((truth_code ∷ b) ++ (c ++ d))

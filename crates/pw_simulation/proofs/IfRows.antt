@@ -19,15 +19,12 @@ use Rattle.pw_simulation.proofs.Reach.{reaches_here, reaches_as}
 use Rattle.pw_simulation.proofs.Steps.{moves_last, moves_ahead}
 use Rattle.pw_simulation.proofs.Meets.{moved_at, meets_after, meets_as, meets_followed}
 use Rattle.pw_simulation.proofs.Sequences.{one_more}
-use Rattle.pw_simulation.proofs.ConditionRows.{two_words, decided, branch_runs, jump_runs, moved_ready}
+use Rattle.pw_simulation.proofs.ConditionRows.{two_words, associated, decided, branch_runs, jump_runs, moved_ready}
 use Rattle.pw_simulation.proofs.StatementParts.{about_front, about_rest, Part, AfterValue, part_as, value_part, stays}
 
 -- the words of a branch round a jump
 pub unless_words : (m : ℕ) → size (unless_zero m) ≡ 2
 unless_words m = two_words (Bne 10 0 (pos 8)) (Jal 0 (pos (4 * suc m)))
-
-associated : (a b c d : List CodePart) → a ++ b ++ c ++ d ≡ a ++ (b ++ (c ++ d))
-associated a b c d = append_assoc (a ++ b) c d ∙ append_assoc a b (c ++ d)
 
 module _ (w : World) (sees : Sees w) (b : Body) (frame : HasFrame w b) (n : ℕ) where
   -- ---- a condition

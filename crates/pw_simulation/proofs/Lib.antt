@@ -25,6 +25,8 @@ pub mod VariableRows
 pub mod SetElementRows
 pub mod IfRows
 pub mod Loops
+pub mod LoopRows
+pub mod ForRows
 pub mod ReadRows
 pub mod Singles
 pub mod Tables

@@ -25,7 +25,7 @@ use Rattle.pw_simulation.proofs.Meets.{moved_at, meets_after, meets_then, meets_
 use Rattle.pw_simulation.proofs.Sequences.{one_more}
 use Rattle.pw_simulation.proofs.ConditionRows.{decided}
 use Rattle.pw_simulation.proofs.StatementParts.{GoesRound, goes_round, step_round, step_round_spent, ready_after, about_rest, Part, AfterValue, part_as, value_part, stays}
-use Rattle.pw_simulation.proofs.StatementRows.{jump_size}
+use Rattle.pw_simulation.proofs.StatementRows.{jump_word}
 use Rattle.pw_simulation.proofs.IfRows.{unless_words, condition_follows}
 
 -- ---- a counted step
@@ -191,8 +191,7 @@ module _ (w : World) (sees : Sees w) (b : Body) (frame : HasFrame w b) (n : ℕ)
     P = EndsTurn (at + size code) jump_at
 
     both : size code ≡ size front + 1
-    unfolding size
-    both = size-append front (jump jump_at at ∷ []) ∙ ap (λ k. size front + k) (jump_size jump_at at [])
+    both = size-append front (jump jump_at at ∷ []) ∙ ap (λ k. size front + k) (jump_word jump_at at)
 
     -- a loop has no more words than all texts
     few : (s : MachineState) → IsAboutToRun w b around at code s → own + 1 ≤ w.words

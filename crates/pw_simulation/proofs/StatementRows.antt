@@ -40,6 +40,10 @@ jump_size from to rest = ap (λ k. k + size rest) (by_test (nat_lt to from) (fro
     by_test true n = one n
     by_test false n = refl
 
+pub jump_word : (from to : ℕ) → size (jump from to ∷ []) ≡ 1
+unfolding size
+jump_word from to = jump_size from to []
+
 -- ---- an evaluation after another
 
 pub then_after : {A B C : Type 0} (o : Outcome A) (f : A → State → Outcome B) (g : B → State → Outcome C) → and_then (and_then o f) g ≡ and_then o (λ a st. and_then (f a st) g)
