@@ -1,5 +1,5 @@
 -- The rows of `for`, with a condition and without.
-use Rattle.std.proofs.Common.{◌≡◌, ℕ, ◌+◌, ◌≤◌, true, false, List, [], ◌∷◌, ◌++◌, refl, sym, ◌∙◌, ap, subst, arith, append_assoc}
+use Rattle.std.proofs.Common.{◌≡◌, ℕ, ◌+◌, true, List, [], ◌∷◌, ◌++◌, refl, sym, ◌∙◌, ap, subst, arith, append_assoc}
 use Rattle.pw_tree.specs.States.{Value, State, Locals, Outcome, and_then}
 use Rattle.pw_tree.specs.Execution.{Completion, followed, Iteration, runs, goes_back, iterations}
 use Rattle.pw_tree.specs.WellTypedExpressions.{Class, IsValue}
@@ -56,7 +56,7 @@ module _ (w : World) (sees : Sees w) (b : Body) (frame : HasFrame w b) (n : ℕ)
     turn_part = runs_part w sees b frame n around known (size last + 0) (jump_at + 1) jump_at body_at (inside_loop around (jump_at + 1) next) body (last ++ tail) mb (runs ml goes_back) in_loop (omega (arith, size_rest, middle, end)) runs_body last_part
 
     -- without a condition
-    endless : body_at ≡ top → RunsStatement w b around known known n top (body ++ last ++ tail) (iterations turn n)
+    pub endless : body_at ≡ top → RunsStatement w b around known known n top (body ++ last ++ tail) (iterations turn n)
     endless start =
         loop_row w sees b frame n around known kept (size body + (size last + 0)) top jump_at (body ++ last) turn (omega (arith, size-append body last, start, middle, end)) (omega (arith, size-append body last))
         (subst (λ k. Part w sees b frame n (EndsTurn w sees b frame n around known k jump_at) (size body + (size last + 0)) around known top (body ++ last ++ tail) turn) behind
@@ -71,7 +71,7 @@ module _ (w : World) (sees : Sees w) (b : Body) (frame : HasFrame w b) (n : ℕ)
       abbrev branch : List CodePart
       branch = unless_zero (nb + (nl + 1))
 
-      conditional : RunsStatement w b around known known n top (cond ++ branch ++ body ++ last ++ tail) (iterations (tested w sees b frame n around kept known f turn) n)
+      pub conditional : RunsStatement w b around known known n top (cond ++ branch ++ body ++ last ++ tail) (iterations (tested w sees b frame n around kept known f turn) n)
       conditional =
           loop_row w sees b frame n around known kept (size cond + (2 + (size body + (size last + 0)))) top jump_at (cond ++ branch ++ body ++ last) (tested w sees b frame n around kept known f turn)
           (omega (arith, size_front, start, middle, end)) (omega (arith, size_front))
@@ -91,3 +91,18 @@ module _ (w : World) (sees : Sees w) (b : Body) (frame : HasFrame w b) (n : ℕ)
 
           behind : jump_at + 1 ≡ top + size (cond ++ branch ++ body ++ last ++ tail)
           behind = let e = ap size together in omega (arith, e, size_apart, start, middle, end)
+
+  -- ---- all of it
+
+  in_front : (first condition body last tail : List CodePart) → first ++ condition ++ body ++ last ++ tail ≡ first ++ (condition ++ body ++ last ++ tail)
+  in_front first condition body last tail =
+      append_assoc (first ++ condition ++ body) last tail ∙ associated first condition body (last ++ tail) ∙ ap (λ k. first ++ k) (sym (associated condition body last tail))
+
+  pub for_row : (known mid : List ℕ) (at top : ℕ) (first condition body last tail : List CodePart) (mf : Locals → State → Outcome Completion) (loop : Locals → State → Outcome Completion) → Covers mid known → at + size first ≡ top
+      → RunsStatement w b (outside_loops around) known mid n at first mf → RunsStatement w b around mid mid n top (condition ++ body ++ last ++ tail) loop
+      → RunsStatement w b around known known n at (first ++ condition ++ body ++ last ++ tail) (λ locals st. and_then (mf locals st) (λ done. followed done loop))
+  for_row known mid at top first condition body last tail mf loop covers start runs_first runs_loop =
+      subst (λ code. RunsStatement w b around known known n at code (λ locals st. and_then (mf locals st) (λ done. followed done loop))) (sym (in_front first condition body last tail))
+      (one_after_another w sees b frame n around known mid known at first (condition ++ body ++ last ++ tail) mf loop covers (statement_outside w sees b frame n around known mid at first mf runs_first)
+      (statement_less w sees b frame n around mid mid known (at + size first) (condition ++ body ++ last ++ tail) loop covers
+      (subst (λ k. RunsStatement w b around mid mid n k (condition ++ body ++ last ++ tail) loop) (sym start) runs_loop)))

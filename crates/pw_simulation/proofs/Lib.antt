@@ -27,6 +27,7 @@ pub mod IfRows
 pub mod Loops
 pub mod LoopRows
 pub mod ForRows
+pub mod Statements
 pub mod ReadRows
 pub mod Singles
 pub mod Tables

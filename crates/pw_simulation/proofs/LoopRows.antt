@@ -1,8 +1,8 @@
 -- The rows of `while`, `do` and `for`.
-use Rattle.std.proofs.Common.{◌≡◌, ℕ, ◌+◌, ◌≤◌, true, false, List, [], ◌∷◌, ◌++◌, refl, sym, ◌∙◌, ap, subst, arith, pos, append_assoc}
+use Rattle.std.proofs.Common.{◌≡◌, ℕ, ◌+◌, true, false, List, [], ◌∷◌, ◌++◌, refl, sym, ◌∙◌, ap, subst, arith, pos, append_assoc}
 use Rattle.pw_isa.specs.declared.instruction.Inst.TheVariants.{Beq}
 use Rattle.pw_tree.specs.States.{Value, holds, State, Locals, Outcome, gives, and_then, chosen}
-use Rattle.pw_tree.specs.Execution.{Completion, normal, broke, continued, returned, followed, Iteration, out, runs, goes_back, iterations}
+use Rattle.pw_tree.specs.Execution.{Completion, normal, broke, continued, returned, Iteration, out, runs, goes_back, iterations}
 use Rattle.pw_tree.specs.WellTypedExpressions.{Class, IsValue}
 use Rattle.pw_hart.specs.State.{MachineState}
 use Rattle.pw_code.specs.Items.{CodePart, instruction, size}
@@ -12,11 +12,11 @@ use Rattle.pw_code.proofs.Exports.{size-append}
 use Rattle.pw_simulation.specs.World.{World}
 use Rattle.pw_simulation.specs.Sees.{Sees}
 use Rattle.pw_simulation.specs.Bodies.{Body, HasFrame, Runs}
-use Rattle.pw_simulation.specs.Statements.{IsPastSlots, Surroundings, IsAboutToRun, CompletesAt, RunsStatement}
+use Rattle.pw_simulation.specs.Statements.{IsPastSlots, Surroundings, CompletesAt, RunsStatement}
 use Rattle.pw_simulation.proofs.Meets.{meets_as}
-use Rattle.pw_simulation.proofs.Sequences.{alone, one_more}
+use Rattle.pw_simulation.proofs.Sequences.{alone}
 use Rattle.pw_simulation.proofs.ConditionRows.{associated}
-use Rattle.pw_simulation.proofs.StatementParts.{Covers, covers_itself, completes_less, Part, one_after_another}
+use Rattle.pw_simulation.proofs.StatementParts.{Covers, covers_itself, completes_less, Part}
 use Rattle.pw_simulation.proofs.StatementRows.{jump_word}
 use Rattle.pw_simulation.proofs.IfRows.{unless_words}
 use Rattle.pw_simulation.proofs.Loops.{EndsTurn, IsInLoop, back_part, runs_part, tests_part, tests_last_part, loop_row}

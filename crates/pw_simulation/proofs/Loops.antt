@@ -1,12 +1,10 @@
 -- Loops: an iteration's parts, and one iteration after another by the steps that are left.
 use Rattle.std.proofs.Common.{◌≡◌, ◌≢◌, ℕ, zero, suc, ◌+◌, ◌*◌, ◌^◌, ◌<◌, ◌≤◌, Bool, true, false, List, [], ◌∷◌, ◌++◌, refl, sym, ◌∙◌, ap, subst, arith, pos}
-use Rattle.std.specs.Prelude.{nat_eq}
 use Rattle.std.proofs.lemmas.Bool.Decides.{nat_tests}
 use Rattle.pw_isa.specs.declared.instruction.Inst.TheVariants.{Beq, Jal}
 use Rattle.pw_tree.specs.States.{Value, holds, State, spent, Locals, Outcome, gives, stops, and_then, chosen, stepped, stepped_from}
 use Rattle.pw_tree.specs.Execution.{Completion, normal, broke, continued, returned, Iteration, back, out, after_body, runs, goes_back, after_iteration, iterations}
 use Rattle.pw_tree.specs.WellTypedExpressions.{Class, IsValue}
-use Rattle.pw_mem.specs.Words.{doubleword}
 use Rattle.pw_hart.specs.declared.ends.End.TheVariants.{Spent}
 use Rattle.pw_hart.specs.State.{MachineState, Goes}
 use Rattle.pw_hart.specs.Run.{step}
@@ -18,13 +16,12 @@ use Rattle.pw_simulation.specs.Memories.{Keeps}
 use Rattle.pw_simulation.specs.Moments.{IsAt, IsCode, Reaches, Meets}
 use Rattle.pw_simulation.specs.Sees.{Sees}
 use Rattle.pw_simulation.specs.Bodies.{Body, HasFrame, AreLocalsCarried, IsReadyFor, Stands, Runs}
-use Rattle.pw_simulation.specs.Statements.{word_place, IsPastSlots, Surroundings, IsAhead, AreAhead, IsAboutToRun, RepresentsReturned, CompletesAt, RunsStatement}
+use Rattle.pw_simulation.specs.Statements.{word_place, IsPastSlots, Surroundings, IsAhead, IsAboutToRun, RepresentsReturned, CompletesAt, RunsStatement}
 use Rattle.pw_simulation.proofs.Reach.{reaches_here}
 use Rattle.pw_simulation.proofs.Steps.{moves_last, moves_past_at_zero, moves_into_at_other}
-use Rattle.pw_simulation.proofs.Meets.{moved_at, meets_after, meets_then, meets_as}
-use Rattle.pw_simulation.proofs.Sequences.{one_more}
+use Rattle.pw_simulation.proofs.Meets.{moved_at, meets_then, meets_as}
 use Rattle.pw_simulation.proofs.ConditionRows.{decided}
-use Rattle.pw_simulation.proofs.StatementParts.{GoesRound, goes_round, step_round, step_round_spent, ready_after, about_rest, Part, AfterValue, part_as, value_part, stays}
+use Rattle.pw_simulation.proofs.StatementParts.{GoesRound, goes_round, step_round, step_round_spent, ready_after, about_rest, Part, AfterValue, value_part, stays}
 use Rattle.pw_simulation.proofs.StatementRows.{jump_word}
 use Rattle.pw_simulation.proofs.IfRows.{unless_words, condition_follows}
 

@@ -2,6 +2,7 @@
 
 ghost use Rattle.pw_simulation.specs.Calls.{ExpressionsRun};
 ghost use Rattle.pw_simulation.specs.Laws.{AddressesAreBrought, LoadsAreCarriedOut, StoresAreCarriedOut, FaultsStop};
+ghost use Rattle.pw_simulation.specs.Statements.{StatementsRun};
 ghost use Rattle.pw_simulation.specs.Straight.{LoadImmediateLoads};
 ghost use Rattle.pw_simulation.specs.Witness.{WorldSees};
 
@@ -33,6 +34,11 @@ pub fn stores_are_carried_out()
 /// If calls do what they mean, the code of an expression does what the expression comes to.
 pub fn expressions_run()
     ensures { ExpressionsRun }
+{}
+
+/// If calls do what they mean, the code of statements does what the statements come to.
+pub fn statements_run()
+    ensures { StatementsRun }
 {}
 
 /// There is a world that shows a project, with a variable, function values in it, a loop, an index and a call through a

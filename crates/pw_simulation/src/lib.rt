@@ -6,5 +6,5 @@ mod laws;
 
 pub use laws::{
     a_world_shows_a_project, addresses_are_brought, expressions_run, faults_stop,
-    load_immediate_loads, loads_are_carried_out, stores_are_carried_out,
+    load_immediate_loads, loads_are_carried_out, statements_run, stores_are_carried_out,
 };
