@@ -20,7 +20,7 @@ use Rattle.pw_simulation.proofs.Steps.{moves_last, moves_ahead}
 use Rattle.pw_simulation.proofs.Meets.{moved_at, meets_after, meets_as, meets_followed}
 use Rattle.pw_simulation.proofs.Sequences.{one_more}
 use Rattle.pw_simulation.proofs.ConditionRows.{two_words, associated, decided, branch_runs, jump_runs, moved_ready}
-use Rattle.pw_simulation.proofs.StatementParts.{about_front, about_rest, Part, AfterValue, part_as, value_part, stays}
+use Rattle.pw_simulation.proofs.StatementParts.{about_front, about_rest, PartRuns, AfterValue, part_as, value_part, stays}
 
 -- the words of a branch round a jump
 pub unless_words : (m : ℕ) → size (unless_zero m) ≡ 2
@@ -30,21 +30,26 @@ module _ (w : World) (sees : Sees w) (b : Body) (frame : HasFrame w b) (n : ℕ)
   -- ---- a condition
 
   -- where a condition does not hold, the run goes past m words
-  abbrev pub Skips : {A : Type 0} → (A → MachineState → Type 0) → (own : ℕ) → Surroundings → (known : List ℕ) → (at m : ℕ) → List CodePart → (Locals → State → Outcome A) → Type 0
+  abbrev pub Skips : {A : Type 0} → (A → MachineState → Type 0) → (own : ℕ) → Surroundings → (known : List ℕ) → (at m : ℕ) → List CodePart
+      → (Locals → State → Outcome A) → Type 0
   Skips P own around known at m rest means =
-      (locals : Locals) (st : State) (s t : MachineState) → IsReadyFor w b known locals n st t → IsAboutToRun w b around at (unless_zero m ++ rest) s → t.pc ≡ word_place w b (at + 2 + m)
+      (locals : Locals) (st : State) (s t : MachineState) → IsReadyFor w b known locals n st t → IsAboutToRun w b around at (unless_zero m ++ rest) s
+      → t.pc ≡ word_place w b (at + 2 + m)
       → Meets w (IsPastSlots b) b.stack_pointer b.calls_left own P (means locals st) t
 
   -- a condition in a0 decides whether the words behind it run
-  pub condition_follows : {A : Type 0} (P : A → MachineState → Type 0) (own : ℕ) (around : Surroundings) (known : List ℕ) (at m : ℕ) (c : Class) (rest : List CodePart) (first second : Locals → State → Outcome A)
-      → IsValue c → m ≤ size rest → Part w sees b frame n P own around known (at + 2) rest first → Skips P own around known at m rest second
-      → AfterValue w sees b frame n P (2 + own) around known at c (unless_zero m ++ rest) (λ locals x. chosen (holds x) (first locals) (second locals))
+  pub condition_follows : {A : Type 0} (P : A → MachineState → Type 0) (own : ℕ) (around : Surroundings) (known : List ℕ) (at m : ℕ) (c : Class)
+      (rest : List CodePart) (first second : Locals → State → Outcome A)
+      → IsValue c → m ≤ size rest → PartRuns w sees b frame n P own around known (at + 2) rest first → Skips P own around known at m rest second
+      → AfterValue w sees b frame n P (2 + own) around known at c (unless_zero m ++ rest)
+      (λ locals x. chosen (holds x) (first locals) (second locals))
   condition_follows P own around known at m c rest first second some fits first_part second_part locals x st t r stands_for here = by_test (holds x) refl
     where
       words : size (unless_zero m) ≡ 2
       words = unless_words m
 
-      by_test : (v : Bool) → holds x ≡ v → Meets w (IsPastSlots b) b.stack_pointer b.calls_left (2 + own) P (chosen v (first locals) (second locals) st) t
+      by_test : (v : Bool) → holds x ≡ v
+          → Meets w (IsPastSlots b) b.stack_pointer b.calls_left (2 + own) P (chosen v (first locals) (second locals) st) t
       by_test true e =
           let test = decided w sees b frame known locals n 0 c x (t.x 10) some stands_for true e in
           let other : t.x 10 ≢ 0 = grind (arith, nat_tests) in
@@ -67,8 +72,10 @@ module _ (w : World) (sees : Sees w) (b : Body) (frame : HasFrame w b) (n : ℕ)
 
   -- ---- `if`
 
-  pub if_row : (around : Surroundings) (known : List ℕ) (at at_a na : ℕ) (c : Class) (cond code_a : List CodePart) (f : Locals → State → Outcome Value) (ma : Locals → State → Outcome Completion)
-      → IsValue c → at + size cond + 2 ≡ at_a → size code_a ≡ na → ((locals : Locals) → Runs w b known locals n 0 c cond (f locals)) → RunsStatement w b around known known n at_a code_a ma
+  pub if_row : (around : Surroundings) (known : List ℕ) (at at_a na : ℕ) (c : Class) (cond code_a : List CodePart)
+      (f : Locals → State → Outcome Value) (ma : Locals → State → Outcome Completion)
+      → IsValue c → at + size cond + 2 ≡ at_a → size code_a ≡ na → ((locals : Locals) → Runs w b known locals n 0 c cond (f locals))
+      → RunsStatement w b around known known n at_a code_a ma
       → RunsStatement w b around known known n at (cond ++ unless_zero (na + 0) ++ code_a ++ [])
       (λ locals st. and_then (f locals st) (λ v. chosen (holds v) (ma locals) (gives (normal locals))))
   if_row around known at at_a na c cond code_a f ma some start words runs runs_a =
@@ -92,7 +99,7 @@ module _ (w : World) (sees : Sees w) (b : Body) (frame : HasFrame w b) (n : ℕ)
       Q : Completion → MachineState → Type 0
       Q = CompletesAt w b around known known (at + size all)
 
-      then_part : Part w sees b frame n Q (size rest) around known (at + size cond + 2) rest ma
+      then_part : PartRuns w sees b frame n Q (size rest) around known (at + size cond + 2) rest ma
       then_part locals st s r here =
           let end : at_a + size code_a ≡ at + size all = omega (arith, together, size_rest) in
           meets_as w (IsPastSlots b) b.stack_pointer b.calls_left (size code_a) (size rest) (CompletesAt w b around known known (at_a + size code_a)) Q (ma locals st) s (omega (arith, size_rest))
@@ -102,8 +109,10 @@ module _ (w : World) (sees : Sees w) (b : Body) (frame : HasFrame w b) (n : ℕ)
       else_part : Skips Q (size rest) around known (at + size cond) (na + 0) rest (λ locals. gives (normal locals))
       else_part locals st s t r here e = stays w sees b frame n Q (size rest) (normal locals) st t r.at (omega (arith, e, together, size_rest), r.carried)
 
-  pub if_else_row : (around : Surroundings) (known : List ℕ) (at at_a at_b na nb : ℕ) (c : Class) (cond code_a code_b : List CodePart) (f : Locals → State → Outcome Value) (ma mb : Locals → State → Outcome Completion)
-      → IsValue c → at + size cond + 2 ≡ at_a → at_a + size code_a + 1 ≡ at_b → size code_a ≡ na → size code_b ≡ nb → ((locals : Locals) → Runs w b known locals n 0 c cond (f locals))
+  pub if_else_row : (around : Surroundings) (known : List ℕ) (at at_a at_b na nb : ℕ) (c : Class) (cond code_a code_b : List CodePart)
+      (f : Locals → State → Outcome Value) (ma mb : Locals → State → Outcome Completion)
+      → IsValue c → at + size cond + 2 ≡ at_a → at_a + size code_a + 1 ≡ at_b → size code_a ≡ na → size code_b ≡ nb
+      → ((locals : Locals) → Runs w b known locals n 0 c cond (f locals))
       → RunsStatement w b around known known n at_a code_a ma → RunsStatement w b around known known n at_b code_b mb
       → RunsStatement w b around known known n at (cond ++ unless_zero (na + 1) ++ code_a ++ skip nb ∷ code_b)
       (λ locals st. and_then (f locals st) (λ v. chosen (holds v) (ma locals) (mb locals)))
@@ -135,7 +144,8 @@ module _ (w : World) (sees : Sees w) (b : Body) (frame : HasFrame w b) (n : ℕ)
       Q = CompletesAt w b around known known (at + size all)
 
       -- from behind the first branch past the second
-      goes_past : (s : MachineState) → IsAboutToRun w b around (at + size cond + 2) rest s → (done : Completion) (later : State) (t : MachineState) → IsAt w b.stack_pointer b.calls_left later t
+      goes_past : (s : MachineState) → IsAboutToRun w b around (at + size cond + 2) rest s → (done : Completion) (later : State) (t : MachineState)
+          → IsAt w b.stack_pointer b.calls_left later t
           → CompletesAt w b around known known (at_a + size code_a) done t → Lands w (IsPastSlots b) b.stack_pointer b.calls_left 1 later t (Q done)
       goes_past s here (normal locals) later t at_t h =
           let e = h.0 in
@@ -154,7 +164,7 @@ module _ (w : World) (sees : Sees w) (b : Body) (frame : HasFrame w b) (n : ℕ)
       goes_past s here (continued locals) later t at_t h = record { end = t; reaches = reaches_as w.code w.words 0 1 t t (omega arith) (reaches_here w.code w.words t); at = at_t; keeps = λ _ _. refl; holds = h }
       goes_past s here (returned x) later t at_t h = record { end = t; reaches = reaches_as w.code w.words 0 1 t t (omega arith) (reaches_here w.code w.words t); at = at_t; keeps = λ _ _. refl; holds = h }
 
-      then_part : Part w sees b frame n Q (size rest) around known (at + size cond + 2) rest ma
+      then_part : PartRuns w sees b frame n Q (size rest) around known (at + size cond + 2) rest ma
       then_part locals st s r here =
           meets_as w (IsPastSlots b) b.stack_pointer b.calls_left (size code_a + 1) (size rest) Q Q (ma locals st) s (omega (arith, size_rest)) (λ _ _ g. g)
           (meets_followed w (IsPastSlots b) b.stack_pointer b.calls_left (size code_a) 1 (CompletesAt w b around known known (at_a + size code_a)) Q (ma locals st) s (goes_past s here)

@@ -42,7 +42,8 @@ put_words : (slot : ℤ) (name : Ref) → size (put_tail slot name) ≡ 6
 unfolding size
 put_words slot name = refl
 
-module _ (w : World) (sees : Sees w) (b : Body) (frame : HasFrame w b) (n : ℕ) (around : Surroundings) (known : List ℕ) (name : Ref) (array_size : ℕ) (c : Class)
+module _ (w : World) (sees : Sees w) (b : Body) (frame : HasFrame w b) (n : ℕ) (around : Surroundings) (known : List ℕ) (name : Ref) (array_size : ℕ)
+    (c : Class)
     (means : MeansVariable w b name (Some array_size) c) (some : IsValue c) (few : array_size < 2 ^ 20) (has_slot : 0 < b.frame.held) where
   abbrev named : Definition
   named = named_in w.project b.self.in_module b.self.in_unit name
@@ -55,8 +56,10 @@ module _ (w : World) (sees : Sees w) (b : Body) (frame : HasFrame w b) (n : ℕ)
 
   -- the value is in a0, and the index in its slot
   tail_follows : (behind k : ℕ) (locals : Locals) (y : Value) (st : State) (t : MachineState) → IsReadyFor w b known locals n st t → k < array_size
-      → doubleword t.mem (b.stack_pointer + 8 * (b.frame.locals + 0)) ≡ Some k → Stands w b t.pc tail → Represents w c y (t.x 10) → t.pc + 24 ≡ word_place w b behind
-      → Meets w (IsPastSlots b) b.stack_pointer b.calls_left 6 (CompletesAt w b around known known behind) (gives (normal locals) (with_element named k y st)) t
+      → doubleword t.mem (b.stack_pointer + 8 * (b.frame.locals + 0)) ≡ Some k → Stands w b t.pc tail → Represents w c y (t.x 10)
+      → t.pc + 24 ≡ word_place w b behind
+      → Meets w (IsPastSlots b) b.stack_pointer b.calls_left 6 (CompletesAt w b around known known behind)
+      (gives (normal locals) (with_element named k y st)) t
   tail_follows behind k locals y st t r below held here stands_for next =
       let bound = frame.few in
       let s1 : MachineState = record t { x = set t.x 6 k; pc = t.pc + 4 } in
@@ -98,9 +101,11 @@ module _ (w : World) (sees : Sees w) (b : Body) (frame : HasFrame w b) (n : ℕ)
 
   module _ (code : List CodePart) (f : Locals → State → Outcome Value) (runs : (locals : Locals) → Runs w b known locals n 1 c code (f locals)) where
     -- the index in a0 was tested: it is held, and the value is evaluated
-    value_follows : (behind k : ℕ) (locals : Locals) (st : State) (t : MachineState) → IsReadyFor w b known locals n st t → k < array_size → t.x 10 ≡ k → Stands w b t.pc (hold b.frame 0 ∷ (code ++ tail))
+    value_follows : (behind k : ℕ) (locals : Locals) (st : State) (t : MachineState) → IsReadyFor w b known locals n st t → k < array_size
+        → t.x 10 ≡ k → Stands w b t.pc (hold b.frame 0 ∷ (code ++ tail))
         → t.pc + 4 * (7 + size code) ≡ word_place w b behind
-        → Meets w (IsPastSlots b) b.stack_pointer b.calls_left (1 + (size code + 6)) (CompletesAt w b around known known behind) (and_then (f locals st) (stores named k locals)) t
+        → Meets w (IsPastSlots b) b.stack_pointer b.calls_left (1 + (size code + 6)) (CompletesAt w b around known known behind)
+        (and_then (f locals st) (stores named k locals)) t
     value_follows behind k locals st t r below is here next =
         let held = holds_value w sees b frame 0 st t r.at has_slot (omega arith) here.code_at.0 in
         let s : MachineState = record t { mem = held.memory; pc = t.pc + 4 } in
@@ -174,7 +179,8 @@ module _ (w : World) (sees : Sees w) (b : Body) (frame : HasFrame w b) (n : ℕ)
               let above : array_size ≤ m = grind (arith, nat_tests) in
               index_stops w sees b frame known locals n 0 array_size line rest st t small small_line r.at here.code_there (omega (arith, stands_for.0, above))
 
-      pub set_element_row : (at : ℕ) (index_code : List CodePart) (g : Locals → State → Outcome Value) → ((locals : Locals) → Runs w b known locals n 0 number index_code (g locals))
+      pub set_element_row : (at : ℕ) (index_code : List CodePart) (g : Locals → State → Outcome Value)
+          → ((locals : Locals) → Runs w b known locals n 0 number index_code (g locals))
           → RunsStatement w b around known known n at (index_code ++ check_index array_size line ++ hold b.frame 0 ∷ code ++ tail)
           (λ locals st. and_then (g locals st) (λ v. indexed (context_of w b calls turns) array_size line v (λ k st. and_then (f locals st) (stores named k locals))))
       set_element_row at index_code g runs_index =

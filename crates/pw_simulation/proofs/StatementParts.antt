@@ -81,7 +81,8 @@ jump_is_back from to less =
 
 module _ (w : World) (sees : Sees w) (b : Body) where
   -- a jump ahead to a word
-  pub moves_to_word : (from to : ℕ) (s : MachineState) → IsReady w s.mem → s.pc ≡ word_place w b from → w.code s.pc ≡ Some (Jal 0 (pos (4 * (to - from)))) → from < to → to < 2 ^ 18
+  pub moves_to_word : (from to : ℕ) (s : MachineState) → IsReady w s.mem → s.pc ≡ word_place w b from
+      → w.code s.pc ≡ Some (Jal 0 (pos (4 * (to - from)))) → from < to → to < 2 ^ 18
       → Moves w s (record s { pc = word_place w b to })
   moves_to_word from to s ready here there less near =
       let e : s.pc + 4 * (to - from) ≡ word_place w b to = omega arith in
@@ -93,7 +94,8 @@ module _ (w : World) (sees : Sees w) (b : Body) where
     pub there : w.code s.pc ≡ Some (Jal 0 by)
     pub target : add s.pc (bits64 by) ≡ word_place w b to
 
-  pub goes_round : (from to : ℕ) (rest : List CodePart) (s : MachineState) → s.pc ≡ word_place w b from → Stands w b s.pc (jump from to ∷ rest) → to ≤ from → GoesRound from to s
+  pub goes_round : (from to : ℕ) (rest : List CodePart) (s : MachineState) → s.pc ≡ word_place w b from → Stands w b s.pc (jump from to ∷ rest)
+      → to ≤ from → GoesRound from to s
   goes_round from to rest s here there less = by_test (nat_lt to from) refl
     where
       by_test : (t : Bool) → nat_lt to from ≡ t → GoesRound from to s
@@ -109,7 +111,8 @@ module _ (w : World) (sees : Sees w) (b : Body) where
           record { by = pos (4 * (to - from)); there = stands.code_at.0; target = omega arith }
 
   -- it takes a step,
-  pub step_round : (from to left : ℕ) (s : MachineState) → IsReady w s.mem → s.pc ≡ word_place w b from → GoesRound from to s → to ≤ from → s.steps ≡ suc left
+  pub step_round : (from to left : ℕ) (s : MachineState) → IsReady w s.mem → s.pc ≡ word_place w b from → GoesRound from to s → to ≤ from
+      → s.steps ≡ suc left
       → step s ≡ Goes (record s { pc = word_place w b to; steps = left })
   step_round from to left s ready here g less steps =
       let even = sees.apart.code_even s.pc (Jal 0 g.by) g.there in
@@ -118,7 +121,8 @@ module _ (w : World) (sees : Sees w) (b : Body) where
       step_is w s (Jal 0 g.by) ready g.there ∙ rw (g.target, aligned, behind, steps) refl
 
   -- and where none is left, it is not carried out
-  pub step_round_spent : (from to : ℕ) (s : MachineState) → IsReady w s.mem → s.pc ≡ word_place w b from → GoesRound from to s → to ≤ from → s.steps ≡ 0 → step s ≡ Ends Spent s
+  pub step_round_spent : (from to : ℕ) (s : MachineState) → IsReady w s.mem → s.pc ≡ word_place w b from → GoesRound from to s → to ≤ from
+      → s.steps ≡ 0 → step s ≡ Ends Spent s
   step_round_spent from to s ready here g less steps =
       let even = sees.apart.code_even s.pc (Jal 0 g.by) g.there in
       let aligned : eqb (word_place w b to % 4) 0 ≡ true = grind (arith, nat_tests) in
@@ -128,15 +132,18 @@ module _ (w : World) (sees : Sees w) (b : Body) where
 module _ (w : World) (sees : Sees w) (b : Body) (frame : HasFrame w b) (n : ℕ) where
   -- ---- moments
 
-  pub carried_less : (more known : List ℕ) (locals : Locals) (m : Mem) → Covers more known → AreLocalsCarried w b more locals m → AreLocalsCarried w b known locals m
+  pub carried_less : (more known : List ℕ) (locals : Locals) (m : Mem) → Covers more known → AreLocalsCarried w b more locals m
+      → AreLocalsCarried w b known locals m
   carried_less more known locals m covers h i c is_known is_class = h i c (covers i is_known) is_class
 
-  pub carried_stay : (known : List ℕ) (locals : Locals) (h : ℕ) (old new : Mem) → Keeps (IsUntouched b h) old new → AreLocalsCarried w b known locals old → AreLocalsCarried w b known locals new
+  pub carried_stay : (known : List ℕ) (locals : Locals) (h : ℕ) (old new : Mem) → Keeps (IsUntouched b h) old new
+      → AreLocalsCarried w b known locals old → AreLocalsCarried w b known locals new
   carried_stay known locals h old new keeps carried i c is_known is_class =
       let l = carried i c is_known is_class in
       record { below = l.below; word = l.word; is = keeps (b.stack_pointer + 8 * i) (local_untouched w sees b frame h i l.below) ∙ l.is; represents = l.represents }
 
-  pub ready_after : (known mid : List ℕ) (locals others : Locals) (st later : State) (s t : MachineState) → IsReadyFor w b known locals n st s → IsAt w b.stack_pointer b.calls_left later t → t.steps ≤ s.steps
+  pub ready_after : (known mid : List ℕ) (locals others : Locals) (st later : State) (s t : MachineState) → IsReadyFor w b known locals n st s
+      → IsAt w b.stack_pointer b.calls_left later t → t.steps ≤ s.steps
       → AreLocalsCarried w b mid others t.mem → IsReadyFor w b mid others n later t
   ready_after known mid locals others st later s t r at down carried = record {
     at = at;
@@ -153,14 +160,16 @@ module _ (w : World) (sees : Sees w) (b : Body) (frame : HasFrame w b) (n : ℕ)
 
   -- ---- parts
 
-  pub about_front : (around : Surroundings) (at : ℕ) (code more : List CodePart) (s : MachineState) → IsAboutToRun w b around at (code ++ more) s → IsAboutToRun w b around at code s
+  pub about_front : (around : Surroundings) (at : ℕ) (code more : List CodePart) (s : MachineState) → IsAboutToRun w b around at (code ++ more) s
+      → IsAboutToRun w b around at code s
   about_front around at code more s h = record {
     here = h.here;
     code_there = stands_prefix w b s.pc code more h.code_there;
     ahead = ahead_less around (at + size code) (at + size (code ++ more)) (omega (arith, size-append code more)) h.ahead;
   }
 
-  pub about_rest : (around : Surroundings) (at : ℕ) (code more : List CodePart) (s t : MachineState) → IsAboutToRun w b around at (code ++ more) s → t.pc ≡ word_place w b (at + size code)
+  pub about_rest : (around : Surroundings) (at : ℕ) (code more : List CodePart) (s t : MachineState) → IsAboutToRun w b around at (code ++ more) s
+      → t.pc ≡ word_place w b (at + size code)
       → IsAboutToRun w b around (at + size code) more t
   about_rest around at code more s t h e = record {
     here = e;
@@ -169,33 +178,39 @@ module _ (w : World) (sees : Sees w) (b : Body) (frame : HasFrame w b) (n : ℕ)
   }
 
   -- what a part of a statement comes to, with some end
-  abbrev pub Part : {A : Type 0} → (A → MachineState → Type 0) → (own : ℕ) → Surroundings → (known : List ℕ) → (at : ℕ) → List CodePart → (Locals → State → Outcome A) → Type 0
-  Part P own around known at code means =
+  abbrev pub PartRuns : {A : Type 0} → (A → MachineState → Type 0) → (own : ℕ) → Surroundings → (known : List ℕ) → (at : ℕ) → List CodePart
+      → (Locals → State → Outcome A) → Type 0
+  PartRuns P own around known at code means =
       (locals : Locals) (st : State) (s : MachineState) → IsReadyFor w b known locals n st s → IsAboutToRun w b around at code s
       → Meets w (IsPastSlots b) b.stack_pointer b.calls_left own P (means locals st) s
 
   -- what follows a value in a0
-  abbrev pub AfterValue : {A : Type 0} → (A → MachineState → Type 0) → (own : ℕ) → Surroundings → (known : List ℕ) → (at : ℕ) → Class → List CodePart → (Locals → Value → State → Outcome A) → Type 0
+  abbrev pub AfterValue : {A : Type 0} → (A → MachineState → Type 0) → (own : ℕ) → Surroundings → (known : List ℕ) → (at : ℕ) → Class → List CodePart
+      → (Locals → Value → State → Outcome A) → Type 0
   AfterValue P own around known at c code next =
-      (locals : Locals) (x : Value) (st : State) (t : MachineState) → IsReadyFor w b known locals n st t → Represents w c x (t.x 10) → IsAboutToRun w b around at code t
+      (locals : Locals) (x : Value) (st : State) (t : MachineState) → IsReadyFor w b known locals n st t → Represents w c x (t.x 10)
+      → IsAboutToRun w b around at code t
       → Meets w (IsPastSlots b) b.stack_pointer b.calls_left own P (next locals x st) t
 
   -- the same with more room, and of an equal meaning
-  pub part_as : {A : Type 0} (P : A → MachineState → Type 0) (own more : ℕ) (around : Surroundings) (known : List ℕ) (at : ℕ) (code : List CodePart) (means : Locals → State → Outcome A)
-      → own ≤ more → Part P own around known at code means → Part P more around known at code means
+  pub part_as : {A : Type 0} (P : A → MachineState → Type 0) (own more : ℕ) (around : Surroundings) (known : List ℕ) (at : ℕ) (code : List CodePart)
+      (means : Locals → State → Outcome A)
+      → own ≤ more → PartRuns P own around known at code means → PartRuns P more around known at code means
   part_as P own more around known at code means fits part locals st s r here =
       meets_as w (IsPastSlots b) b.stack_pointer b.calls_left own more P P (means locals st) s fits (λ _ _ g. g) (part locals st s r here)
 
-  pub part_means : {A : Type 0} (P : A → MachineState → Type 0) (own : ℕ) (around : Surroundings) (known : List ℕ) (at : ℕ) (code : List CodePart) (f g : Locals → State → Outcome A)
-      → ((locals : Locals) (st : State) → f locals st ≡ g locals st) → Part P own around known at code f → Part P own around known at code g
+  pub part_means : {A : Type 0} (P : A → MachineState → Type 0) (own : ℕ) (around : Surroundings) (known : List ℕ) (at : ℕ) (code : List CodePart)
+      (f g : Locals → State → Outcome A)
+      → ((locals : Locals) (st : State) → f locals st ≡ g locals st) → PartRuns P own around known at code f → PartRuns P own around known at code g
   part_means P own around known at code f g same part locals st s r here =
       subst (λ o. Meets w (IsPastSlots b) b.stack_pointer b.calls_left own P o s) (same locals st) (part locals st s r here)
 
   -- an expression, and what follows its value
-  pub value_part : {A : Type 0} (P : A → MachineState → Type 0) (own : ℕ) (around : Surroundings) (known : List ℕ) (at : ℕ) (c : Class) (code more : List CodePart)
+  pub value_part : {A : Type 0} (P : A → MachineState → Type 0) (own : ℕ) (around : Surroundings) (known : List ℕ) (at : ℕ) (c : Class)
+      (code more : List CodePart)
       (f : Locals → State → Outcome Value) (next : Locals → Value → State → Outcome A)
       → ((locals : Locals) → Runs w b known locals n 0 c code (f locals)) → AfterValue P own around known (at + size code) c more next
-      → Part P (size code + own) around known at (code ++ more) (λ locals st. and_then (f locals st) (next locals))
+      → PartRuns P (size code + own) around known at (code ++ more) (λ locals st. and_then (f locals st) (next locals))
   value_part P own around known at c code more f next runs after locals st s r here =
       meets_then w (IsPastSlots b) (IsUntouched b 0) (IsPastSlots b) b.stack_pointer b.calls_left (size code) own (GivesValue w c (s.pc + 4 * size code)) P (f locals st) (next locals) s
       (λ _ k. inr k) (λ _ k. k)
@@ -205,7 +220,8 @@ module _ (w : World) (sees : Sees w) (b : Body) (frame : HasFrame w b) (n : ℕ)
       (about_rest around at code more s t here (let e = gives.0 in let h = here.here in omega arith)))
 
   -- the run is where a statement leaves it
-  pub stays : {A : Type 0} (P : A → MachineState → Type 0) (own : ℕ) (x : A) (st : State) (t : MachineState) → IsAt w b.stack_pointer b.calls_left st t → P x t
+  pub stays : {A : Type 0} (P : A → MachineState → Type 0) (own : ℕ) (x : A) (st : State) (t : MachineState)
+      → IsAt w b.stack_pointer b.calls_left st t → P x t
       → Meets w (IsPastSlots b) b.stack_pointer b.calls_left own P (gives x st) t
   stays P own x st t at holds = record {
     end = t;
@@ -216,7 +232,8 @@ module _ (w : World) (sees : Sees w) (b : Body) (frame : HasFrame w b) (n : ℕ)
   }
 
   -- one statement after another
-  pub one_after_another : (around : Surroundings) (known mid later : List ℕ) (at : ℕ) (code more : List CodePart) (f g : Locals → State → Outcome Completion) → Covers mid known
+  pub one_after_another : (around : Surroundings) (known mid later : List ℕ) (at : ℕ) (code more : List CodePart)
+      (f g : Locals → State → Outcome Completion) → Covers mid known
       → RunsStatement w b around known mid n at code f → RunsStatement w b around mid later n (at + size code) more g
       → RunsStatement w b around known later n at (code ++ more) (λ locals st. and_then (f locals st) (λ done. followed done g))
   one_after_another around known mid later at code more f g covers first second locals st s r here =
@@ -227,8 +244,10 @@ module _ (w : World) (sees : Sees w) (b : Body) (frame : HasFrame w b) (n : ℕ)
       Q : Completion → MachineState → Type 0
       Q = CompletesAt w b around known later (at + size (code ++ more))
 
-      rest : (done : Completion) (between : State) (t : MachineState) → IsAt w b.stack_pointer b.calls_left between t → CompletesAt w b around known mid (at + size code) done t
-          → Keeps (IsPastSlots b) s.mem t.mem → t.steps ≤ s.steps → Meets w (IsPastSlots b) b.stack_pointer b.calls_left (size more) Q (followed done g between) t
+      rest : (done : Completion) (between : State) (t : MachineState) → IsAt w b.stack_pointer b.calls_left between t
+          → CompletesAt w b around known mid (at + size code) done t
+          → Keeps (IsPastSlots b) s.mem t.mem → t.steps ≤ s.steps
+          → Meets w (IsPastSlots b) b.stack_pointer b.calls_left (size more) Q (followed done g between) t
       rest (normal others) between t at_t h keeps down =
           let end : at + size code + size more ≡ at + size (code ++ more) = omega (arith, size-append code more) in
           meets_as w (IsPastSlots b) b.stack_pointer b.calls_left (size more) (size more) (CompletesAt w b around mid later (at + size code + size more)) Q (g others between) t (omega arith)

@@ -36,7 +36,8 @@ jump_size from to rest = ap (λ k. k + size rest) (by_test (nat_lt to from) (fro
     one Rattle.std.proofs.Common.zero = refl
     one (suc n) = refl
 
-    by_test : (t : Bool) (n : ℕ) → words_of_code_part (Rattle.std.proofs.Common.cond t (Rattle.pw_code.specs.Pieces.back n) (instruction (Jal 0 (pos (4 * (to - from)))))) ≡ 1
+    by_test : (t : Bool) (n : ℕ)
+        → words_of_code_part (Rattle.std.proofs.Common.cond t (Rattle.pw_code.specs.Pieces.back n) (instruction (Jal 0 (pos (4 * (to - from)))))) ≡ 1
     by_test true n = one n
     by_test false n = refl
 
@@ -46,7 +47,8 @@ jump_word from to = jump_size from to []
 
 -- ---- an evaluation after another
 
-pub then_after : {A B C : Type 0} (o : Outcome A) (f : A → State → Outcome B) (g : B → State → Outcome C) → and_then (and_then o f) g ≡ and_then o (λ a st. and_then (f a st) g)
+pub then_after : {A B C : Type 0} (o : Outcome A) (f : A → State → Outcome B) (g : B → State → Outcome C)
+    → and_then (and_then o f) g ≡ and_then o (λ a st. and_then (f a st) g)
 then_after (gives a st) f g = refl
 then_after (stops why st) f g = refl
 
@@ -57,7 +59,8 @@ or_false false u e h = h
 module _ (w : World) (sees : Sees w) (b : Body) (frame : HasFrame w b) (n : ℕ) where
   -- ---- an expression
 
-  pub evaluate_row : (around : Surroundings) (known : List ℕ) (at : ℕ) (c : Class) (code : List CodePart) (f : Locals → State → Outcome Value) → ((locals : Locals) → Runs w b known locals n 0 c code (f locals))
+  pub evaluate_row : (around : Surroundings) (known : List ℕ) (at : ℕ) (c : Class) (code : List CodePart) (f : Locals → State → Outcome Value)
+      → ((locals : Locals) → Runs w b known locals n 0 c code (f locals))
       → RunsStatement w b around known known n at code (λ locals st. and_then (f locals st) (λ v. gives (normal locals)))
   evaluate_row around known at c code f runs locals st s r here =
       meets_as w (IsPastSlots b) b.stack_pointer b.calls_left (size code + 0) (size code) Q Q (and_then (f locals st) (λ v. gives (normal locals))) s (omega arith) (λ _ _ g. g)
@@ -73,14 +76,16 @@ module _ (w : World) (sees : Sees w) (b : Body) (frame : HasFrame w b) (n : ℕ)
   -- ---- jumps
 
   -- a jump to a target
-  pub target_runs : (around : Surroundings) (at to : ℕ) (rest : List CodePart) (st : State) (s : MachineState) → IsAt w b.stack_pointer b.calls_left st s → IsAboutToRun w b around at (jump at to ∷ rest) s → at < to → to < 2 ^ 18
+  pub target_runs : (around : Surroundings) (at to : ℕ) (rest : List CodePart) (st : State) (s : MachineState)
+      → IsAt w b.stack_pointer b.calls_left st s → IsAboutToRun w b around at (jump at to ∷ rest) s → at < to → to < 2 ^ 18
       → Reaches w.code w.words 1 s (record s { pc = word_place w b to })
   target_runs around at to rest st s at_s here less near =
       let there = subst (λ part. IsAboutToRun w b around at (part ∷ rest) s) (jump_is_ahead at to (omega arith)) here in
       moves_last w s (record s { pc = word_place w b to }) (moves_to_word w sees b at to s at_s.ready here.here there.code_there.code_at.0 less near)
 
   -- and what it comes to
-  pub target_meets : {A : Type 0} (P : A → MachineState → Type 0) (around : Surroundings) (at to : ℕ) (rest : List CodePart) (x : A) (st : State) (s : MachineState) → IsAt w b.stack_pointer b.calls_left st s
+  pub target_meets : {A : Type 0} (P : A → MachineState → Type 0) (around : Surroundings) (at to : ℕ) (rest : List CodePart) (x : A) (st : State)
+      (s : MachineState) → IsAt w b.stack_pointer b.calls_left st s
       → IsAboutToRun w b around at (jump at to ∷ rest) s → at < to → to < 2 ^ 18 → P x (record s { pc = word_place w b to })
       → Meets w (IsPastSlots b) b.stack_pointer b.calls_left 1 P (gives x st) s
   target_meets P around at to rest x st s at_s here less near holds = record {
@@ -91,7 +96,8 @@ module _ (w : World) (sees : Sees w) (b : Body) (frame : HasFrame w b) (n : ℕ)
     holds = holds;
   }
 
-  pub break_row : (around : Surroundings) (known : List ℕ) (at : ℕ) → around.in_loop ≡ true → RunsStatement w b around known known n at (jump at around.targets.break_to ∷ []) (λ locals. gives (broke locals))
+  pub break_row : (around : Surroundings) (known : List ℕ) (at : ℕ) → around.in_loop ≡ true
+      → RunsStatement w b around known known n at (jump at around.targets.break_to ∷ []) (λ locals. gives (broke locals))
   break_row around known at e locals st s r here =
       let one = jump_size at around.targets.break_to [] in
       let target = here.ahead.for_break e in
@@ -105,7 +111,8 @@ module _ (w : World) (sees : Sees w) (b : Body) (frame : HasFrame w b) (n : ℕ)
       Q : Completion → MachineState → Type 0
       Q = CompletesAt w b around known known (at + size code)
 
-  pub continue_row : (around : Surroundings) (known : List ℕ) (at : ℕ) → around.in_loop ≡ true → RunsStatement w b around known known n at (jump at around.targets.continue_to ∷ []) (λ locals. gives (continued locals))
+  pub continue_row : (around : Surroundings) (known : List ℕ) (at : ℕ) → around.in_loop ≡ true
+      → RunsStatement w b around known known n at (jump at around.targets.continue_to ∷ []) (λ locals. gives (continued locals))
   continue_row around known at e locals st s r here =
       let one = jump_size at around.targets.continue_to [] in
       let target = here.ahead.for_continue e in
@@ -120,7 +127,8 @@ module _ (w : World) (sees : Sees w) (b : Body) (frame : HasFrame w b) (n : ℕ)
       Q = CompletesAt w b around known known (at + size code)
 
   -- the jump of a `return`, with what it returns in a0
-  returns_meets : (around : Surroundings) (known : List ℕ) (at behind : ℕ) (x : Option Value) (st : State) (s : MachineState) → IsAt w b.stack_pointer b.calls_left st s
+  returns_meets : (around : Surroundings) (known : List ℕ) (at behind : ℕ) (x : Option Value) (st : State) (s : MachineState)
+      → IsAt w b.stack_pointer b.calls_left st s
       → IsAboutToRun w b around at (jump at around.targets.return_to ∷ []) s → RepresentsReturned w around.result x (s.x 10)
       → Meets w (IsPastSlots b) b.stack_pointer b.calls_left 1 (CompletesAt w b around known known behind) (gives (returned x) st) s
   returns_meets around known at behind x st s at_s here stands_for =
@@ -130,7 +138,9 @@ module _ (w : World) (sees : Sees w) (b : Body) (frame : HasFrame w b) (n : ℕ)
       target_meets (CompletesAt w b around known known behind) around at around.targets.return_to [] (returned x) st s at_s here (omega (arith, one)) target.near (refl, stands_for)
 
   -- `return;`
-  pub return_row : (around : Surroundings) (known : List ℕ) (at : ℕ) → around.result ≡ nothing → RunsStatement w b around known known n at (jump (at + 0) around.targets.return_to ∷ []) (λ locals st. and_then (gives None st) (λ v. gives (returned v)))
+  pub return_row : (around : Surroundings) (known : List ℕ) (at : ℕ) → around.result ≡ nothing
+      → RunsStatement w b around known known n at (jump (at + 0) around.targets.return_to ∷ [])
+      (λ locals st. and_then (gives None st) (λ v. gives (returned v)))
   return_row around known at none =
       subst (λ k. RunsStatement w b around known known n at (jump k around.targets.return_to ∷ []) (λ locals st. and_then (gives None st) (λ v. gives (returned v)))) same
       (part_as w sees b frame n Q 1 (size code) around known at code (λ locals st. gives (returned None) st) (omega (arith, jump_size at around.targets.return_to []))
@@ -146,9 +156,11 @@ module _ (w : World) (sees : Sees w) (b : Body) (frame : HasFrame w b) (n : ℕ)
       Q = CompletesAt w b around known known (at + size code)
 
   -- `return` with a value
-  pub return_value_row : (around : Surroundings) (known : List ℕ) (at words : ℕ) (c : Class) (code : List CodePart) (f : Locals → State → Outcome Value) → size code ≡ words → c ≡ around.result
+  pub return_value_row : (around : Surroundings) (known : List ℕ) (at words : ℕ) (c : Class) (code : List CodePart)
+      (f : Locals → State → Outcome Value) → size code ≡ words → c ≡ around.result
       → ((locals : Locals) → Runs w b known locals n 0 c code (f locals))
-      → RunsStatement w b around known known n at (code ++ jump (at + words) around.targets.return_to ∷ []) (λ locals st. and_then (and_then (f locals st) (λ v. gives (Some v))) (λ v. gives (returned v)))
+      → RunsStatement w b around known known n at (code ++ jump (at + words) around.targets.return_to ∷ [])
+      (λ locals st. and_then (and_then (f locals st) (λ v. gives (Some v))) (λ v. gives (returned v)))
   return_value_row around known at words c code f e is_result runs =
       subst (λ k. RunsStatement w b around known known n at (code ++ jump (at + k) around.targets.return_to ∷ []) (λ locals st. and_then (and_then (f locals st) (λ v. gives (Some v))) (λ v. gives (returned v)))) e
       (part_as w sees b frame n Q (size code + 1) (size all) around known at all (λ locals st. and_then (and_then (f locals st) (λ v. gives (Some v))) (λ v. gives (returned v)))
@@ -170,10 +182,12 @@ module _ (w : World) (sees : Sees w) (b : Body) (frame : HasFrame w b) (n : ℕ)
   -- ---- a local
 
   -- the locals after one of them was set
-  carried_after : (known : List ℕ) (locals : Locals) (i value : ℕ) (x : Option Value) (m : Mem) → i < b.frame.locals → ((c : Class) → slice_get b.classes i ≡ Some c → RepresentsLocal w c x value)
+  carried_after : (known : List ℕ) (locals : Locals) (i value : ℕ) (x : Option Value) (m : Mem) → i < b.frame.locals
+      → ((c : Class) → slice_get b.classes i ≡ Some c → RepresentsLocal w c x value)
       → doubleword (put_doubleword m (b.stack_pointer + 8 * i) value) (b.stack_pointer + 8 * i) ≡ Some value
       → ((j : ℕ) → j ≢ i → doubleword (put_doubleword m (b.stack_pointer + 8 * i) value) (b.stack_pointer + 8 * j) ≡ doubleword m (b.stack_pointer + 8 * j))
-      → AreLocalsCarried w b known locals m → AreLocalsCarried w b (i ∷ known) (with_local_set locals i x) (put_doubleword m (b.stack_pointer + 8 * i) value)
+      → AreLocalsCarried w b known locals m
+      → AreLocalsCarried w b (i ∷ known) (with_local_set locals i x) (put_doubleword m (b.stack_pointer + 8 * i) value)
   carried_after known locals i value x m below stands_for same other carried j c is_known is_class = by_test (nat_eq i j) refl
     where
       new : Mem
@@ -189,10 +203,12 @@ module _ (w : World) (sees : Sees w) (b : Body) (frame : HasFrame w b) (n : ℕ)
           rw e (record { below = l.below; word = l.word; is = other j is ∙ l.is; represents = l.represents })
 
   -- a register is put into the slot of a local
-  pub local_meets : (around : Surroundings) (known : List ℕ) (at behind : ℕ) (locals : Locals) (i rs : ℕ) (x : Option Value) (st : State) (s : MachineState) → IsReadyFor w b known locals n st s
+  pub local_meets : (around : Surroundings) (known : List ℕ) (at behind : ℕ) (locals : Locals) (i rs : ℕ) (x : Option Value) (st : State)
+      (s : MachineState) → IsReadyFor w b known locals n st s
       → IsAboutToRun w b around at (instruction (Sd 2 rs (local_slot i)) ∷ []) s → i < b.frame.locals → get s.x rs < 2 ^ 64
       → ((c : Class) → slice_get b.classes i ≡ Some c → RepresentsLocal w c x (get s.x rs)) → at + 1 ≡ behind
-      → Meets w (IsPastSlots b) b.stack_pointer b.calls_left 1 (CompletesAt w b around known (i ∷ known) behind) (gives (normal (with_local_set locals i x)) st) s
+      → Meets w (IsPastSlots b) b.stack_pointer b.calls_left 1 (CompletesAt w b around known (i ∷ known) behind)
+      (gives (normal (with_local_set locals i x)) st) s
   local_meets around known at behind locals i rs x st s r here below small stands_for e =
       let a : ℕ = b.stack_pointer + 8 * i in
       let value : ℕ = get s.x rs in
@@ -220,9 +236,11 @@ module _ (w : World) (sees : Sees w) (b : Body) (frame : HasFrame w b) (n : ℕ)
       differ j other = omega (arith, other)
 
   -- a local is set to a value
-  pub set_local_row : (around : Surroundings) (known : List ℕ) (at i : ℕ) (c : Class) (code : List CodePart) (f : Locals → State → Outcome Value) → slice_get b.classes i ≡ Some c → IsValue c → i < b.frame.locals
+  pub set_local_row : (around : Surroundings) (known : List ℕ) (at i : ℕ) (c : Class) (code : List CodePart) (f : Locals → State → Outcome Value)
+      → slice_get b.classes i ≡ Some c → IsValue c → i < b.frame.locals
       → ((locals : Locals) → Runs w b known locals n 0 c code (f locals))
-      → RunsStatement w b around known (i ∷ known) n at (code ++ instruction (Sd 2 10 (local_slot i)) ∷ []) (λ locals st. and_then (and_then (f locals st) (λ v. gives (Some v))) (λ v. gives (normal (with_local_set locals i v))))
+      → RunsStatement w b around known (i ∷ known) n at (code ++ instruction (Sd 2 10 (local_slot i)) ∷ [])
+      (λ locals st. and_then (and_then (f locals st) (λ v. gives (Some v))) (λ v. gives (normal (with_local_set locals i v))))
   set_local_row around known at i c code f is_class some below runs =
       part_as w sees b frame n Q (size code + 1) (size all) around known at all means (omega (arith, both))
       (part_means w sees b frame n Q (size code + 1) around known at all (λ locals st. and_then (f locals st) (λ v. gives (normal (with_local_set locals i (Some v))))) means
@@ -249,7 +267,8 @@ module _ (w : World) (sees : Sees w) (b : Body) (frame : HasFrame w b) (n : ℕ)
 
   -- a local is declared
   pub declare_row : (around : Surroundings) (known : List ℕ) (at i : ℕ) → i < b.frame.locals
-      → RunsStatement w b around known (i ∷ known) n at (instruction (Sd 2 0 (local_slot i)) ∷ []) (λ locals st. and_then (gives None st) (λ v. gives (normal (with_local_set locals i v))))
+      → RunsStatement w b around known (i ∷ known) n at (instruction (Sd 2 0 (local_slot i)) ∷ [])
+      (λ locals st. and_then (gives None st) (λ v. gives (normal (with_local_set locals i v))))
   declare_row around known at i below =
       part_as w sees b frame n Q 1 (size code) around known at code (λ locals st. gives (normal (with_local_set locals i None)) st) (omega (arith, alone (Sd 2 0 (local_slot i))))
       (λ locals st s r here. local_meets around known at (at + size code) locals i 0 None st s r here below (omega arith) (λ c is. refl) (omega (arith, alone (Sd 2 0 (local_slot i)))))

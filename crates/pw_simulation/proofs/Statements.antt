@@ -98,7 +98,8 @@ covers_after_maybe : (s : OptionalTypedStatement) (known : List ℕ) → Covers 
 covers_after_maybe absent known = covers_itself known
 covers_after_maybe (present s) known = covers_after s known
 
-module _ (w : World) (sees : Sees w) (b : Body) (frame : HasFrame w b) (body_is : IsKeptBody w b) (n : ℕ) (calls : Definition → List Value → State → Outcome Value) (calls_run : CallsRun w calls n) where
+module _ (w : World) (sees : Sees w) (b : Body) (frame : HasFrame w b) (body_is : IsKeptBody w b) (n : ℕ)
+    (calls : Definition → List Value → State → Outcome Value) (calls_run : CallsRun w calls n) where
   abbrev x : Context
   x = context_of w b calls n
 
@@ -111,7 +112,8 @@ module _ (w : World) (sees : Sees w) (b : Body) (frame : HasFrame w b) (body_is 
   nothing_row around known at locals st s r here = stays w sees b frame n (CompletesAt w b around known known (at + 0)) 0 (normal locals) st s r.at (let e = here.here in omega arith, r.carried)
 
   -- an expression of a statement
-  expression_of : (known : List ℕ) (h : ℕ) (e : TypedExpression) → Throughout (HasFittingParts b.unit b.classes) e → Throughout (ReadsKnown known) e → Throughout HasSmallNumbers e → h + held e ≤ b.frame.held
+  expression_of : (known : List ℕ) (h : ℕ) (e : TypedExpression) → Throughout (HasFittingParts b.unit b.classes) e → Throughout (ReadsKnown known) e
+      → Throughout HasSmallNumbers e → h + held e ≤ b.frame.held
       → AreLinked (names_in e) → (locals : Locals) → Runs w b known locals n h (class e) (expression_code b.frame h e) (eval x e locals)
   expression_of known h e p k m few links locals =
       expressions_run w b known locals n h n calls e sees frame calls_run (record { parts = p; reads = k; numbers = m; held = few; links = links })
@@ -126,10 +128,13 @@ module _ (w : World) (sees : Sees w) (b : Body) (frame : HasFrame w b) (body_is 
     links : AreLinked (names_in_option c)
 
   -- the loop of a `for`, behind its first part
-  for_loop_runs : (around : Surroundings) (known : List ℕ) (c : Option TypedExpression) (top body_at next jump_at nb nl : ℕ) (body last : List CodePart) (mb ml : Locals → State → Outcome Completion) → IsFineCondition known c
+  for_loop_runs : (around : Surroundings) (known : List ℕ) (c : Option TypedExpression) (top body_at next jump_at nb nl : ℕ)
+      (body last : List CodePart) (mb ml : Locals → State → Outcome Completion) → IsFineCondition known c
       → top + condition_words c ≡ body_at → body_at + size body ≡ next → next + size last ≡ jump_at → size body ≡ nb → size last ≡ nl
-      → RunsStatement w b (inside_loop around (jump_at + 1) next) known known n body_at body mb → RunsStatement w b (outside_loops around) known known n next last ml
-      → RunsStatement w b around known known n top (condition_code b.frame c (nb + (nl + 1)) ++ body ++ last ++ jump jump_at top ∷ []) (iterations (tests x c (runs mb (runs ml goes_back))) n)
+      → RunsStatement w b (inside_loop around (jump_at + 1) next) known known n body_at body mb
+      → RunsStatement w b (outside_loops around) known known n next last ml
+      → RunsStatement w b around known known n top (condition_code b.frame c (nb + (nl + 1)) ++ body ++ last ++ jump jump_at top ∷ [])
+      (iterations (tests x c (runs mb (runs ml goes_back))) n)
   for_loop_runs around known None top body_at next jump_at nb nl body last mb ml f start middle end words_b words_l runs_body runs_last =
       endless w sees b frame n around body_is.kept known body_at next jump_at top nb nl body last mb ml middle end words_b words_l runs_body runs_last (omega arith)
   for_loop_runs around known (Some e) top body_at next jump_at nb nl body last mb ml f start middle end words_b words_l runs_body runs_last =

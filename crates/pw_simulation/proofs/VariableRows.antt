@@ -56,7 +56,8 @@ module _ (w : World) (sees : Sees w) (b : Body) (frame : HasFrame w b) where
   -- ---- a store in an element
 
   -- a store in an element leaves the memory ready,
-  ready_after_put : (m : Mem) (d : Definition) (i x : ℕ) (v : TVar) (was : ℕ) → IsElement w d i v → doubleword m (w.variable_place d + 8 * i) ≡ Some was → x < 2 ^ 64 → IsReady w m
+  ready_after_put : (m : Mem) (d : Definition) (i x : ℕ) (v : TVar) (was : ℕ) → IsElement w d i v
+      → doubleword m (w.variable_place d + 8 * i) ≡ Some was → x < 2 ^ 64 → IsReady w m
       → IsReady w (put_doubleword m (w.variable_place d + 8 * i) x)
   ready_after_put m d i x v was element has small r =
       let a : ℕ = w.variable_place d + 8 * i in
@@ -68,8 +69,10 @@ module _ (w : World) (sees : Sees w) (b : Body) (frame : HasFrame w b) where
       }
 
   -- and the other elements as they were
-  carried_after_put : (m : Mem) (st : State) (d : Definition) (i x : ℕ) (v : TVar) (y : Value) (was : ℕ) → IsElement w d i v → doubleword m (w.variable_place d + 8 * i) ≡ Some was → x < 2 ^ 64
-      → Represents w (class_of v.ty) y x → AreCarried w st.variables m → AreCarried w (with_element d i y st).variables (put_doubleword m (w.variable_place d + 8 * i) x)
+  carried_after_put : (m : Mem) (st : State) (d : Definition) (i x : ℕ) (v : TVar) (y : Value) (was : ℕ) → IsElement w d i v
+      → doubleword m (w.variable_place d + 8 * i) ≡ Some was → x < 2 ^ 64
+      → Represents w (class_of v.ty) y x → AreCarried w st.variables m
+      → AreCarried w (with_element d i y st).variables (put_doubleword m (w.variable_place d + 8 * i) x)
   carried_after_put m st d i x v y was element has small stands_for carried e j z other = by_test (same_definition d e && nat_eq i j) refl
     where
       a : ℕ
@@ -78,7 +81,8 @@ module _ (w : World) (sees : Sees w) (b : Body) (frame : HasFrame w b) where
       new : Mem
       new = put_doubleword m a x
 
-      by_test : (t : Bool) → (same_definition d e && nat_eq i j) ≡ t → IsCarried w new (w.variable_place e + 8 * j) (class_of z.ty) (Rattle.std.proofs.Common.cond t y (st.variables e j))
+      by_test : (t : Bool) → (same_definition d e && nat_eq i j) ≡ t
+          → IsCarried w new (w.variable_place e + 8 * j) (class_of z.ty) (Rattle.std.proofs.Common.cond t y (st.variables e j))
       by_test true is =
           let same : d ≡ e = same_definition_is d e (both_left (same_definition d e) (nat_eq i j) is) in
           let test : nat_eq i j ≡ true = both_right (same_definition d e) (nat_eq i j) is in
@@ -104,7 +108,8 @@ module _ (w : World) (sees : Sees w) (b : Body) (frame : HasFrame w b) where
               cc
 
   -- an element is set
-  pub put_element_at : (d : Definition) (k x pc : ℕ) (v : TVar) (y : Value) (st : State) (s : MachineState) → IsElement w d k v → x < 2 ^ 64 → Represents w (class_of v.ty) y x → IsAt w b.stack_pointer b.calls_left st s
+  pub put_element_at : (d : Definition) (k x pc : ℕ) (v : TVar) (y : Value) (st : State) (s : MachineState) → IsElement w d k v → x < 2 ^ 64
+      → Represents w (class_of v.ty) y x → IsAt w b.stack_pointer b.calls_left st s
       → IsAt w b.stack_pointer b.calls_left (with_element d k y st) (record s { mem = put_doubleword s.mem (w.variable_place d + 8 * k) x; pc = pc })
   put_element_at d k x pc v y st s element small stands_for at =
       let was = at.variables d k v element in
@@ -121,14 +126,18 @@ module _ (w : World) (sees : Sees w) (b : Body) (frame : HasFrame w b) where
         bytes = at.bytes;
       }
 
-  module _ (n : ℕ) (around : Surroundings) (known : List ℕ) (name : Ref) (size_of : Option ℕ) (c : Class) (means : MeansVariable w b name size_of c) (some : IsValue c) where
+  module _ (n : ℕ) (around : Surroundings) (known : List ℕ) (name : Ref) (size_of : Option ℕ) (c : Class) (means : MeansVariable w b name size_of c)
+      (some : IsValue c) where
     abbrev named : Definition
     named = named_in w.project b.self.in_module b.self.in_unit name
 
     -- a0 is put into an element, whose address is in t0
-    pub store_meets : (behind k : ℕ) (locals : Locals) (y : Value) (st : State) (s : MachineState) → IsReadyFor w b known locals n st s → IsElement w means.d k means.variable
-        → w.code s.pc ≡ Some (Sd 5 10 (pos 0)) → s.x 5 ≡ w.variable_place means.d + 8 * k → Represents w c y (s.x 10) → s.pc + 4 ≡ word_place w b behind
-        → Meets w (IsPastSlots b) b.stack_pointer b.calls_left 1 (CompletesAt w b around known known behind) (gives (normal locals) (with_element named k y st)) s
+    pub store_meets : (behind k : ℕ) (locals : Locals) (y : Value) (st : State) (s : MachineState) → IsReadyFor w b known locals n st s
+        → IsElement w means.d k means.variable
+        → w.code s.pc ≡ Some (Sd 5 10 (pos 0)) → s.x 5 ≡ w.variable_place means.d + 8 * k → Represents w c y (s.x 10)
+        → s.pc + 4 ≡ word_place w b behind
+        → Meets w (IsPastSlots b) b.stack_pointer b.calls_left 1 (CompletesAt w b around known known behind)
+        (gives (normal locals) (with_element named k y st)) s
     store_meets behind k locals y st s r element here is stands_for next =
         let a : ℕ = w.variable_place means.d + 8 * k in
         let place = sees.element_places means.d k means.variable element in
@@ -157,15 +166,19 @@ module _ (w : World) (sees : Sees w) (b : Body) (frame : HasFrame w b) where
         slot_beside : (i a : ℕ) → a + 8 ≤ w.stack_low → w.stack_low ≤ b.stack_pointer → a ≢ b.stack_pointer + 8 * i
         slot_beside i a below low = omega (arith, below, low)
 
-        carried : (old new : Mem) → ((i : ℕ) → i < b.frame.locals → doubleword new (b.stack_pointer + 8 * i) ≡ doubleword old (b.stack_pointer + 8 * i)) → AreLocalsCarried w b known locals old → AreLocalsCarried w b known locals new
+        carried : (old new : Mem)
+            → ((i : ℕ) → i < b.frame.locals → doubleword new (b.stack_pointer + 8 * i) ≡ doubleword old (b.stack_pointer + 8 * i))
+            → AreLocalsCarried w b known locals old → AreLocalsCarried w b known locals new
         carried old new same h i d is_known is_class =
             let l = h i d is_known is_class in
             record { below = l.below; word = l.word; is = same i l.below ∙ l.is; represents = l.represents }
 
     -- the address of a variable is brought, and a0 is put there
-    variable_follows : (behind : ℕ) (locals : Locals) (y : Value) (st : State) (t : MachineState) → IsReadyFor w b known locals n st t → 0 < Rattle.pw_tree.specs.WellTypedUnits.room means.variable.count
+    variable_follows : (behind : ℕ) (locals : Locals) (y : Value) (st : State) (t : MachineState) → IsReadyFor w b known locals n st t
+        → 0 < Rattle.pw_tree.specs.WellTypedUnits.room means.variable.count
         → Stands w b t.pc (address 5 name ∷ instruction (Sd 5 10 (pos 0)) ∷ []) → Represents w c y (t.x 10) → t.pc + 12 ≡ word_place w b behind
-        → Meets w (IsPastSlots b) b.stack_pointer b.calls_left 3 (CompletesAt w b around known known behind) (gives (normal locals) (with_element named 0 y st)) t
+        → Meets w (IsPastSlots b) b.stack_pointer b.calls_left 3 (CompletesAt w b around known known behind)
+        (gives (normal locals) (with_element named 0 y st)) t
     variable_follows behind locals y st t r some_room here stands_for next =
         let brought = address_runs w sees.apart b.self.in_module b.self.in_unit 4 name t r.at.ready here.code_at.0 in
         let s : MachineState = record t { x = brought.registers; pc = t.pc + 8 } in
@@ -185,8 +198,10 @@ module _ (w : World) (sees : Sees w) (b : Body) (frame : HasFrame w b) where
         nine e = cc
 
     -- a variable is set
-    pub set_variable_row : (at : ℕ) (code : List CodePart) (f : Locals → State → Outcome Value) → 0 < Rattle.pw_tree.specs.WellTypedUnits.room size_of → ((locals : Locals) → Runs w b known locals n 0 c code (f locals))
-        → RunsStatement w b around known known n at (code ++ address 5 name ∷ instruction (Sd 5 10 (pos 0)) ∷ []) (λ locals st. and_then (f locals st) (stores named 0 locals))
+    pub set_variable_row : (at : ℕ) (code : List CodePart) (f : Locals → State → Outcome Value) → 0 < Rattle.pw_tree.specs.WellTypedUnits.room size_of
+        → ((locals : Locals) → Runs w b known locals n 0 c code (f locals))
+        → RunsStatement w b around known known n at (code ++ address 5 name ∷ instruction (Sd 5 10 (pos 0)) ∷ [])
+        (λ locals st. and_then (f locals st) (stores named 0 locals))
     set_variable_row at code f some_room runs =
         part_as w sees b frame n Q (size code + 3) (size all) around known at all (λ locals st. and_then (f locals st) (stores named 0 locals)) (omega (arith, both))
         (value_part w sees b frame n Q 3 around known at c code tail f (stores named 0) runs
