@@ -8,7 +8,10 @@ pub mod Moments
 pub mod Sees
 pub mod Bodies
 pub mod Calls
+pub mod Statements
 pub mod Straight
 pub mod Laws
 pub mod Tables
 pub mod Witness
+pub mod Programs
+pub mod AnyRuns

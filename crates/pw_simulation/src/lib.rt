@@ -5,6 +5,7 @@
 mod laws;
 
 pub use laws::{
-    a_world_shows_a_project, addresses_are_brought, expressions_run, faults_stop,
-    load_immediate_loads, loads_are_carried_out, stores_are_carried_out,
+    a_world_shows_a_project, addresses_are_brought, calls_are_meant, expressions_run, faults_stop,
+    limited_runs_are_meant, limited_runs_go_on, load_immediate_loads, loads_are_carried_out,
+    sealed_text_stays_in_runs, statements_run, stores_are_carried_out, the_run_is_the_meaning,
 };
