@@ -23,3 +23,7 @@ pub mod ReadRows
 pub mod Singles
 pub mod Tables
 pub mod Witness
+pub mod Joined
+pub mod TwoLevels
+pub mod Extents
+pub mod Elements
