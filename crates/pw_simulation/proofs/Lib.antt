@@ -27,3 +27,5 @@ pub mod Joined
 pub mod TwoLevels
 pub mod Extents
 pub mod Elements
+pub mod Addresses
+pub mod ImageCode
