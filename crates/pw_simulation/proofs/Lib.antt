@@ -29,3 +29,5 @@ pub mod Extents
 pub mod Elements
 pub mod Addresses
 pub mod ImageCode
+pub mod Slots
+pub mod ImageSees
