@@ -31,3 +31,5 @@ pub mod Addresses
 pub mod ImageCode
 pub mod Slots
 pub mod ImageSees
+pub mod Definitions
+pub mod TypeTexts
