@@ -33,3 +33,4 @@ pub mod Slots
 pub mod ImageSees
 pub mod Definitions
 pub mod TypeTexts
+pub mod Links
