@@ -34,3 +34,4 @@ pub mod ImageSees
 pub mod Definitions
 pub mod TypeTexts
 pub mod Links
+pub mod NamesInBodies
