@@ -35,3 +35,4 @@ pub mod Definitions
 pub mod TypeTexts
 pub mod Links
 pub mod NamesInBodies
+pub mod Enough

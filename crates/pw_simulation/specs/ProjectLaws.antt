@@ -1,8 +1,12 @@
--- The laws of projects and their images.
-use Rattle.std.specs.Prelude.{ℕ}
-use Rattle.pw_tree.specs.Names.{Project}
+-- The laws of projects and their worlds.
+use Rattle.std.specs.Prelude.{◌≡◌, true, Some}
+use Rattle.std.specs.List.{AllByRecursion}
+use Rattle.pw_tree.specs.Units.{Function}
+use Rattle.pw_tree.specs.Names.{Project, unit_at, function_at}
+use Rattle.pw_tree.specs.Depends.{names_of_all}
 use Rattle.pw_agree.specs.Kept.{Keep, FindsKept}
 use Rattle.pw_simulation.specs.Sees.{Sees}
+use Rattle.pw_simulation.specs.Bodies.{Body, IsLinked}
 use Rattle.pw_simulation.specs.Projects.{CanRun, KeepsEnough, keeps_all}
 use Rattle.pw_simulation.specs.ImageWorld.{world_of}
 
@@ -17,3 +21,9 @@ KeptIsEnough = (project : Project) (keep : Keep) → CanRun project → FindsKep
 -- and so are all functions.
 abbrev pub AllIsEnough : Type 0
 AllIsEnough = (project : Project) → CanRun project → KeepsEnough project (keeps_all project)
+
+-- Each name in the body of a kept function means what its unit says.
+abbrev pub BodiesAreLinked : Type 0
+BodiesAreLinked =
+    (project : Project) (keep : Keep) (b : Body) (f : Function) → CanRun project → KeepsEnough project keep → unit_at project b.self ≡ Some b.unit →
+    function_at project b.self ≡ Some f → keep b.self ≡ true → AllByRecursion (IsLinked (world_of project keep) b) (names_of_all f.body)

@@ -20,7 +20,7 @@ pub record IsWithinLimits (project : Project) (m : ℕ) : Type 0 where
   pub elements : sum_by (λ unit. elements_of unit.variables) (units_of project m) ≤ limits.module_elements
 
 -- `main` is a function `long main(void)`.
-pub record HasMain (project : Project) : Type 0 where
+pub record DefinesMain (project : Project) : Type 0 where
   pub place : Definition
   pub found : definition_of project (codes "main") ≡ Some (function place)
   pub body : Function
@@ -36,7 +36,7 @@ pub record CanRun (project : Project) : Type 0 where
   pub bound : (d : Definition) (unit : TypedUnit) (name : List ℕ) → unit_at project d ≡ Some unit → IsUnbound project unit name → ⊥
   pub same : (d : Definition) (unit : TypedUnit) (name declares defines : List ℕ) → unit_at project d ≡ Some unit →
       Differs project unit name declares defines → ⊥
-  pub main : HasMain project
+  pub main : DefinesMain project
 
 -- ---- what is kept
 

@@ -5,6 +5,7 @@
 mod laws;
 
 pub use laws::{
-    a_world_shows_a_project, addresses_are_brought, expressions_run, faults_stop,
-    load_immediate_loads, loads_are_carried_out, stores_are_carried_out,
+    a_world_shows_a_project, addresses_are_brought, all_is_enough, bodies_are_linked,
+    expressions_run, faults_stop, images_are_seen, kept_is_enough, load_immediate_loads,
+    loads_are_carried_out, stores_are_carried_out,
 };
