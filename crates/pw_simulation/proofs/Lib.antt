@@ -36,3 +36,10 @@ pub mod TypeTexts
 pub mod Links
 pub mod NamesInBodies
 pub mod Enough
+pub mod CallPieces
+pub mod Parameters
+pub mod CallLaws
+pub mod Calls
+pub mod Runs
+pub mod AnyRun
+pub mod LimitedRuns

@@ -8,6 +8,7 @@ pub mod Moments
 pub mod Sees
 pub mod Bodies
 pub mod Calls
+pub mod Statements
 pub mod Straight
 pub mod Laws
 pub mod Tables
@@ -15,3 +16,5 @@ pub mod Witness
 pub mod Projects
 pub mod ImageWorld
 pub mod ProjectLaws
+pub mod Programs
+pub mod AnyRuns

@@ -1,8 +1,8 @@
 //! The laws of a run, over definitions alone. Each is the contract of a function, which does nothing.
 
+ghost use Rattle.pw_simulation.specs.AnyRuns.{SealedTextStaysInRuns, LimitedRunsGoOn};
 ghost use Rattle.pw_simulation.specs.Calls.{ExpressionsRun};
 ghost use Rattle.pw_simulation.specs.Laws.{AddressesAreBrought, LoadsAreCarriedOut, StoresAreCarriedOut, FaultsStop};
-ghost use Rattle.pw_simulation.specs.ProjectLaws.{ImagesAreSeen, KeptIsEnough, AllIsEnough, BodiesAreLinked};
 ghost use Rattle.pw_simulation.specs.Straight.{LoadImmediateLoads};
 ghost use Rattle.pw_simulation.specs.Witness.{WorldSees};
 
@@ -42,24 +42,12 @@ pub fn a_world_shows_a_project()
     ensures { WorldSees }
 {}
 
-/// The world of a project that can be run shows the project, as far as it is kept: each kept function stands at its place, and
-/// no two things have one address.
-pub fn images_are_seen()
-    ensures { ImagesAreSeen }
+/// However long a run is, the text of a sealed memory stays, and so do its regions.
+pub fn sealed_text_stays_in_runs()
+    ensures { SealedTextStaysInRuns }
 {}
 
-/// It is enough to keep the functions that the roots lead to.
-pub fn kept_is_enough()
-    ensures { KeptIsEnough }
-{}
-
-/// It is enough to keep all functions.
-pub fn all_is_enough()
-    ensures { AllIsEnough }
-{}
-
-/// Each name in the body of a kept function means what its unit says of it: a variable of that type and size, or a kept function
-/// of that signature.
-pub fn bodies_are_linked()
-    ensures { BodiesAreLinked }
+/// A run that stops at its limit is the beginning of each longer run.
+pub fn limited_runs_go_on()
+    ensures { LimitedRunsGoOn }
 {}

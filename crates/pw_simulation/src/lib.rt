@@ -3,9 +3,11 @@
 #![tactic(auto)]
 
 mod laws;
+mod projects;
 
 pub use laws::{
-    a_world_shows_a_project, addresses_are_brought, all_is_enough, bodies_are_linked,
-    expressions_run, faults_stop, images_are_seen, kept_is_enough, load_immediate_loads,
-    loads_are_carried_out, stores_are_carried_out,
+    a_world_shows_a_project, addresses_are_brought, expressions_run, faults_stop,
+    limited_runs_go_on, load_immediate_loads, loads_are_carried_out, sealed_text_stays_in_runs,
+    stores_are_carried_out,
 };
+pub use projects::{all_is_enough, bodies_are_linked, images_are_seen, kept_is_enough};
