@@ -50,19 +50,19 @@ pub length_of_function : (project : Project) (keep : Keep) (d : Definition) (f :
 length_of_function project keep d f = length_by project keep d f (keep d)
 
 -- what a function and a unit give to the text
-abbrev function_part : Project → Keep → (m u : ℕ) → ℕ → Function → List (Option Inst)
+abbrev pub function_part : Project → Keep → (m u : ℕ) → ℕ → Function → List (Option Inst)
 function_part project keep m u i f = function_instructions project keep (definition_at m u i) f
 
-abbrev unit_part : Project → Keep → (m : ℕ) → ℕ → TypedUnit → List (Option Inst)
+abbrev pub unit_part : Project → Keep → (m : ℕ) → ℕ → TypedUnit → List (Option Inst)
 unit_part project keep m u unit = joined (function_part project keep m u) 0 unit.functions
 
-abbrev first_part : Project → ℕ → List (Option Inst)
+abbrev pub first_part : Project → ℕ → List (Option Inst)
 first_part project m = map (λ i. Some i) (instructions_at (target_address project m 0) (text_of m) (code_before_functions m))
 
-length_of_unit : (project : Project) (keep : Keep) (m u : ℕ) (unit : TypedUnit) → length (unit_part project keep m u unit) ≡ words_of_unit unit
+pub length_of_unit : (project : Project) (keep : Keep) (m u : ℕ) (unit : TypedUnit) → length (unit_part project keep m u unit) ≡ words_of_unit unit
 length_of_unit project keep m u unit = length_of_joined (function_part project keep m u) function_words (λ i f. length_of_function project keep (definition_at m u i) f) 0 unit.functions
 
-length_of_first : (project : Project) (m : ℕ) → length (first_part project m) ≡ first_words m
+pub length_of_first : (project : Project) (m : ℕ) → length (first_part project m) ≡ first_words m
 length_of_first project m =
     length_of_map (λ i. Some i) (instructions_at (target_address project m 0) (text_of m) (code_before_functions m))
     ∙ length_of_instructions (target_address project m 0) (text_of m) (code_before_functions m)

@@ -1,5 +1,5 @@
 -- Elements of lists that are made of others, by their places.
-use Rattle.std.proofs.Common.{◌≡◌, ℕ, zero, suc, ◌+◌, ◌*◌, ◌<◌, ◌≤◌, List, [], ◌∷◌, ◌++◌, length, map, take, Option, Some, None, refl, sym, ◌∙◌, ap, subst, arith}
+use Rattle.std.proofs.Common.{◌≡◌, ℕ, zero, suc, ◌+◌, ◌*◌, ◌<◌, ◌≤◌, List, [], ◌∷◌, ◌++◌, length, map, take, Option, Some, None, ◌⊎◌, inl, inr, refl, sym, ◌∙◌, ap, subst, arith}
 use Rattle.std.specs.Prelude.{slice_get, sum_by, replicate, option_map}
 use Rattle.std.proofs.lemmas.List.Sums.{sum_by-cons}
 use Rattle.pw_simulation.specs.ImageWorld.{joined}
@@ -94,3 +94,45 @@ module _ {A B : Type 0} (part : ℕ → A → List B) (weight : A → ℕ) (fits
       let place : sum_by weight (take (suc j) (y ∷ ys)) + k ≡ length (part n y) + (sum_by weight (take j ys) + k) = omega (arith, fits n y, sum_more weight y (take j ys)) in
       ap (slice_get (joined part n (y ∷ ys))) place ∙ get_right (part n y) (joined part (suc n) ys) (sum_by weight (take j ys) + k)
       ∙ joined_at (suc n) ys j x there k below ∙ ap (λ i. slice_get (part i x) k) next
+
+-- where an element of what items give comes from
+pub record IsFrom {A B : Type 0} (part : ℕ → A → List B) (weight : A → ℕ) (n : ℕ) (xs : List A) (k : ℕ) (b : B) : Type 0 where
+  pub number : ℕ
+  pub item : A
+  pub there : slice_get xs number ≡ Some item
+  pub inner : ℕ
+  pub place : k ≡ sum_by weight (take number xs) + inner
+  pub got : slice_get (part (n + number) item) inner ≡ Some b
+
+pub either_side : {X : Type 0} (xs ys : List X) (k : ℕ) (x : X) → slice_get (xs ++ ys) k ≡ Some x
+    → (slice_get xs k ≡ Some x) ⊎ ((r : ℕ) × (k ≡ length xs + r) × (slice_get ys r ≡ Some x))
+either_side [] ys k x h = inr (k, omega arith, h)
+either_side (y ∷ xs) ys zero x h = inl h
+either_side (y ∷ xs) ys (suc k) x h = next (either_side xs ys k x h)
+  where
+    next : (slice_get xs k ≡ Some x) ⊎ ((r : ℕ) × (k ≡ length xs + r) × (slice_get ys r ≡ Some x))
+        → (slice_get xs k ≡ Some x) ⊎ ((r : ℕ) × (suc k ≡ suc (length xs) + r) × (slice_get ys r ≡ Some x))
+    next (inl e) = inl e
+    next (inr e) = inr (e.0, let p = e.1 in omega arith, e.2)
+
+module _ {A B : Type 0} (part : ℕ → A → List B) (weight : A → ℕ) (fits : (n : ℕ) (x : A) → length (part n x) ≡ weight x) where
+  from_by : (n : ℕ) (x : A) (xs : List A) (k : ℕ) (b : B) → ((r : ℕ) → slice_get (joined part (suc n) xs) r ≡ Some b → IsFrom part weight (suc n) xs r b)
+      → (slice_get (part n x) k ≡ Some b) ⊎ ((r : ℕ) × (k ≡ length (part n x) + r) × (slice_get (joined part (suc n) xs) r ≡ Some b)) → IsFrom part weight n (x ∷ xs) k b
+  from_by n x xs k b rest (inl e) =
+      let here : n + 0 ≡ n = omega arith in
+      record { number = 0; item = x; there = refl; inner = k; place = omega arith; got = ap (λ i. slice_get (part i x) k) here ∙ e }
+  from_by n x xs k b rest (inr e) =
+      let r = rest e.0 e.2 in
+      let next : suc n + r.number ≡ n + suc r.number = omega arith in
+      record {
+        number = suc r.number;
+        item = r.item;
+        there = r.there;
+        inner = r.inner;
+        place = let p = r.place in let q = e.1 in omega (arith, fits n x, sum_more weight x (take r.number xs));
+        got = ap (λ i. slice_get (part i r.item) r.inner) (sym next) ∙ r.got;
+      }
+
+  pub joined_from : (n : ℕ) (xs : List A) (k : ℕ) (b : B) → slice_get (joined part n xs) k ≡ Some b → IsFrom part weight n xs k b
+  joined_from n [] k b h = cc
+  joined_from n (x ∷ xs) k b h = from_by n x xs k b (λ r g. joined_from (suc n) xs r b g) (either_side (part n x) (joined part (suc n) xs) k b h)

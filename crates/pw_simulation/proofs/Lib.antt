@@ -43,3 +43,4 @@ pub mod Calls
 pub mod Runs
 pub mod AnyRun
 pub mod LimitedRuns
+pub mod OnlyKept

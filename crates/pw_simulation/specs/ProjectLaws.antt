@@ -7,6 +7,7 @@ use Rattle.pw_tree.specs.Depends.{names_of_all}
 use Rattle.pw_agree.specs.Kept.{Keep, FindsKept}
 use Rattle.pw_simulation.specs.Sees.{Sees}
 use Rattle.pw_simulation.specs.Bodies.{Body, IsLinked}
+use Rattle.pw_simulation.specs.Programs.{IsRunnable}
 use Rattle.pw_simulation.specs.Projects.{CanRun, KeepsEnough, keeps_all}
 use Rattle.pw_simulation.specs.ImageWorld.{world_of}
 
@@ -27,3 +28,7 @@ abbrev pub BodiesAreLinked : Type 0
 BodiesAreLinked =
     (project : Project) (keep : Keep) (b : Body) (f : Function) → CanRun project → KeepsEnough project keep → unit_at project b.self ≡ Some b.unit →
     function_at project b.self ≡ Some f → keep b.self ≡ true → AllByRecursion (IsLinked (world_of project keep) b) (names_of_all f.body)
+
+-- A project that can be run, of which enough is kept, has a world in which it can be run.
+abbrev pub ProjectsAreRunnable : Type 0
+ProjectsAreRunnable = (project : Project) (keep : Keep) → CanRun project → KeepsEnough project keep → IsRunnable (world_of project keep)

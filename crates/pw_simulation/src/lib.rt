@@ -10,4 +10,6 @@ pub use laws::{
     limited_runs_go_on, load_immediate_loads, loads_are_carried_out, sealed_text_stays_in_runs,
     stores_are_carried_out,
 };
-pub use projects::{all_is_enough, bodies_are_linked, images_are_seen, kept_is_enough};
+pub use projects::{
+    all_is_enough, bodies_are_linked, images_are_seen, kept_is_enough, projects_are_runnable,
+};

@@ -1,6 +1,6 @@
 //! The laws of projects and of their images, over definitions alone. Each is the contract of a function, which does nothing.
 
-ghost use Rattle.pw_simulation.specs.ProjectLaws.{ImagesAreSeen, KeptIsEnough, AllIsEnough, BodiesAreLinked};
+ghost use Rattle.pw_simulation.specs.ProjectLaws.{ImagesAreSeen, KeptIsEnough, AllIsEnough, BodiesAreLinked, ProjectsAreRunnable};
 
 /// The world of a project that can be run shows the project, as far as it is kept: each kept function stands at its place, and
 /// no two things have one address.
@@ -22,4 +22,10 @@ pub fn all_is_enough()
 /// of that signature.
 pub fn bodies_are_linked()
     ensures { BodiesAreLinked }
+{}
+
+/// A project that can be run, of which enough is kept, has a world in which it can be run: the bodies of its kept functions are
+/// well typed and linked, there is a `main`, and its code is that of the entry and of kept functions alone.
+pub fn projects_are_runnable()
+    ensures { ProjectsAreRunnable }
 {}
