@@ -44,3 +44,4 @@ pub mod Runs
 pub mod AnyRun
 pub mod LimitedRuns
 pub mod OnlyKept
+pub mod EncodablePieces

@@ -15,6 +15,7 @@ pub mod Tables
 pub mod Witness
 pub mod Projects
 pub mod ImageWorld
+pub mod Encodable
 pub mod ProjectLaws
 pub mod Programs
 pub mod AnyRuns
