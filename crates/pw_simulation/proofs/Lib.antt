@@ -45,3 +45,4 @@ pub mod AnyRun
 pub mod LimitedRuns
 pub mod OnlyKept
 pub mod EncodablePieces
+pub mod EncodableExpressions
