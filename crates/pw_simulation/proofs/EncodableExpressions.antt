@@ -101,7 +101,7 @@ module _ (unit : TypedUnit) (classes : List Class) (frame : Frame) (fits : IsSma
     unfolding Throughout ThroughoutAll held held_arguments count expression_code arguments_code expression_words arguments_words
 
     pub words_of_expression : (h : ℕ) (e : TypedExpression) → Throughout (HasFittingParts unit classes) e → Throughout HasSmallOperands e → h + held e ≤ frame.held
-        → expression_words e < 2 ^ 17 → CodeHasWords (expression_code frame h e)
+        → expression_words e + 8 < 2 ^ 18 → CodeHasWords (expression_code frame h e)
     words_of_expression h (constant at value) p o few short = words_of_number a0 value (lit< tt) o
     words_of_expression h (local at i) p o few short =
         let below = got_below classes i (class_of at.ty) p in
@@ -151,7 +151,7 @@ module _ (unit : TypedUnit) (classes : List Class) (frame : Frame) (fits : IsSma
 
     -- so many are held before these arguments, from a slot on
     words_of_arguments : (first n h : ℕ) (es : TypedExpressions) → ThroughoutAll (HasFittingParts unit classes) es → ThroughoutAll HasSmallOperands es → h ≡ first + n
-        → first + held_arguments n es ≤ frame.held → arguments_words es < 2 ^ 17 → CodeHasWords (arguments_code frame h es)
+        → first + held_arguments n es ≤ frame.held → arguments_words es + 8 < 2 ^ 18 → CodeHasWords (arguments_code frame h es)
     words_of_arguments first n h nil p o is few short = tt
     words_of_arguments first n h (cons e es) p o is few short =
         let slots = fits.slots in

@@ -46,3 +46,4 @@ pub mod LimitedRuns
 pub mod OnlyKept
 pub mod EncodablePieces
 pub mod EncodableExpressions
+pub mod EncodableStatements
