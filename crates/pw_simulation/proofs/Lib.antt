@@ -47,3 +47,4 @@ pub mod OnlyKept
 pub mod EncodablePieces
 pub mod EncodableExpressions
 pub mod EncodableStatements
+pub mod ImageText
