@@ -73,7 +73,7 @@ placed project d x h t e = record {
   before = before_is project d t (initialised_as project d x h ∙ e);
 }
 
-sum_is : (project : Project) (m : ℕ) → total_if is_initialised project m + total_if is_uninitialised project m ≡ elements_in project m
+pub sum_is : (project : Project) (m : ℕ) → total_if is_initialised project m + total_if is_uninitialised project m ≡ elements_in project m
 sum_is project m = totals_add (units_of project m)
 
 ends_by : (project : Project) (d : Definition) (x : TVar) → variable_at project d ≡ Some x → (t : Bool) → IsPlaced project d x t

@@ -48,3 +48,4 @@ pub mod EncodablePieces
 pub mod EncodableExpressions
 pub mod EncodableStatements
 pub mod ImageText
+pub mod ImageData
