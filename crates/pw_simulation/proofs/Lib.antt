@@ -49,3 +49,4 @@ pub mod EncodableExpressions
 pub mod EncodableStatements
 pub mod ImageText
 pub mod ImageData
+pub mod ImageRegions
