@@ -50,3 +50,4 @@ pub mod EncodableStatements
 pub mod ImageText
 pub mod ImageData
 pub mod ImageRegions
+pub mod ImageReady
