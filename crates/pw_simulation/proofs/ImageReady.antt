@@ -1,0 +1,153 @@
+-- The image of a project is ready for a run in the project's world, and has the initial value of each variable.
+use Rattle.std.proofs.Common.{◌≡◌, ℕ, zero, suc, ◌+◌, ◌-◌, ◌*◌, ◌%◌, ◌^◌, ◌<◌, ◌≤◌, Bool, true, false, cond, not, eqb, ◌||◌, List, [], ◌∷◌, ◌++◌, length, map, Option, Some, None, Ok, refl, sym, ◌∙◌, ap, subst, arith, ◌⊎◌, inl, inr, slice_index, bytes_eq, lit<}
+use Rattle.std.specs.Prelude.{slice_get, option_map, option_and_then, replicate, Contains}
+use Rattle.std.specs.List.{prefix_len, list_any}
+use Rattle.std.specs.Option.{option_map_or, is_some}
+use Rattle.std.proofs.lemmas.Bool.Decides.{nat_tests}
+use Rattle.pw_base.specs.Bytes.{le}
+use Rattle.pw_base.specs.Limits.{stack_start, stack_bytes}
+use Rattle.pw_isa.specs.declared.instruction.Inst.{Inst}
+use Rattle.pw_isa.specs.Encoding.{word_of, IsEncodable}
+use Rattle.pw_isa.proofs.RoundTrip.{decoded-word_of, word_of_fits}
+use Rattle.pw_tree.specs.declared.ty.Ty.{Ty}
+use Rattle.pw_tree.specs.declared.ty.Ty.TheVariants.{Void, Long, Ulong, Fn}
+use Rattle.pw_tree.specs.declared.ty.Sig.{Sig}
+use Rattle.pw_tree.specs.declared.ty.Ref.{Ref}
+use Rattle.pw_tree.specs.declared.tunit.TVar.{TVar}
+use Rattle.pw_tree.specs.declared.tunit.Init.{Init}
+use Rattle.pw_tree.specs.declared.tunit.Init.TheVariants.{Num, Fun}
+use Rattle.pw_tree.specs.Types.{pointer_to}
+use Rattle.pw_tree.specs.Units.{Function, TypedUnit}
+use Rattle.pw_tree.specs.Names.{Project, Definition, Entity, function, object, definition_of, resolved, function_at, variable_at}
+use Rattle.pw_tree.specs.States.{Value, null, pointer, zero_of, value_or_zero}
+use Rattle.pw_tree.specs.States as value
+use Rattle.pw_tree.specs.Meaning.{definition_or_first, initial_element, initial_value, initial_variables}
+use Rattle.pw_tree.specs.WellTypedExpressions.{number, class_of}
+use Rattle.pw_tree.specs.WellTypedUnits.{room, Initialises}
+use Rattle.pw_mem.specs.Memory.{zeros}
+use Rattle.pw_mem.specs.Regions.{bytes_at}
+use Rattle.pw_mem.specs.Words.{doubleword}
+use Rattle.pw_mem.proofs.Zeros.{length_of_zeros}
+use Rattle.pw_code.specs.Objects.{is_initialised, fill, filled}
+use Rattle.pw_agree.specs.Kept.{Keep}
+use Rattle.pw_agree.specs.Image.{text_image, data_image, slots_image, variables_image, variable_image, element_image, stack_region, image}
+use Rattle.pw_agree.specs.Placing.{units_of, text_of, data_of, words_of_module, function_address, slots_of, slot_address, elements_before, variable_address, entity_address, elements_of, variables_of_units}
+use Rattle.pw_agree.proofs.Members.{IsIn}
+use Rattle.pw_simulation.specs.World.{InStack, entity_place}
+use Rattle.pw_simulation.specs.Memories.{Fetches, HasSome, IsReady}
+use Rattle.pw_simulation.specs.Values.{PointsTo, Represents, IsCarried, IsElement, AreCarried}
+use Rattle.pw_simulation.specs.Projects.{CanRun, KeepsEnough}
+use Rattle.pw_simulation.specs.ImageWorld.{text_instructions, module_of, code_of, world_of}
+use Rattle.pw_simulation.proofs.Joined.{get_left, get_right, length_both, got_below, got_of_map, got_of_copies, length_of_map}
+use Rattle.pw_simulation.proofs.Extents.{IsVariableAt, variable_is, function_ends, found_before}
+use Rattle.pw_simulation.proofs.Elements.{place_if, total_if, elements_in, before_by, IsPlaced, placed, sum_is, variable_ends}
+use Rattle.pw_simulation.proofs.Addresses.{HasRoom, has_room, function_module, variable_module, IsElementAt, element_at}
+use Rattle.pw_simulation.proofs.ImageCode.{length_of_text, IsCodeAt, code_is}
+use Rattle.pw_simulation.proofs.Slots.{same_bytes, got_in}
+use Rattle.pw_simulation.proofs.ImageSees.{code_module, slot_module}
+use Rattle.pw_simulation.proofs.Definitions.{IsReal, definition_is_real}
+use Rattle.pw_simulation.proofs.Links.{contains, means_function}
+use Rattle.pw_simulation.proofs.Enough.{item_points, item_used}
+use Rattle.pw_simulation.proofs.ImageText.{spelled_at, text_spelled}
+use Rattle.pw_simulation.proofs.ImageData.{length_of_variables, initialised_at}
+use Rattle.pw_simulation.proofs.ImageRegions.{text_fetched, data_there, stack_seen}
+
+-- ---- text
+
+fetches_code : (project : Project) (keep : Keep) → CanRun project → (at : ℕ) (i : Inst) → code_of project keep at ≡ Some i → Fetches (image project keep) at i
+fetches_code project keep run at i h =
+    let c = code_is project keep at i h in
+    let m = module_of at in
+    let there = code_module project keep run m c.number i c.there in
+    let s = spelled_at (text_instructions project keep m) (text_image project keep m) (text_spelled project keep run m there) c.number i c.there in
+    let below = got_below (text_instructions project keep m) c.number (Some i) c.there in
+    let fits = word_of_fits i s.1 in
+    let word = s.0 in
+    record {
+      value = word_of i;
+      fetched = ap (Rattle.pw_mem.specs.Memory.fetch (image project keep)) c.place ∙ text_fetched project keep run m c.number there (omega (arith, length_of_text project keep m)) (omega arith) ∙ ap (λ n. Ok n) word;
+      reads = decoded-word_of i s.1;
+    }
+
+-- ---- slots
+
+-- what stands where a test first holds
+first_there : (test : List ℕ → Bool) (names : List (List ℕ)) → list_any test names ≡ true → (name : List ℕ) × (slice_get names (prefix_len (λ other. not (test other)) names) ≡ Some name) × (test name ≡ true)
+first_there test [] h = cc
+first_there test (name ∷ names) h = by_test (test name) refl h (first_there test names)
+  where
+    by_test : (t : Bool) → test name ≡ t → t || list_any test names ≡ true
+        → (list_any test names ≡ true → (found : List ℕ) × (slice_get names (prefix_len (λ other. not (test other)) names) ≡ Some found) × (test found ≡ true))
+        → (found : List ℕ) × (slice_get (name ∷ names) (prefix_len (λ other. not (test other)) (name ∷ names)) ≡ Some found) × (test found ≡ true)
+    by_test true e h rest = (name, rw e refl, e)
+    by_test false e h rest =
+        let r = rest h in
+        let place : prefix_len (λ other. not (test other)) (name ∷ names) ≡ suc (prefix_len (λ other. not (test other)) names) = rw e (omega arith) in
+        (r.0, ap (slice_get (name ∷ names)) place ∙ r.1, r.2)
+
+place_is : (project : Project) (keep : Keep) (e : Option Entity) → entity_place (world_of project keep) e ≡ entity_address project e
+place_is project keep (Some (function d)) = refl
+place_is project keep (Some (object d)) = refl
+place_is project keep None = refl
+
+function_is_low : (project : Project) → CanRun project → (d : Definition) (f : Function) → function_at project d ≡ Some f → function_address project d < 2 ^ 64
+function_is_low project run d f h =
+    let room = has_room project run d.in_module (function_module project d f h) in
+    let text = room.text in
+    let low = room.low in
+    let ends = function_ends project d f h in omega arith
+
+entity_is_low : (project : Project) → CanRun project → (e : Entity) → IsReal project e → entity_address project (Some e) < 2 ^ 64
+entity_is_low project run (function d) real = function_is_low project run d real.0 real.1
+entity_is_low project run (object d) real =
+    let room = has_room project run d.in_module (variable_module project d real.0 real.1) in
+    let ends_low = room.data_end in
+    let low = room.low in
+    let ends = variable_ends project d real.0 real.1 in omega arith
+
+meant_is_low : (project : Project) → CanRun project → (name : List ℕ) (o : Option Entity) → definition_of project name ≡ o → entity_address project o < 2 ^ 64
+meant_is_low project run name None e = lit< tt
+meant_is_low project run name (Some e) found = entity_is_low project run e (definition_is_real project name e found)
+
+abbrev slot_of : Project → List ℕ → ℕ
+slot_of project name = entity_address project (definition_of project name)
+
+length_of_slots : (project : Project) (m : ℕ) → length (slots_image project m) ≡ length (slots_of project m)
+length_of_slots project m = length_of_map (slot_of project) (slots_of project m)
+
+-- the parts of the data
+abbrev others : Project → ℕ → ℕ
+others project m = elements_of (variables_of_units Rattle.pw_code.specs.Objects.is_uninitialised (units_of project m))
+
+slot_there : (project : Project) (keep : Keep) → CanRun project → (m : ℕ) (name : List ℕ) → list_any (λ other. bytes_eq other name) (slots_of project m) ≡ true
+    → doubleword (image project keep) (slot_address project m name) ≡ Some (entity_place (world_of project keep) (definition_of project name))
+slot_there project keep run m name has =
+    let k : ℕ = prefix_len (λ other. not (bytes_eq other name)) (slots_of project m) in
+    let found = first_there (λ other. bytes_eq other name) (slots_of project m) has in
+    let same : found.0 ≡ name = same_bytes found.0 name found.2 in
+    let before = found_before (λ other. bytes_eq other name) (slots_of project m) has in
+    let slots : List ℕ = slots_image project m in
+    let variables : List ℕ = variables_image project m 0 (units_of project m) in
+    let short : k < length slots = omega (arith, length_of_slots project m) in
+    let longer : k < length (slots ++ variables) = omega (arith, length_both slots variables) in
+    let got : slice_get (data_image project m) k ≡ Some (slot_of project name) =
+    get_left (slots ++ variables) (zeros (others project m)) k longer ∙ get_left slots variables k short ∙ got_of_map (slot_of project) (slots_of project m) k
+    ∙ ap (option_map (slot_of project)) found.1 ∙ ap (λ n. Some (slot_of project n)) same in
+    data_there project keep run m k (slot_of project name) (slot_module project run m name has) got (meant_is_low project run name (definition_of project name) refl)
+    ∙ ap (λ n. Some n) (sym (place_is project keep (definition_of project name)))
+
+-- ---- the stack
+
+stack_there : (project : Project) (keep : Keep) → CanRun project → (at : ℕ) → InStack (world_of project keep) at → HasSome (image project keep) at
+stack_there project keep run at in_it =
+    let aligned = in_it.even in
+    let even : eqb (at % 8) 0 ≡ true = grind (arith, nat_tests) in
+    record { value = le (bytes_at stack_region at 8); is = rw (even, stack_seen project keep run at in_it.from in_it.to) refl }
+
+pub image_is_ready : (project : Project) (keep : Keep) → CanRun project → IsReady (world_of project keep) (image project keep)
+image_is_ready project keep run = record {
+  sealed = refl;
+  text = λ at i h. fetches_code project keep run at i h;
+  slots = λ m name has. slot_there project keep run m name has;
+  stack = λ at in_it. stack_there project keep run at in_it;
+}

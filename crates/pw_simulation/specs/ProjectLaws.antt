@@ -1,0 +1,34 @@
+-- The laws of projects and their worlds.
+use Rattle.std.specs.Prelude.{◌≡◌, true, Some}
+use Rattle.std.specs.List.{AllByRecursion}
+use Rattle.pw_tree.specs.Units.{Function}
+use Rattle.pw_tree.specs.Names.{Project, unit_at, function_at}
+use Rattle.pw_tree.specs.Depends.{names_of_all}
+use Rattle.pw_agree.specs.Kept.{Keep, FindsKept}
+use Rattle.pw_simulation.specs.Sees.{Sees}
+use Rattle.pw_simulation.specs.Bodies.{Body, IsLinked}
+use Rattle.pw_simulation.specs.Programs.{IsRunnable}
+use Rattle.pw_simulation.specs.Projects.{CanRun, KeepsEnough, keeps_all}
+use Rattle.pw_simulation.specs.ImageWorld.{world_of}
+
+-- The world of a project that can be run, of which enough is kept, shows the project.
+abbrev pub ImagesAreSeen : Type 0
+ImagesAreSeen = (project : Project) (keep : Keep) → CanRun project → KeepsEnough project keep → Sees (world_of project keep)
+
+-- The functions that the roots lead to are enough,
+abbrev pub KeptIsEnough : Type 0
+KeptIsEnough = (project : Project) (keep : Keep) → CanRun project → FindsKept project keep → KeepsEnough project keep
+
+-- and so are all functions.
+abbrev pub AllIsEnough : Type 0
+AllIsEnough = (project : Project) → CanRun project → KeepsEnough project (keeps_all project)
+
+-- Each name in the body of a kept function means what its unit says.
+abbrev pub BodiesAreLinked : Type 0
+BodiesAreLinked =
+    (project : Project) (keep : Keep) (b : Body) (f : Function) → CanRun project → KeepsEnough project keep → unit_at project b.self ≡ Some b.unit →
+    function_at project b.self ≡ Some f → keep b.self ≡ true → AllByRecursion (IsLinked (world_of project keep) b) (names_of_all f.body)
+
+-- A project that can be run, of which enough is kept, has a world in which it can be run.
+abbrev pub ProjectsAreRunnable : Type 0
+ProjectsAreRunnable = (project : Project) (keep : Keep) → CanRun project → KeepsEnough project keep → IsRunnable (world_of project keep)

@@ -1,0 +1,31 @@
+//! The laws of projects and of their images, over definitions alone. Each is the contract of a function, which does nothing.
+
+ghost use Rattle.pw_simulation.specs.ProjectLaws.{ImagesAreSeen, KeptIsEnough, AllIsEnough, BodiesAreLinked, ProjectsAreRunnable};
+
+/// The world of a project that can be run shows the project, as far as it is kept: each kept function stands at its place, and
+/// no two things have one address.
+pub fn images_are_seen()
+    ensures { ImagesAreSeen }
+{}
+
+/// It is enough to keep the functions that the roots lead to.
+pub fn kept_is_enough()
+    ensures { KeptIsEnough }
+{}
+
+/// It is enough to keep all functions.
+pub fn all_is_enough()
+    ensures { AllIsEnough }
+{}
+
+/// Each name in the body of a kept function means what its unit says of it: a variable of that type and size, or a kept function
+/// of that signature.
+pub fn bodies_are_linked()
+    ensures { BodiesAreLinked }
+{}
+
+/// A project that can be run, of which enough is kept, has a world in which it can be run: the bodies of its kept functions are
+/// well typed and linked, there is a `main`, and its code is that of the entry and of kept functions alone.
+pub fn projects_are_runnable()
+    ensures { ProjectsAreRunnable }
+{}
