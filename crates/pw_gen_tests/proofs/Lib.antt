@@ -1,2 +1,2 @@
 -- The modules of the proofs of this crate.
-pub mod Quiet
+pub mod QuietUnits
