@@ -57,10 +57,11 @@ quiet_is_well_typed name line h = record {
 
 -- the function, and the unit, as they are built
 abbrev built : List ℕ → ℕ → List Ty → List TStmt → TFun
-built name line params body = record { name = name; global = false; sig = record { result = Void; params = params }; line = line; locals = 0; held = 0; body = body }
+built name line params body =
+    record { name = name; global = false; sig = record { result = Void; params = params }; line = line; locals = 0; held = 0; body = body }
 
-pub as_built : (name : List ℕ) (line : ℕ) (params : List Ty) (body : List TStmt) (empty funs : List TFun) (vars : List TVar) (names : List Ext) → line < 2 ^ 32 →
-    params ≡ [] → body ≡ [] → empty ≡ [] → funs ≡ empty ++ built name line params body ∷ [] → vars ≡ [] → names ≡ [] →
+pub as_built : (name : List ℕ) (line : ℕ) (params : List Ty) (body : List TStmt) (empty funs : List TFun) (vars : List TVar) (names : List Ext) →
+    line < 2 ^ 32 → params ≡ [] → body ≡ [] → empty ≡ [] → funs ≡ empty ++ built name line params body ∷ [] → vars ≡ [] → names ≡ [] →
     IsWellTyped (unit_of (record { funs = funs; vars = vars; names = names }))
 as_built name line params body empty funs vars names h p b o f v n =
     let plain : TUnit = record { funs = built name line [] [] ∷ []; vars = []; names = [] } in
