@@ -1,8 +1,14 @@
-//! Reads, copies and drops deep and long trees, types them where they have types, and refuses those that pass a limit, in
-//! the stack that a program has.
+//! Reads, copies and drops deep and long trees, types and compiles them where they have types, and refuses those that pass a
+//! limit, in the stack that a program has.
 #![tactic(auto)]
 
+ghost use Rattle.pw_tree.specs.Units.{unit_of};
+ghost use Rattle.pw_tree.specs.WellTypedUnits.{IsWellTyped};
+
+use pw_base::Name;
+use pw_code::Object;
 use pw_front::front;
+use pw_gen::object;
 use pw_lex::tokens;
 use pw_parse::parse;
 use pw_tree::{TUnit, Unit};
@@ -57,7 +63,7 @@ fn done(name: &'static str, open: &'static [u8], times: usize) -> Shape {
 }
 
 /// The shapes: deep or long, up to what a function may be, and beyond it.
-fn shapes() -> [Shape; 13] {
+fn shapes() -> [Shape; 18] {
     [
         returned("8,182 prefix operators", b"~", b"1", b"", 8182),
         returned("8,190 prefix operators", b"~", b"1", b"", 8190),
@@ -65,6 +71,8 @@ fn shapes() -> [Shape; 13] {
         returned("2,000 choices behind a question", b"a?", b"b", b":c", 2000),
         returned("4,090 right operands", b"1+", b"1", b"", 4090),
         returned("8,000 right operands", b"1+", b"1", b"", 8000),
+        returned("100 held values", b"1+(", b"1", b")", 100),
+        returned("101 held values", b"1+(", b"1", b")", 101),
         returned("199 brackets in a body", b"(", b"1", b")", 199),
         returned("200 brackets in a body", b"(", b"1", b")", 200),
         returned("2,700 calls", b"", b"f", b"()", 2700),
@@ -72,6 +80,9 @@ fn shapes() -> [Shape; 13] {
         done("2,000 else ifs", b"if(a);else ", 2000),
         done("2,000 loops", b"while(a)", 2000),
         done("1,000 for loops", b"for(;;)", 1000),
+        done("1,636 for loops", b"for(;;)", 1636),
+        done("2,045 loops", b"while(a)", 2045),
+        done("2,045 ifs", b"if(a)", 2045),
     ]
 }
 
@@ -94,7 +105,8 @@ fn text<A: AllocGlobal>(rt: &A, shape: &Shape) -> io::Result<Vec<u8>> {
     Ok(text)
 }
 
-/// Parses the text of a shape and copies its tree: its last token, or its fault. Then types it and copies the typed tree.
+/// Parses the text of a shape and copies its tree: its last token, or its fault. Then types it, copies the typed tree, and
+/// compiles it.
 fn show<A: AllocGlobal>(rt: &A, shape: &Shape) -> io::Result<String> {
     let alloc = rt.alloc();
     let text = text(rt, shape)?;
@@ -112,7 +124,11 @@ fn show<A: AllocGlobal>(rt: &A, shape: &Shape) -> io::Result<String> {
         Err(fault) => format!(in alloc; "{fault:?}")?,
     };
     let typed = match front(alloc, text.as_slice()) {
-        Ok(unit) => copied_types(alloc, &unit)?,
+        Ok(unit) => {
+            let held = copied_types(alloc, &unit)?;
+            let compiled = compiled(alloc, &unit)?;
+            format!(in alloc; "{held}; {compiled}")?
+        }
         Err(fault) => format!(in alloc; "{fault}")?,
     };
     Ok(format!(in alloc; "{parsed}; {typed}")?)
@@ -143,6 +159,30 @@ fn copied_types(alloc: Global, unit: &TUnit) -> io::Result<String> {
             }
         },
         Err(_) => Ok(format!(in alloc; "no memory")?),
+    }
+}
+
+/// What a unit is compiled to.
+fn compiled(alloc: Global, unit: &TUnit) -> io::Result<String>
+    requires { IsWellTyped (unit_of unit.now) }
+{
+    let Ok(name) = Name::read(alloc, b"deep.c") else {
+        return Ok(format!(in alloc; "no memory")?);
+    };
+    match object(alloc, unit, &name) {
+        Ok(object) => last_items(alloc, &object),
+        Err(_) => Ok(format!(in alloc; "no memory")?),
+    }
+}
+
+/// How many items the last function of an object has.
+fn last_items(alloc: Global, object: &Object) -> io::Result<String> {
+    match object.funs.as_slice() {
+        [] => Ok(format!(in alloc; "no function")?),
+        [.., fun] => {
+            let items = fun.items.len();
+            Ok(format!(in alloc; "{items} items")?)
+        }
     }
 }
 

@@ -1,16 +1,14 @@
 -- References that are gathered one after the other, each unless it is there already, are those of the list, each once.
-use Rattle.std.proofs.Common.{◌≡◌, ℕ, Bool, true, false, not, ◌||◌, ◌&&◌, cond, List, [], ◌∷◌, ◌++◌, refl, sym, ap, ◌∙◌, append_assoc, append-nil, bytes_eq, Result, Ok, Err}
-use Rattle.std.specs.Prelude.{nat_eq, OnOk}
+use Rattle.std.proofs.Common.{◌≡◌, Bool, true, false, not, ◌||◌, ◌&&◌, cond, List, [], ◌∷◌, ◌++◌, refl, sym, ap, ◌∙◌, append_assoc, append-nil, Result, Ok, Err}
+use Rattle.std.specs.Prelude.{OnOk}
 use Rattle.pw_base.specs.declared.no_memory.NoMemory.{NoMemory}
-use Rattle.std.specs.List.{filter, fold, list_any}
-use Rattle.std.proofs.lemmas.Bool.{cases_Bool, eqb-true}
+use Rattle.std.specs.List.{filter, list_any}
 use Rattle.std.proofs.lemmas.Grind.{fold-append}
 use Rattle.std.proofs.lemmas.List.Elements.{filter_agree}
-use Rattle.std.specs.Cmp.Lexicographic.{same_text}
 use Rattle.pw_tree.specs.declared.ty.Ref.{Ref}
-use Rattle.pw_tree.specs.declared.ty.Ref.TheVariants.{Global, LocalFun, LocalVar}
 use Rattle.pw_code.specs.Objects.{same_ref, each_once}
 use Rattle.pw_gen.specs.Steps.Naming.{joined, joined_all}
+use Rattle.pw_gen.specs.Steps.ReferenceKeys.{same_is_equal}
 
 -- ---- filters
 
@@ -32,17 +30,6 @@ any_append t (x ∷ xs) y = ap (λ b. t x || b) (any_append t xs y) ∙ sym (by 
     by false b c = refl
 
 -- ---- one reference
-
-same_is_equal : (a b : Ref) → same_ref a b ≡ true → a ≡ b
-same_is_equal (Global a) (Global b) h = ap Global (same_text a b (sym h))
-same_is_equal (LocalFun i) (LocalFun j) h = ap LocalFun (eqb-true i j h)
-same_is_equal (LocalVar i) (LocalVar j) h = ap LocalVar (eqb-true i j h)
-same_is_equal (Global a) (LocalFun j) h = cc
-same_is_equal (Global a) (LocalVar j) h = cc
-same_is_equal (LocalFun i) (Global b) h = cc
-same_is_equal (LocalFun i) (LocalVar j) h = cc
-same_is_equal (LocalVar i) (Global b) h = cc
-same_is_equal (LocalVar i) (LocalFun j) h = cc
 
 -- whether a reference is none of those found
 abbrev is_new : List Ref → Ref → Bool

@@ -10,6 +10,7 @@ pub mod SoundStatements
 pub mod NamedFunctions
 pub mod SoundObject
 pub mod Gathering
+pub mod ReferenceSets
 pub mod NumberLists
 pub mod Jumps
 pub mod Appended

@@ -6,5 +6,6 @@ pub mod Emitting
 pub mod ForPlaces
 pub mod Functions
 pub mod Naming
+pub mod ReferenceKeys
 pub mod Numbers
 pub mod NextNumbers

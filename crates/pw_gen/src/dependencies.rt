@@ -8,7 +8,7 @@ ghost use Rattle.pw_tree.specs.Units.{typed_function_of};
 ghost use Rattle.pw_code.specs.Objects as objects;
 ghost use Rattle.pw_gen.specs.Steps.Naming.{joined_all};
 
-use crate::reference_list::join;
+use crate::reference_list::References;
 use pw_base::NoMemory;
 use pw_tree::{Ref, TExpr, TFun, TKind, TStmt};
 use sqlite_items::{Boxed, Items};
@@ -16,12 +16,12 @@ use std::alloc::Global;
 
 /// The functions that an expression names join those found.
 #[cycle(name_expression)]
-fn name_expression(alloc: Global, e: &TExpr, found: &mut Items<Ref>) -> Result<(), NoMemory>
+fn name_expression(alloc: Global, e: &TExpr, found: &mut References) -> Result<(), NoMemory>
     ensures { OnOk result (found.new ≡ joined_all found.old (objects.functions_in (typed_expression_of e.now))) }
 {
     match &e.kind {
         TKind::Num(_) | TKind::Local(_) | TKind::Var(_) | TKind::Input => Ok(()),
-        TKind::Fun(f) => join(alloc, found, f),
+        TKind::Fun(f) => found.join(alloc, f),
         TKind::Elem(_, _, e) | TKind::Unary(_, e) | TKind::Output(e) => {
             name_expression(alloc, e.get(), found)
         }
@@ -35,7 +35,7 @@ fn name_expression(alloc: Global, e: &TExpr, found: &mut Items<Ref>) -> Result<(
             name_expression(alloc, b.get(), found)
         }
         TKind::Call(f, arguments) => {
-            join(alloc, found, f)?;
+            found.join(alloc, f)?;
             name_expressions(alloc, arguments.as_slice(), found)
         }
         TKind::CallPtr(e, arguments) => {
@@ -47,7 +47,7 @@ fn name_expression(alloc: Global, e: &TExpr, found: &mut Items<Ref>) -> Result<(
 
 /// Those that arguments name join them.
 #[cycle(name_expression)]
-fn name_expressions(alloc: Global, es: &[TExpr], found: &mut Items<Ref>) -> Result<(), NoMemory>
+fn name_expressions(alloc: Global, es: &[TExpr], found: &mut References) -> Result<(), NoMemory>
     ensures { OnOk result (found.new ≡ joined_all found.old (objects.functions_in_all (typed_expressions_of es.now))) }
 {
     for e in es {
@@ -57,7 +57,7 @@ fn name_expressions(alloc: Global, es: &[TExpr], found: &mut Items<Ref>) -> Resu
 }
 
 /// Those of an expression that may be absent join them.
-fn name_option(alloc: Global, e: &Option<TExpr>, found: &mut Items<Ref>) -> Result<(), NoMemory>
+fn name_option(alloc: Global, e: &Option<TExpr>, found: &mut References) -> Result<(), NoMemory>
     ensures { OnOk result (found.new ≡ joined_all found.old (objects.functions_in_option (option_map typed_expression_of e.now))) }
 {
     match e {
@@ -68,7 +68,7 @@ fn name_option(alloc: Global, e: &Option<TExpr>, found: &mut Items<Ref>) -> Resu
 
 /// Those that a statement names join them.
 #[cycle(name_statement)]
-fn name_statement(alloc: Global, s: &TStmt, found: &mut Items<Ref>) -> Result<(), NoMemory>
+fn name_statement(alloc: Global, s: &TStmt, found: &mut References) -> Result<(), NoMemory>
     ensures { OnOk result (found.new ≡ joined_all found.old (objects.functions_of (typed_statement_of s.now))) }
 {
     match s {
@@ -104,7 +104,7 @@ fn name_statement(alloc: Global, s: &TStmt, found: &mut Items<Ref>) -> Result<()
 
 /// Those that statements name join them.
 #[cycle(name_statement)]
-fn name_statements(alloc: Global, ss: &[TStmt], found: &mut Items<Ref>) -> Result<(), NoMemory>
+fn name_statements(alloc: Global, ss: &[TStmt], found: &mut References) -> Result<(), NoMemory>
     ensures { OnOk result (found.new ≡ joined_all found.old (objects.functions_of_all (typed_statements_of ss.now))) }
 {
     for s in ss {
@@ -118,7 +118,7 @@ fn name_statements(alloc: Global, ss: &[TStmt], found: &mut Items<Ref>) -> Resul
 fn name_optional(
     alloc: Global,
     s: &Option<Boxed<TStmt>>,
-    found: &mut Items<Ref>,
+    found: &mut References,
 ) -> Result<(), NoMemory>
     ensures { OnOk result (found.new ≡ joined_all found.old (objects.functions_of_optional (optional_typed_statement (option_map typed_statement_of s.now)))) }
 {
@@ -133,7 +133,7 @@ fn name_optional(
 pub(crate) fn dependencies(alloc: Global, f: &TFun) -> Result<Items<Ref>, NoMemory>
     ensures { IfOk result (λ found. found ≡ objects.dependencies (typed_function_of f.now)) }
 {
-    let mut found = Items::new(alloc);
+    let mut found = References::new(alloc);
     name_statements(alloc, f.body.as_slice(), &mut found)?;
-    Ok(found)
+    found.list(alloc)
 }

@@ -1,5 +1,5 @@
 -- References that are gathered, each once.
-use Rattle.std.specs.Prelude.{Bool, if◌then◌else◌, List, [], ◌∷◌, ◌++◌, fold}
+use Rattle.std.specs.Prelude.{if◌then◌else◌, List, [], ◌∷◌, ◌++◌, fold}
 use Rattle.std.specs.List.{list_any}
 use Rattle.pw_tree.specs.declared.ty.Ref.{Ref}
 use Rattle.pw_code.specs.Objects.{same_ref}
