@@ -36,7 +36,7 @@ name_in_items (Num n ∷ items) f (inr h) = name_in_items items f h
 name_in_items (Fun g ∷ items) f (inl e) = let same : g ≡ f = cc in inl same
 name_in_items (Fun g ∷ items) f (inr h) = inr (name_in_items items f h)
 
-items_fit : (unit : TypedUnit) (x : TVar) (o : Option (List Init)) (values : List Init) → o ≡ Some values → InitialiserFits unit x o → AllByRecursion (Initialises unit x.ty) values
+pub items_fit : (unit : TypedUnit) (x : TVar) (o : Option (List Init)) (values : List Init) → o ≡ Some values → InitialiserFits unit x o → AllByRecursion (Initialises unit x.ty) values
 items_fit unit x None values e h = cc
 items_fit unit x (Some items) values e h = let same : items ≡ values = cc in subst (λ vs. AllByRecursion (Initialises unit x.ty) vs) same h.1
 

@@ -90,7 +90,7 @@ place_is project keep (Some (function d)) = refl
 place_is project keep (Some (object d)) = refl
 place_is project keep None = refl
 
-function_is_low : (project : Project) → CanRun project → (d : Definition) (f : Function) → function_at project d ≡ Some f → function_address project d < 2 ^ 64
+pub function_is_low : (project : Project) → CanRun project → (d : Definition) (f : Function) → function_at project d ≡ Some f → function_address project d < 2 ^ 64
 function_is_low project run d f h =
     let room = has_room project run d.in_module (function_module project d f h) in
     let text = room.text in
@@ -112,11 +112,11 @@ meant_is_low project run name (Some e) found = entity_is_low project run e (defi
 abbrev slot_of : Project → List ℕ → ℕ
 slot_of project name = entity_address project (definition_of project name)
 
-length_of_slots : (project : Project) (m : ℕ) → length (slots_image project m) ≡ length (slots_of project m)
+pub length_of_slots : (project : Project) (m : ℕ) → length (slots_image project m) ≡ length (slots_of project m)
 length_of_slots project m = length_of_map (slot_of project) (slots_of project m)
 
 -- the parts of the data
-abbrev others : Project → ℕ → ℕ
+abbrev pub others : Project → ℕ → ℕ
 others project m = elements_of (variables_of_units Rattle.pw_code.specs.Objects.is_uninitialised (units_of project m))
 
 slot_there : (project : Project) (keep : Keep) → CanRun project → (m : ℕ) (name : List ℕ) → list_any (λ other. bytes_eq other name) (slots_of project m) ≡ true

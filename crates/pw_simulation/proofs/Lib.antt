@@ -51,3 +51,4 @@ pub mod ImageText
 pub mod ImageData
 pub mod ImageRegions
 pub mod ImageReady
+pub mod ImageVariables
