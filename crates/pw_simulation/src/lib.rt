@@ -11,5 +11,6 @@ pub use laws::{
     stores_are_carried_out,
 };
 pub use projects::{
-    all_is_enough, bodies_are_linked, images_are_seen, kept_is_enough, projects_are_runnable,
+    all_is_enough, bodies_are_linked, images_are_ready, images_are_seen, kept_is_enough,
+    projects_are_runnable, well_typed_code_has_words,
 };
