@@ -48,7 +48,8 @@ unfolding size
 size-opens f = simp size-append (omega (arith, size-load_immediate 11 f.line, size-parameters 0 (length f.sig.params)))
 
 -- the first part of the code of a function
-pub opens_there : (w : World) → Sees w → (d : Definition) (f : Function) → IsKeptFunction w d f → HasAt w d.in_module d.in_unit (w.function_place d) (opens f)
+pub opens_there : (w : World) → Sees w → (d : Definition) (f : Function) → IsKeptFunction w d f
+    → HasAt w d.in_module d.in_unit (w.function_place d) (opens f)
 opens_there w sees d f kept =
     let body : List CodePart = statements_code (frame_of f) (function_targets f) (opens_words f) f.body in
     has_prefix w d.in_module d.in_unit (w.function_place d) (opens f) body
@@ -171,7 +172,8 @@ module _ (w : World) (sees : Sees w) (d : Definition) (f : Function) (kept : IsK
       }
 
   -- what is returned stands for the result
-  returned_represents : (x : Option Value) (v : ℕ) → RepresentsReturned w (class_of f.sig.result) x v → Represents w (class_of f.sig.result) (value_or_zero f.sig.result x) v
+  returned_represents : (x : Option Value) (v : ℕ) → RepresentsReturned w (class_of f.sig.result) x v
+      → Represents w (class_of f.sig.result) (value_or_zero f.sig.result x) v
   returned_represents (Some x) v h = h
   returned_represents None v h = subst (λ k. Represents w k (value_or_zero f.sig.result None) v) (sym h) tt
 

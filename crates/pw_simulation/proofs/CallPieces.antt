@@ -131,7 +131,8 @@ module _ (w : World) (sees : Sees w) (d : Definition) (f : Function) (kept : IsK
     pub arguments : (k : ℕ) → 10 ≤ k → end.x k ≡ s.x k
     pub stores : HasAt w m u end.pc (store_parameters 0 (length f.sig.params))
 
-  pub opens_runs : (m u : ℕ) (st : State) (s : MachineState) → IsAt w stack_pointer (suc c) st s → s.x 1 < 2 ^ 64 → HasAt w m u s.pc (opens f) → Opened m u st s
+  pub opens_runs : (m u : ℕ) (st : State) (s : MachineState) → IsAt w stack_pointer (suc c) st s → s.x 1 < 2 ^ 64
+      → HasAt w m u s.pc (opens f) → Opened m u st s
   opens_runs m u st s at small here =
       let h = frame in
       let piece = fault 4 f.line in
@@ -187,7 +188,8 @@ module _ (w : World) (sees : Sees w) (d : Definition) (f : Function) (kept : IsK
     pub memory : end.mem ≡ s.mem
     pub value : end.x 10 ≡ s.x 10
 
-  pub closes_runs : (m u to : ℕ) (st : State) (s : MachineState) → IsAt w base c st s → suc c ≤ 1000 → doubleword s.mem return_place ≡ Some to → to % 4 ≡ 0 → to < 2 ^ 64
+  pub closes_runs : (m u to : ℕ) (st : State) (s : MachineState) → IsAt w base c st s → suc c ≤ 1000
+      → doubleword s.mem return_place ≡ Some to → to % 4 ≡ 0 → to < 2 ^ 64
       → HasAt w m u s.pc (closes f) → Closed to st s
   closes_runs m u to st s at few saved whole small here =
       let h = frame in

@@ -103,7 +103,8 @@ module _ (w : World) (sees : Sees w) (run : IsRunnable w) (statements_run : Stat
       }
 
   -- from the function's first word, with so many calls left
-  entered_by : (n stack_pointer c to : ℕ) (d : Definition) (f : Function) (arguments : List Value) (st : State) (t : MachineState) → CallsRun w (call_of w.project n) n
+  entered_by : (n stack_pointer c to : ℕ) (d : Definition) (f : Function) (arguments : List Value) (st : State) (t : MachineState)
+      → CallsRun w (call_of w.project n) n
       → IsKeptFunction w d f → HasCallRoom w stack_pointer c → stack_pointer ≤ w.stack_high → stack_pointer % 16 ≡ 0
       → IsAt w stack_pointer c st t → st.steps ≤ n → t.pc ≡ w.function_place d → t.x 1 ≡ to → to % 4 ≡ 0 → to < 2 ^ 64
       → AreInRegisters w 10 (map class_of f.sig.params) arguments t.x
@@ -117,7 +118,8 @@ module _ (w : World) (sees : Sees w) (run : IsRunnable w) (statements_run : Stat
       entered_runs w sees d f kept (run.functions d f kept) stack_pointer c room high even statements_run n to arguments st t calls at fuel here link whole small loaded
 
   -- a call with so many steps left
-  call_by : (n left stack_pointer c : ℕ) (d : Definition) (f : Function) (arguments : List Value) (st : State) (s : MachineState) → CallsRun w (call_of w.project n) n
+  call_by : (n left stack_pointer c : ℕ) (d : Definition) (f : Function) (arguments : List Value) (st : State) (s : MachineState)
+      → CallsRun w (call_of w.project n) n
       → IsCalling w stack_pointer c d f arguments st s → st.steps ≤ suc n → st.steps ≡ left
       → Meets w (IsAbove stack_pointer) stack_pointer c 1 (GivesValue w (class_of f.sig.result) (s.pc + 4)) (stepped_from left (λ st. entered n d arguments f st.calls st) st) s
   call_by n zero stack_pointer c d f arguments st s calls calling fuel is = no_step stack_pointer c d f arguments st s calling is

@@ -26,11 +26,11 @@ use Rattle.pw_simulation.proofs.Meets.{moved_at, meets_after, meets_as, meets_fo
 use Rattle.pw_simulation.proofs.Rows.{stands_prefix, stands_rest, still_ready, code_gives}
 use Rattle.pw_simulation.proofs.Sequences.{zero_is_false, one_word, alone, one_more, meets_equal, Follows, part_row}
 
-two_words : (i j : Inst) → size (instruction i ∷ instruction j ∷ []) ≡ 2
+pub two_words : (i j : Inst) → size (instruction i ∷ instruction j ∷ []) ≡ 2
 unfolding size
 two_words i j = refl
 
-associated : (a b c d : List CodePart) → a ++ b ++ c ++ d ≡ a ++ (b ++ (c ++ d))
+pub associated : (a b c d : List CodePart) → a ++ b ++ c ++ d ≡ a ++ (b ++ (c ++ d))
 associated a b c d = append_assoc (a ++ b) c d ∙ append_assoc a b (c ++ d)
 
 or_associated : (a b c d : List CodePart) → a ++ truth_code ∷ b ++ c ++ d ≡ a ++ ((truth_code ∷ b) ++ (c ++ d))
@@ -70,7 +70,7 @@ module _ (w : World) (sees : Sees w) (b : Body) (frame : HasFrame w b) (known : 
   -- ---- a condition
 
   -- the value of the condition decides
-  decided : (c : Class) (x : Value) (v : ℕ) → IsValue c → Represents w c x v → (t : Bool) → holds x ≡ t → nat_eq v 0 ≡ not t
+  pub decided : (c : Class) (x : Value) (v : ℕ) → IsValue c → Represents w c x v → (t : Bool) → holds x ≡ t → nat_eq v 0 ≡ not t
   decided c x v some stands_for t e = zero_is_false w sees c x v some stands_for ∙ ap not e
 
   -- code that begins where a stretch ends
@@ -84,7 +84,7 @@ module _ (w : World) (sees : Sees w) (b : Body) (frame : HasFrame w b) (known : 
       → Meets w (IsUntouched b h) b.stack_pointer b.calls_left own (GivesValue w d to) o t → Meets w (IsUntouched b h) b.stack_pointer b.calls_left more (GivesValue w d to) o t
   room_as own more d to o t fits m = meets_as w (IsUntouched b h) b.stack_pointer b.calls_left own more (GivesValue w d to) (GivesValue w d to) o t fits (λ _ _ g. g) m
 
-  moved_ready : (st : State) (t : MachineState) (pc : ℕ) → IsReadyFor w b known locals n st t → IsReadyFor w b known locals n st (record t { pc = pc })
+  pub moved_ready : (st : State) (t : MachineState) (pc : ℕ) → IsReadyFor w b known locals n st t → IsReadyFor w b known locals n st (record t { pc = pc })
   moved_ready st t pc r = record { at = moved_at w b.stack_pointer b.calls_left st t t.x pc r.at refl refl; carried = r.carried; fuel = r.fuel }
 
   -- ---- `c ? a : b`

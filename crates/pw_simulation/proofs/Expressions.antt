@@ -34,11 +34,11 @@ use Rattle.pw_simulation.proofs.PointerRows.{numbers, pointer_row}
 
 -- ---- names
 
-links_left : (P : Ref → Type 0) (xs ys : List Ref) → AllByRecursion P (xs ++ ys) → AllByRecursion P xs
+pub links_left : (P : Ref → Type 0) (xs ys : List Ref) → AllByRecursion P (xs ++ ys) → AllByRecursion P xs
 links_left P [] ys h = tt
 links_left P (x ∷ xs) ys h = (h.0, links_left P xs ys h.1)
 
-links_right : (P : Ref → Type 0) (xs ys : List Ref) → AllByRecursion P (xs ++ ys) → AllByRecursion P ys
+pub links_right : (P : Ref → Type 0) (xs ys : List Ref) → AllByRecursion P (xs ++ ys) → AllByRecursion P ys
 links_right P [] ys h = h
 links_right P (x ∷ xs) ys h = links_right P xs ys h.1
 
@@ -75,7 +75,7 @@ AreOf (c ∷ cs) (cons e es) = (class e ≡ c) × IsValue c × AreOf cs es
 AreOf [] (cons e es) = ⊥
 AreOf (c ∷ cs) nil = ⊥
 
-value_class : (ty : Ty) → Rattle.pw_tree.specs.Types.IsValueType ty → IsValue (class_of ty)
+pub value_class : (ty : Ty) → Rattle.pw_tree.specs.Types.IsValueType ty → IsValue (class_of ty)
 value_class Void h = absurd h
 value_class Long h = tt
 value_class Ulong h = tt

@@ -19,6 +19,15 @@ pub mod CallRows
 pub mod PointerRows
 pub mod BinaryRows
 pub mod Expressions
+pub mod StatementParts
+pub mod StatementRows
+pub mod VariableRows
+pub mod SetElementRows
+pub mod IfRows
+pub mod Loops
+pub mod LoopRows
+pub mod ForRows
+pub mod Statements
 pub mod ReadRows
 pub mod Singles
 pub mod Tables
@@ -52,3 +61,4 @@ pub mod ImageData
 pub mod ImageRegions
 pub mod ImageReady
 pub mod ImageVariables
+pub mod Meaning

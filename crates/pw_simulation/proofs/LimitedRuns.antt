@@ -40,7 +40,8 @@ pub record StopsAtLimit (k : ℕ) (s : MachineState) (o : RunResult) : Type 0 wh
 pub limit_path : (k : ℕ) (s : MachineState) → (run k s).end ≡ Limit → StopsAtLimit k s (run k s)
 limit_path zero s e = record { path = refl; as_many = refl }
 limit_path (suc k) s e = by_step (limit_path k) (step s) refl e where
-  by_step : ((u : MachineState) → (run k u).end ≡ Limit → StopsAtLimit k u (run k u)) → (next : Next) → step s ≡ next → (fetching s.pc (then (run k) next)).end ≡ Limit → StopsAtLimit (suc k) s (fetching s.pc (then (run k) next))
+  by_step : ((u : MachineState) → (run k u).end ≡ Limit → StopsAtLimit k u (run k u)) → (next : Next) → step s ≡ next
+      → (fetching s.pc (then (run k) next)).end ≡ Limit → StopsAtLimit (suc k) s (fetching s.pc (then (run k) next))
   by_step again (Goes u) goes e =
       let rest : StopsAtLimit k u (run k u) = again u e in
       record { path = (refl, (u, (goes, rest.path))); as_many = ap (λ n. suc n) rest.as_many }

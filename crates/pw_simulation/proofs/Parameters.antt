@@ -38,7 +38,8 @@ taken_at [] (suc n) i h = refl
 taken_at (x ∷ xs) (suc n) zero h = refl
 taken_at (x ∷ xs) (suc n) (suc i) h = taken_at xs n i (omega arith)
 
-known_by : (n i : ℕ) (t : Bool) → nat_eq n i ≡ t → t || list_any (λ j. nat_eq j i) (below n) ≡ true → (list_any (λ j. nat_eq j i) (below n) ≡ true → i < n) → i < suc n
+known_by : (n i : ℕ) (t : Bool) → nat_eq n i ≡ t → t || list_any (λ j. nat_eq j i) (below n) ≡ true
+    → (list_any (λ j. nat_eq j i) (below n) ≡ true → i < n) → i < suc n
 known_by n i true e h rest = let same : n ≡ i = grind (arith, nat_tests) in omega arith
 known_by n i false e h rest = let less = rest h in omega arith
 
@@ -152,7 +153,8 @@ module _ (w : World) (sees : Sees w) (b : Body) (frame : HasFrame w b) where
     pub there : slice_get xs j ≡ Some value
     pub carried : IsCarried w m place c value
 
-  stored_at : (m : Mem) (i j : ℕ) (cs : List Class) (xs : List Value) (c : Class) → AreStored m i cs xs → slice_get cs j ≡ Some c → IsStored m (b.stack_pointer + 8 * (i + j)) j c xs
+  stored_at : (m : Mem) (i j : ℕ) (cs : List Class) (xs : List Value) (c : Class) → AreStored m i cs xs → slice_get cs j ≡ Some c
+      → IsStored m (b.stack_pointer + 8 * (i + j)) j c xs
   stored_at m i j [] xs c h e = cc
   stored_at m i j (k ∷ cs) [] c h e = absurd h
   stored_at m i zero (k ∷ cs) (x ∷ xs) c h e =
@@ -165,7 +167,8 @@ module _ (w : World) (sees : Sees w) (b : Body) (frame : HasFrame w b) where
       record { value = rest.value; there = rest.there; carried = subst (λ p. IsCarried w m p c rest.value) place rest.carried }
 
   -- the parameters are known as the body begins
-  pub parameters_carried : (m : Mem) (cs : List Class) (xs : List Value) (n : ℕ) → n ≡ length cs → take n b.classes ≡ cs → n ≤ b.frame.locals → AreStored m 0 cs xs
+  pub parameters_carried : (m : Mem) (cs : List Class) (xs : List Value) (n : ℕ) → n ≡ length cs → take n b.classes ≡ cs
+      → n ≤ b.frame.locals → AreStored m 0 cs xs
       → AreLocalsCarried w b (below n) (locals_at_entry xs) m
   parameters_carried m cs xs n count first few h i c known is_class =
       let less : i < n = known_below n i known in

@@ -28,10 +28,10 @@ has_rest w m u at (address rd to ∷ code) more h =
 
 -- ---- stores
 
-fetches_same : (m n : Mem) (at : ℕ) (i : Inst) → fetch n at ≡ fetch m at → Fetches m at i → Fetches n at i
+pub fetches_same : (m n : Mem) (at : ℕ) (i : Inst) → fetch n at ≡ fetch m at → Fetches m at i → Fetches n at i
 fetches_same m n at i e h = record { value = h.value; fetched = e ∙ h.fetched; reads = h.reads }
 
-some_after : (m : Mem) (a v x at : ℕ) → x < 2 ^ 64 → doubleword m a ≡ Some v → HasSome m at → (t : Bool) → eqb a at ≡ t → HasSome (put_doubleword m a x) at
+pub some_after : (m : Mem) (a v x at : ℕ) → x < 2 ^ 64 → doubleword m a ≡ Some v → HasSome m at → (t : Bool) → eqb a at ≡ t → HasSome (put_doubleword m a x) at
 some_after m a v x at small h was true e =
     let same : a ≡ at = grind (arith, nat_tests) in
     record { value = x; is = subst (λ b. doubleword (put_doubleword m a x) b ≡ Some x) same (word-put_same m a v x small h) }

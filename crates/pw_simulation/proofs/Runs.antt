@@ -109,7 +109,8 @@ module _ (w : World) (sees : Sees w) (runnable : IsRunnable w) (input : List ℕ
   exit_value null n h = absurd h
   exit_value (pointer f) n h = absurd h
 
-  finishes : (c : CallsMain) (o : Outcome Value) → Meets w (IsAbove w.stack_high) w.stack_high 1000 1 (GivesValue w (class_of main.function_is.sig.result) (c.at_call.pc + 4)) o c.at_call → Finishes (run_of o)
+  finishes : (c : CallsMain) (o : Outcome Value)
+      → Meets w (IsAbove w.stack_high) w.stack_high 1000 1 (GivesValue w (class_of main.function_is.sig.result) (c.at_call.pc + 4)) o c.at_call → Finishes (run_of o)
   finishes c (gives v st) l =
       let t : MachineState = l.end in
       let behind : s.pc + 4 + 8 + 4 ≡ t.pc = let e = l.holds.0 in let f = c.pc in omega arith in
@@ -166,7 +167,8 @@ module _ (w : World) (sees : Sees w) (runnable : IsRunnable w) (input : List ℕ
         few = subst (λ k. k ≤ (bound + 1) * w.words) (sym (length-append r.ps (f.last.pc ∷ []))) count;
       })
 
-  pub runs : CallsRun w (call_of w.project bound) bound → (limit : ℕ) → (bound + 1) * w.words ≤ limit → RunsAsMeant w (meaning w.project input bound) bound (run limit s)
+  pub runs : CallsRun w (call_of w.project bound) bound → (limit : ℕ) → (bound + 1) * w.words ≤ limit
+      → RunsAsMeant w (meaning w.project input bound) bound (run limit s)
   runs calls limit enough =
       let c = calls_main in
       let main_is : main.d ≡ main_definition w.project = sym (ap definition_or_first main.found) in

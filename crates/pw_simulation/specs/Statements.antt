@@ -82,7 +82,8 @@ CompletesAt w b around known later behind (returned x) t =
 
 -- The law of a statement: wherever its code stands, the machine does what the statement comes to. Of its own it fetches no more
 -- words than its code has: each jump back takes a step, and with it as many words more as all texts have.
-abbrev pub RunsStatement : (w : World) (b : Body) → Surroundings → (known later : List ℕ) → (n at : ℕ) → List CodePart → (Locals → State → Outcome Completion) → Type 0
+abbrev pub RunsStatement : (w : World) (b : Body) → Surroundings → (known later : List ℕ) → (n at : ℕ) → List CodePart
+    → (Locals → State → Outcome Completion) → Type 0
 RunsStatement w b around known later n at code means =
     (locals : Locals) (st : State) (s : MachineState) → IsReadyFor w b known locals n st s → IsAboutToRun w b around at code s →
     Meets w (IsPastSlots b) b.stack_pointer b.calls_left (size code) (CompletesAt w b around known later (at + size code)) (means locals st) s
@@ -105,6 +106,7 @@ pub record AreStatementsOf (w : World) (b : Body) (around : Surroundings) (known
 -- least the locals that are known before them.
 abbrev pub StatementsRun : Type 0
 StatementsRun =
-    (w : World) (b : Body) (around : Surroundings) (known : List ℕ) (n at : ℕ) (calls : Definition → List Value → State → Outcome Value) (ss : TypedStatements) →
+    (w : World) (b : Body) (around : Surroundings) (known : List ℕ) (n at : ℕ) (calls : Definition → List Value → State → Outcome Value)
+    (ss : TypedStatements) →
     Sees w → HasFrame w b → IsKeptBody w b → CallsRun w calls n → AreStatementsOf w b around known ss →
     RunsStatement w b around known known n at (statements_code b.frame around.targets at ss) (exec_all (context_of w b calls n) ss)

@@ -1,8 +1,10 @@
 //! The laws of a run, over definitions alone. Each is the contract of a function, which does nothing.
 
-ghost use Rattle.pw_simulation.specs.AnyRuns.{SealedTextStaysInRuns, LimitedRunsGoOn};
+ghost use Rattle.pw_simulation.specs.AnyRuns.{SealedTextStaysInRuns, LimitedRunsGoOn, LimitedRunsAreMeant};
 ghost use Rattle.pw_simulation.specs.Calls.{ExpressionsRun};
 ghost use Rattle.pw_simulation.specs.Laws.{AddressesAreBrought, LoadsAreCarriedOut, StoresAreCarriedOut, FaultsStop};
+ghost use Rattle.pw_simulation.specs.Programs.{CallsAreMeant, TheRunIsTheMeaning};
+ghost use Rattle.pw_simulation.specs.Statements.{StatementsRun};
 ghost use Rattle.pw_simulation.specs.Straight.{LoadImmediateLoads};
 ghost use Rattle.pw_simulation.specs.Witness.{WorldSees};
 
@@ -36,6 +38,11 @@ pub fn expressions_run()
     ensures { ExpressionsRun }
 {}
 
+/// If calls do what they mean, the code of statements does what the statements come to.
+pub fn statements_run()
+    ensures { StatementsRun }
+{}
+
 /// There is a world that shows a project, with a variable, function values in it, a loop, an index and a call through a
 /// pointer: the laws about worlds are not empty.
 pub fn a_world_shows_a_project()
@@ -50,4 +57,19 @@ pub fn sealed_text_stays_in_runs()
 /// A run that stops at its limit is the beginning of each longer run.
 pub fn limited_runs_go_on()
     ensures { LimitedRunsGoOn }
+{}
+
+/// The machine does what each call of a kept function comes to.
+pub fn calls_are_meant()
+    ensures { CallsAreMeant }
+{}
+
+/// The machine's run, from the entry to its end, is what the project means.
+pub fn the_run_is_the_meaning()
+    ensures { TheRunIsTheMeaning }
+{}
+
+/// A run that is cut short does the beginning of what the project means.
+pub fn limited_runs_are_meant()
+    ensures { LimitedRunsAreMeant }
 {}
