@@ -62,3 +62,4 @@ pub mod ImageRegions
 pub mod ImageReady
 pub mod ImageVariables
 pub mod Meaning
+pub mod ImageRuns

@@ -12,5 +12,6 @@ pub use laws::{
 };
 pub use projects::{
     all_is_enough, bodies_are_linked, images_are_ready, images_are_seen, kept_is_enough,
-    projects_are_runnable, well_typed_code_has_words,
+    projects_are_runnable, the_image_begins_as_meant, the_image_runs_as_meant,
+    well_typed_code_has_words,
 };

@@ -1,6 +1,7 @@
 //! The laws of projects and of their images, over definitions alone. Each is the contract of a function, which does nothing.
 
 ghost use Rattle.pw_simulation.specs.Encodable.{WellTypedCodeHasWords};
+ghost use Rattle.pw_simulation.specs.ImageRuns.{TheImageRunsAsMeant, TheImageBeginsAsMeant};
 ghost use Rattle.pw_simulation.specs.ProjectLaws.{ImagesAreSeen, KeptIsEnough, AllIsEnough, BodiesAreLinked, ProjectsAreRunnable, ImagesAreReady};
 
 /// The world of a project that can be run shows the project, as far as it is kept: each kept function stands at its place, and
@@ -40,4 +41,15 @@ pub fn well_typed_code_has_words()
 /// addresses of what their names mean, the stack is there, and each element of each variable has its initial value.
 pub fn images_are_ready()
     ensures { ImagesAreReady }
+{}
+
+/// The machine's run of the image of a project that can be run, of which enough is kept, is what the project means: its output, the
+/// input that it leaves, and its end, with every address that is fetched in the entry or in a kept function.
+pub fn the_image_runs_as_meant()
+    ensures { TheImageRunsAsMeant }
+{}
+
+/// Where that run is cut short, it did a beginning of what the project means.
+pub fn the_image_begins_as_meant()
+    ensures { TheImageBeginsAsMeant }
 {}
