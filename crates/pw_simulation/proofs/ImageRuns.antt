@@ -1,5 +1,5 @@
 -- The machine's run of the image of a project is what the project means.
-use Rattle.std.proofs.Common.{◌≡◌, ℕ, ◌+◌, ◌*◌, ◌<◌, ◌≤◌, List, refl}
+use Rattle.std.proofs.Common.{ℕ, List, refl}
 use Rattle.pw_tree.specs.Names.{Project}
 use Rattle.pw_agree.specs.Kept.{Keep}
 use Rattle.pw_simulation.specs.Programs.{IsStart}

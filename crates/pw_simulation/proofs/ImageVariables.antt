@@ -1,39 +1,36 @@
 -- Each element of each variable has its initial value in the image of a project.
-use Rattle.std.proofs.Common.{◌≡◌, ℕ, zero, suc, ◌+◌, ◌-◌, ◌*◌, ◌^◌, ◌<◌, ◌≤◌, Bool, true, false, cond, List, [], ◌∷◌, ◌++◌, length, map, Option, Some, None, refl, sym, ◌∙◌, ap, subst, arith, ◌⊎◌, inl, inr, lit<, nat_lt}
-use Rattle.std.specs.Prelude.{slice_get, option_map, option_and_then, replicate, Contains}
-use Rattle.std.specs.Option.{option_map_or, is_some, is_none}
-use Rattle.std.proofs.lemmas.Bool.Decides.{nat_tests}
+use Rattle.std.proofs.Common.{◌≡◌, ℕ, zero, suc, ◌+◌, ◌-◌, ◌*◌, ◌^◌, ◌<◌, ◌≤◌, Bool, true, false, cond, List, [], ◌∷◌, ◌++◌, length, Option, Some, None, refl, sym, ◌∙◌, ap, subst, arith, lit<}
+use Rattle.std.specs.Prelude.{slice_get, option_map, option_and_then, replicate}
+use Rattle.std.specs.Option.{option_map_or, is_some}
 use Rattle.pw_tree.specs.declared.ty.Ty.{Ty}
 use Rattle.pw_tree.specs.declared.ty.Ty.TheVariants.{Void, Long, Ulong, Fn}
 use Rattle.pw_tree.specs.declared.ty.Sig.{Sig}
-use Rattle.pw_tree.specs.declared.ty.Ref.{Ref}
 use Rattle.pw_tree.specs.declared.tunit.TVar.{TVar}
 use Rattle.pw_tree.specs.declared.tunit.Init.{Init}
 use Rattle.pw_tree.specs.declared.tunit.Init.TheVariants.{Num, Fun}
 use Rattle.pw_tree.specs.Types.{pointer_to}
 use Rattle.pw_tree.specs.Units.{Function}
-use Rattle.pw_tree.specs.Names.{Project, Definition, Entity, function, resolved, function_at, variable_at}
+use Rattle.pw_tree.specs.Names.{Project, Definition, resolved, function_at, variable_at}
 use Rattle.pw_tree.specs.States.{Value, null, pointer, zero_of, value_or_zero}
 use Rattle.pw_tree.specs.States as value
 use Rattle.pw_tree.specs.Meaning.{definition_or_first, initial_element, initial_value, initial_variables}
 use Rattle.pw_tree.specs.WellTypedExpressions.{Class, number, class_of}
-use Rattle.pw_tree.specs.WellTypedUnits.{room, Initialises, InitialiserFits, IsWellTypedVariable}
-use Rattle.std.specs.List.{AllByRecursion}
+use Rattle.pw_tree.specs.WellTypedUnits.{room, Initialises}
 use Rattle.pw_mem.specs.Memory.{zeros}
 use Rattle.pw_mem.specs.Words.{doubleword}
 use Rattle.pw_code.specs.Objects.{is_initialised, fill, filled}
 use Rattle.pw_agree.specs.Kept.{Keep}
-use Rattle.pw_agree.specs.Image.{data_image, slots_image, variables_image, variable_image, element_image, image}
+use Rattle.pw_agree.specs.Image.{data_image, slots_image, variables_image, element_image, image}
 use Rattle.pw_agree.specs.Placing.{units_of, data_of, function_address, slots_of, elements_before, variable_address, entity_address}
 use Rattle.pw_agree.proofs.Members.{IsIn, each_in}
-use Rattle.pw_simulation.specs.Values.{PointsTo, Represents, IsCarried, IsElement, AreCarried}
+use Rattle.pw_simulation.specs.Values.{Represents, AreCarried}
 use Rattle.pw_simulation.specs.Projects.{CanRun, KeepsEnough}
 use Rattle.pw_simulation.specs.ImageWorld.{world_of}
 use Rattle.pw_simulation.proofs.Joined.{get_left, get_right, length_both, got_of_map, got_of_copies}
 use Rattle.pw_simulation.proofs.TwoLevels.{place_end}
-use Rattle.pw_simulation.proofs.Extents.{IsVariableAt, variable_is, weight_if, elements_of_units}
-use Rattle.pw_simulation.proofs.Elements.{place_if, total_if, elements_in, before_by, IsPlaced, placed, sum_is, variable_ends, variable_item}
-use Rattle.pw_simulation.proofs.Addresses.{variable_module, IsElementAt, element_at}
+use Rattle.pw_simulation.proofs.Extents.{variable_is, weight_if, elements_of_units}
+use Rattle.pw_simulation.proofs.Elements.{place_if, IsPlaced, placed, sum_is, variable_ends, variable_item}
+use Rattle.pw_simulation.proofs.Addresses.{variable_module, element_at}
 use Rattle.pw_simulation.proofs.Slots.{got_in}
 use Rattle.pw_simulation.proofs.Links.{contains, typed_variable, means_function}
 use Rattle.pw_simulation.proofs.Enough.{items_fit, item_points, item_used}
