@@ -1,6 +1,6 @@
 -- Addresses of a project that can be run: its functions, slots and elements stand in the spans of their modules, below the stack.
-use Rattle.std.proofs.Common.{◌≡◌, ◌≢◌, ℕ, zero, suc, ◌+◌, ◌*◌, ◌%◌, ◌^◌, ◌<◌, ◌≤◌, Bool, true, false, List, [], length, Some, ◌⊎◌, inl, inr, refl, sym, ◌∙◌, ap, subst, arith, not, bytes_eq}
-use Rattle.std.specs.List.{prefix_len, list_any}
+use Rattle.std.proofs.Common.{◌≡◌, ℕ, suc, ◌+◌, ◌*◌, ◌<◌, ◌≤◌, true, List, length, Some, refl, sym, ◌∙◌, ap, subst, arith, not, bytes_eq}
+use Rattle.std.specs.List.{list_any}
 use Rattle.pw_base.specs.Limits.{stack_start}
 use Rattle.pw_tree.specs.declared.tunit.TVar.{TVar}
 use Rattle.pw_tree.specs.Units.{Function, TypedUnit}
@@ -9,9 +9,9 @@ use Rattle.pw_tree.specs.WellTypedUnits.{room}
 use Rattle.pw_code.specs.FunctionCode.{function_words}
 use Rattle.pw_agree.specs.Placing.{units_of, base_of, text_of, data_of, words_of_module, function_address, slots_of, slot_address, elements_before, variable_address}
 use Rattle.pw_simulation.specs.Projects.{CanRun}
-use Rattle.pw_simulation.proofs.TwoLevels.{compare, items_differ}
-use Rattle.pw_simulation.proofs.Extents.{IsUnitAt, unit_is, function_is, variable_is, function_item, address_is, function_ends, function_within, first_at_most, found_before}
-use Rattle.pw_simulation.proofs.Elements.{definition_at, elements_in, variable_ends, variable_within, one_definition, IsOneElement, elements_differ}
+use Rattle.pw_simulation.proofs.TwoLevels.{items_differ}
+use Rattle.pw_simulation.proofs.Extents.{unit_is, function_is, variable_is, function_item, address_is, function_ends, first_at_most, found_before}
+use Rattle.pw_simulation.proofs.Elements.{definition_at, elements_in, variable_ends, one_definition, IsOneElement, elements_differ}
 
 -- ---- modules
 

@@ -1,10 +1,10 @@
 -- What a name with external linkage designates is a definition of the project.
-use Rattle.std.proofs.Common.{◌≡◌, ℕ, zero, suc, ◌+◌, Bool, true, false, List, [], ◌∷◌, Option, Some, None, inl, inr, refl, sym, ◌∙◌, ap, subst, arith, bytes_eq}
-use Rattle.std.specs.Prelude.{slice_get, option_and_then, option_map}
+use Rattle.std.proofs.Common.{◌≡◌, ℕ, suc, ◌+◌, Bool, true, false, List, [], ◌∷◌, Option, Some, None, refl, sym, ◌∙◌, ap, subst, arith, bytes_eq}
+use Rattle.std.specs.Prelude.{slice_get, option_and_then}
 use Rattle.std.specs.Option.{option_or}
 use Rattle.pw_tree.specs.declared.tunit.TVar.{TVar}
 use Rattle.pw_tree.specs.Units.{Function, TypedUnit}
-use Rattle.pw_tree.specs.Names.{Project, Definition, Entity, function, object, first_found, found, defined_in_unit, definition_of, unit_at, function_at, variable_at}
+use Rattle.pw_tree.specs.Names.{Project, Entity, function, object, first_found, found, defined_in_unit, definition_of, unit_at, function_at, variable_at}
 use Rattle.pw_simulation.proofs.Elements.{definition_at}
 
 -- ---- the first that is found

@@ -1,5 +1,5 @@
 -- Where the elements of variables stand in their module's data: each within it, and different ones at different places.
-use Rattle.std.proofs.Common.{◌≡◌, ℕ, zero, suc, ◌+◌, ◌*◌, ◌<◌, ◌≤◌, Bool, true, false, List, [], ◌∷◌, ◌++◌, length, take, filter, Option, Some, None, refl, sym, ◌∙◌, ap, subst, arith, cond, not}
+use Rattle.std.proofs.Common.{◌≡◌, ℕ, ◌+◌, ◌<◌, ◌≤◌, Bool, true, false, List, [], take, filter, Option, Some, None, refl, ◌∙◌, ap, arith, cond, not}
 use Rattle.std.specs.Prelude.{slice_get, sum_by}
 use Rattle.std.specs.Option.{option_map_or, is_some, is_none}
 use Rattle.std.proofs.lemmas.List.Sums.{sum_by-append}
@@ -11,7 +11,7 @@ use Rattle.pw_tree.specs.WellTypedUnits.{room}
 use Rattle.pw_code.specs.Objects.{is_initialised, is_uninitialised}
 use Rattle.pw_agree.specs.Placing.{units_of, elements_of, variables_of_units, variables_before, elements_before, definition_is_initialised}
 use Rattle.pw_simulation.proofs.TwoLevels.{total, place, IsItem, place_end, place_any, items_differ}
-use Rattle.pw_simulation.proofs.Extents.{IsUnitAt, IsVariableAt, unit_is, variable_is, weight_if, elements_of_filter, elements_of_units, totals_add}
+use Rattle.pw_simulation.proofs.Extents.{unit_is, variable_is, weight_if, elements_of_filter, elements_of_units, totals_add}
 
 abbrev variables_in : TypedUnit → List TVar
 variables_in unit = unit.variables

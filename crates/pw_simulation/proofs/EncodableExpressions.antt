@@ -1,6 +1,6 @@
 -- The code of a well-typed expression has words.
-use Rattle.std.proofs.Common.{◌≡◌, ℕ, zero, suc, ◌+◌, ◌*◌, ◌^◌, ◌<◌, ◌≤◌, Bool, true, false, cond, List, [], ◌∷◌, ◌++◌, length, Some, refl, sym, ◌∙◌, ap, subst, arith, lit<}
-use Rattle.std.specs.Prelude.{max, slice_get, pos}
+use Rattle.std.proofs.Common.{◌≡◌, ℕ, suc, ◌+◌, ◌^◌, ◌<◌, ◌≤◌, Bool, true, false, cond, List, ◌∷◌, ◌++◌, length, refl, arith, lit<}
+use Rattle.std.specs.Prelude.{pos}
 use Rattle.pw_isa.specs.declared.instruction.Inst.TheVariants.{Bne, Ld, Addi}
 use Rattle.pw_isa.specs.Registers.{x0, sp, a0, t0}
 use Rattle.pw_tree.specs.declared.operator.Bin.{Bin}

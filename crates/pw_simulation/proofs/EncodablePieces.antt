@@ -1,11 +1,9 @@
 -- The pieces of code that rows of the scheme have in common have words.
-use Rattle.std.proofs.Common.{◌≡◌, ◌≢◌, ℕ, zero, suc, ◌+◌, ◌-◌, ◌*◌, ◌/◌, ◌%◌, ◌^◌, ◌<◌, ◌≤◌, Bool, true, false, List, [], ◌∷◌, ◌++◌, length, refl, sym, ◌∙◌, ap, subst, arith, nat_lt, lit<}
+use Rattle.std.proofs.Common.{◌≡◌, ℕ, zero, suc, ◌+◌, ◌-◌, ◌*◌, ◌^◌, ◌<◌, ◌≤◌, Bool, true, false, List, [], ◌∷◌, ◌++◌, refl, arith, nat_lt, lit<}
 use Rattle.std.specs.Prelude.{ℤ, pos, negsuc, if◌then◌else◌}
 use Rattle.std.specs.Int.{cast_signed, w64}
 use Rattle.std.proofs.lemmas.Bool.Decides.{nat_tests}
-use Rattle.pw_isa.specs.declared.instruction.Inst.{Inst}
-use Rattle.pw_isa.specs.declared.instruction.Inst.TheVariants.{Addi, Slli, Jal, Bne, Bltu}
-use Rattle.pw_isa.specs.Formats.{FitsField, IsEven}
+use Rattle.pw_isa.specs.declared.instruction.Inst.TheVariants.{Addi, Slli, Jal, Bne}
 use Rattle.pw_isa.specs.Encoding.{IsEncodable}
 use Rattle.pw_isa.specs.Registers.{x0, a0, a1, t0, t1}
 use Rattle.pw_tree.specs.declared.operator.Un.{Un}
@@ -13,10 +11,9 @@ use Rattle.pw_tree.specs.declared.operator.Un.TheVariants.{Neg, Plus, Not, Bang}
 use Rattle.pw_tree.specs.declared.operator.Bin.{Bin}
 use Rattle.pw_tree.specs.declared.operator.Bin.TheVariants as operators
 use Rattle.pw_code.specs.declared.frame.Frame.{Frame}
-use Rattle.pw_code.specs.Items.{CodePart, instruction, address, size}
-use Rattle.pw_code.specs.Frames.{held_slot, local_slot}
+use Rattle.pw_code.specs.Items.{CodePart, instruction}
 use Rattle.pw_code.specs.LoadImmediate.{is_within, lower, rest, load_32_bits, load_signed, load_immediate}
-use Rattle.pw_code.specs.Pieces.{skip, back, jump, unless_zero, unless_nonzero, past, fault, fault_words, check_index, unary_code, check_divisor, binary_code, less, shift_right, divide, remainder, hold, load_held}
+use Rattle.pw_code.specs.Pieces.{skip, back, jump, unless_zero, unless_nonzero, past, fault, check_index, unary_code, check_divisor, binary_code, less, shift_right, divide, remainder, hold, load_held}
 use Rattle.pw_code.proofs.Exports.{size-fault, fault_words_at_most}
 use Rattle.pw_code.proofs.Immediates.{lower_fits_field, immediate_fits_field, upper_fits_field}
 use Rattle.pw_simulation.specs.Encodable.{PartHasWords, CodeHasWords}

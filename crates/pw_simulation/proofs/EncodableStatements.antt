@@ -1,10 +1,10 @@
 -- The code of a well-typed function has words.
-use Rattle.std.proofs.Common.{◌≡◌, ℕ, zero, suc, ◌+◌, ◌-◌, ◌*◌, ◌/◌, ◌^◌, ◌<◌, ◌≤◌, Bool, true, false, List, [], ◌∷◌, ◌++◌, length, Option, Some, None, refl, sym, ◌∙◌, ap, subst, arith, lit<}
-use Rattle.std.specs.Prelude.{ℤ, pos, negsuc, ◌-ℤ◌, max, slice_get}
+use Rattle.std.proofs.Common.{◌≡◌, ℕ, zero, suc, ◌+◌, ◌^◌, ◌<◌, ◌≤◌, List, [], ◌∷◌, ◌++◌, length, Option, Some, None, refl, sym, subst, arith, lit<}
+use Rattle.std.specs.Prelude.{pos, negsuc, ◌-ℤ◌}
 use Rattle.std.proofs.lemmas.Int.{ints}
-use Rattle.pw_isa.specs.declared.instruction.Inst.TheVariants.{Bne, Beq, Sd}
+use Rattle.pw_isa.specs.declared.instruction.Inst.TheVariants.{Bne, Beq}
 use Rattle.pw_isa.specs.Formats.{FitsField}
-use Rattle.pw_isa.specs.Registers.{x0, sp, s1, a0}
+use Rattle.pw_isa.specs.Registers.{x0, s1, a0}
 use Rattle.pw_tree.specs.TypedExpressions.{TypedExpression}
 use Rattle.pw_tree.specs.TypedStatements as statements
 use Rattle.pw_tree.specs.TypedStatements.{TypedStatement, TypedStatements, OptionalTypedStatement}
@@ -15,11 +15,11 @@ use Rattle.pw_tree.specs.WellTypedStatements.{IfPresent, LocalFits, StatementFit
 use Rattle.pw_tree.specs.WellTypedUnits.{IsWellTypedFunction}
 use Rattle.pw_code.specs.declared.frame.Frame.{Frame}
 use Rattle.pw_code.specs.Items.{CodePart, instruction}
-use Rattle.pw_code.specs.Frames.{local_slot, frame_bytes}
-use Rattle.pw_code.specs.Pieces.{bytes_of_words, jump, skip, unless_zero, past, fault, depth_fault, check_index, hold}
+use Rattle.pw_code.specs.Frames.{frame_bytes}
+use Rattle.pw_code.specs.Pieces.{bytes_of_words, jump, unless_zero, past, fault, depth_fault, check_index, hold}
 use Rattle.pw_code.specs.ExpressionCode.{expression_words, expression_code}
 use Rattle.pw_code.specs.StatementCode.{Targets, targets_in_loop, statement_words, statements_words, optional_words, else_words, else_jump, set_local_words, value_words, condition_words, set_local_code, value_code, condition_code, statement_code, statements_code, optional_code, else_code}
-use Rattle.pw_code.specs.FunctionCode.{frame_of, store_parameters, opens, opens_words, falls_off, closes, function_targets, function_code, function_words}
+use Rattle.pw_code.specs.FunctionCode.{frame_of, store_parameters, opens, opens_words, falls_off, closes, function_targets, function_code}
 use Rattle.pw_code.specs.Bounds.{HasSmallOperands, StatementHasSmallOperands}
 use Rattle.pw_code.proofs.Exports.{small_body, function_is_short}
 use Rattle.pw_simulation.specs.Encodable.{CodeHasWords}

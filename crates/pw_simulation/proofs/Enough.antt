@@ -1,29 +1,28 @@
 -- What is enough to keep: what the roots lead to, and everything. The bodies of kept functions are linked.
-use Rattle.std.proofs.Common.{◌≡◌, ℕ, zero, suc, ◌+◌, ◌<◌, ◌≤◌, Bool, true, false, List, [], ◌∷◌, ◌++◌, length, map, flat_map, Option, Some, None, inl, inr, refl, sym, ◌∙◌, ap, subst, arith, codes, get_or}
-use Rattle.std.specs.Prelude.{slice_get, option_and_then, unwrap_or, Contains}
+use Rattle.std.proofs.Common.{◌≡◌, ℕ, true, List, [], ◌∷◌, map, Option, Some, None, inl, inr, refl, sym, ◌∙◌, ap, subst, codes}
+use Rattle.std.specs.Prelude.{unwrap_or, Contains}
 use Rattle.std.specs.List.{AllByRecursion}
 use Rattle.std.specs.Option.{is_some, option_map_or}
 use Rattle.pw_tree.specs.declared.ty.Sig.{Sig}
 use Rattle.pw_tree.specs.declared.ty.Ref.{Ref}
-use Rattle.pw_tree.specs.declared.ty.Ref.TheVariants.{Global, LocalFun, LocalVar}
 use Rattle.pw_tree.specs.declared.tunit.TVar.{TVar}
 use Rattle.pw_tree.specs.declared.tunit.Init.{Init}
 use Rattle.pw_tree.specs.declared.tunit.Init.TheVariants.{Num, Fun}
 use Rattle.pw_tree.specs.Types.{pointer_to}
 use Rattle.pw_tree.specs.Units.{Function, TypedUnit}
-use Rattle.pw_tree.specs.Names.{Project, Definition, Entity, function, object, definition_of, resolved, unit_at, function_at, variable_at}
+use Rattle.pw_tree.specs.Names.{Project, Definition, Entity, function, object, definition_of, resolved, unit_at, function_at}
 use Rattle.pw_tree.specs.Depends.{Node, entry, defined, Depends, names_of_all}
 use Rattle.pw_tree.specs.Binding.{names_used, names_in_items}
 use Rattle.pw_tree.specs.Meaning.{no_function, called_function}
-use Rattle.pw_tree.specs.WellTypedExpressions.{Class, class_of, IsFunction, HasClass, IsVariable}
+use Rattle.pw_tree.specs.WellTypedExpressions.{Class, class_of, IsFunction, HasClass}
 use Rattle.pw_tree.specs.WellTypedUnits.{room, Initialises, InitialiserFits}
-use Rattle.pw_agree.specs.Kept.{Keep, IsPointedTo, IsRoot, Leads, IsKept, root, named, FindsKept}
+use Rattle.pw_agree.specs.Kept.{Keep, IsPointedTo, Leads, IsKept, root, named, FindsKept}
 use Rattle.pw_agree.proofs.Members.{IsIn, contained_is_in, each_in}
 use Rattle.pw_simulation.specs.Bodies.{Body, MeansVariable, MeansFunction, IsLinked}
-use Rattle.pw_simulation.specs.Projects.{DefinesMain, CanRun, KeepsEnough, keeps_all}
+use Rattle.pw_simulation.specs.Projects.{CanRun, KeepsEnough, keeps_all}
 use Rattle.pw_simulation.specs.ImageWorld.{world_of}
-use Rattle.pw_simulation.proofs.Extents.{IsFunctionAt, IsVariableAt, function_is, variable_is}
-use Rattle.pw_simulation.proofs.Links.{typed_function, typed_variable, contains, used_in_body, used_in_variable, MeansFunctionOf, means_function, MeansVariableOf, means_variable}
+use Rattle.pw_simulation.proofs.Extents.{IsVariableAt, function_is, variable_is}
+use Rattle.pw_simulation.proofs.Links.{typed_function, typed_variable, contains, used_in_body, used_in_variable, means_function, means_variable}
 use Rattle.pw_simulation.proofs.NamesInBodies.{IsNamed, names_of_body}
 
 -- ---- names in initialisers
@@ -36,7 +35,7 @@ name_in_items (Num n ∷ items) f (inr h) = name_in_items items f h
 name_in_items (Fun g ∷ items) f (inl e) = let same : g ≡ f = cc in inl same
 name_in_items (Fun g ∷ items) f (inr h) = inr (name_in_items items f h)
 
-items_fit : (unit : TypedUnit) (x : TVar) (o : Option (List Init)) (values : List Init) → o ≡ Some values → InitialiserFits unit x o → AllByRecursion (Initialises unit x.ty) values
+pub items_fit : (unit : TypedUnit) (x : TVar) (o : Option (List Init)) (values : List Init) → o ≡ Some values → InitialiserFits unit x o → AllByRecursion (Initialises unit x.ty) values
 items_fit unit x None values e h = cc
 items_fit unit x (Some items) values e h = let same : items ≡ values = cc in subst (λ vs. AllByRecursion (Initialises unit x.ty) vs) same h.1
 
@@ -158,14 +157,13 @@ linked_all : (project : Project) (keep : Keep) → CanRun project → KeepsEnoug
     → function_at project b.self ≡ Some f → keep b.self ≡ true → (names : List Ref) → ((name : Ref) → IsIn names name → IsIn (names_of_all f.body) name)
     → ((name : Ref) → IsIn names name → IsIn (names_used b.unit) name) → AllByRecursion (IsLinked (world_of project keep) b) names
 linked_all project keep run enough b f there here kept [] in_body used = tt
-linked_all project keep run enough b f there here kept (name ∷ names) in_body used =
-    (
-      record {
-        variable = λ size c is. linked_variable project keep run b name there (used name (inl refl)) size c is;
-        function = λ sig is. linked_function project keep run enough b f name there here kept (in_body name (inl refl)) (used name (inl refl)) sig is;
-      },
-      linked_all project keep run enough b f there here kept names (λ other h. in_body other (inr h)) (λ other h. used other (inr h)),
-    )
+linked_all project keep run enough b f there here kept (name ∷ names) in_body used = (
+  record {
+    variable = λ size c is. linked_variable project keep run b name there (used name (inl refl)) size c is;
+    function = λ sig is. linked_function project keep run enough b f name there here kept (in_body name (inl refl)) (used name (inl refl)) sig is;
+  },
+  linked_all project keep run enough b f there here kept names (λ other h. in_body other (inr h)) (λ other h. used other (inr h)),
+)
 
 one_unit : (o : Option TypedUnit) (a b : TypedUnit) → o ≡ Some a → o ≡ Some b → a ≡ b
 one_unit o a b x y = cc

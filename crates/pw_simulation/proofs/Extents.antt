@@ -1,10 +1,9 @@
 -- Where the parts of a project that can be run stand: functions in their module's text, slots and variables in its data.
-use Rattle.std.proofs.Common.{◌≡◌, ℕ, zero, suc, ◌+◌, ◌*◌, ◌%◌, ◌^◌, ◌<◌, ◌≤◌, Bool, true, false, List, [], ◌∷◌, ◌++◌, length, map, take, filter, flat_map, Option, Some, None, refl, sym, ◌∙◌, ap, subst, arith, not, cond}
+use Rattle.std.proofs.Common.{◌≡◌, ℕ, suc, ◌+◌, ◌*◌, ◌<◌, ◌≤◌, Bool, true, false, List, [], ◌∷◌, length, filter, Option, Some, None, refl, sym, ◌∙◌, ap, arith, not, cond}
 use Rattle.std.specs.Prelude.{slice_get, sum_by, option_and_then, bytes_eq}
 use Rattle.std.specs.List.{prefix_len, list_any}
 use Rattle.std.specs.Option.{option_map_or, is_some, is_none}
 use Rattle.std.proofs.lemmas.List.Sums.{sum_by-append}
-use Rattle.pw_base.specs.Limits.{module_span}
 use Rattle.pw_tree.specs.declared.tunit.TVar.{TVar}
 use Rattle.pw_tree.specs.declared.tunit.Init.{Init}
 use Rattle.pw_tree.specs.Units.{Function, TypedUnit}
@@ -13,9 +12,8 @@ use Rattle.pw_tree.specs.WellTypedUnits.{room}
 use Rattle.pw_code.specs.Items.{size}
 use Rattle.pw_code.specs.FunctionCode.{function_words}
 use Rattle.pw_code.specs.Objects.{is_initialised, is_uninitialised}
-use Rattle.pw_agree.specs.Placing.{units_of, base_of, text_of, data_of, code_before_functions, words_of_unit, words_of_module, function_address, slots_of, slot_address, elements_of, variables_of_units, elements_before, definition_is_initialised, variable_address}
-use Rattle.pw_simulation.specs.Projects.{CanRun}
-use Rattle.pw_simulation.proofs.Joined.{got_below, sum_more, sum_part}
+use Rattle.pw_agree.specs.Placing.{units_of, text_of, code_before_functions, words_of_module, function_address, elements_of, variables_of_units}
+use Rattle.pw_simulation.proofs.Joined.{got_below, sum_more}
 use Rattle.pw_simulation.proofs.TwoLevels.{total, place, IsItem, place_end, place_any}
 
 -- ---- what definitions are
@@ -156,5 +154,11 @@ pub totals_add : (units : List TypedUnit) → total (λ (unit : TypedUnit). unit
     ≡ sum_by (λ (unit : TypedUnit). elements_of unit.variables) units
 totals_add [] = refl
 totals_add (unit ∷ units) =
-    omega (arith, sum_more (λ (v : TypedUnit). sum_by (weight_if is_initialised) v.variables) unit units, sum_more (λ (v : TypedUnit). sum_by (weight_if is_uninitialised) v.variables) unit units,
-    sum_more (λ (v : TypedUnit). elements_of v.variables) unit units, variables_add unit.variables, totals_add units)
+    omega (
+      arith,
+      sum_more (λ (v : TypedUnit). sum_by (weight_if is_initialised) v.variables) unit units,
+      sum_more (λ (v : TypedUnit). sum_by (weight_if is_uninitialised) v.variables) unit units,
+      sum_more (λ (v : TypedUnit). elements_of v.variables) unit units,
+      variables_add unit.variables,
+      totals_add units,
+    )

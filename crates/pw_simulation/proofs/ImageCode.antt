@@ -1,24 +1,22 @@
 -- The code of a project's world: what stands at an address of a text, and that each kept function's code stands at its place.
-use Rattle.std.proofs.Common.{◌≡◌, ℕ, zero, suc, ◌+◌, ◌-◌, ◌*◌, ◌/◌, ◌%◌, ◌^◌, ◌<◌, ◌≤◌, Bool, true, false, cond, eqb, leb, ◌&&◌, List, [], ◌∷◌, ◌++◌, length, map, take, Option, Some, None, refl, sym, ◌∙◌, ap, subst, arith}
+use Rattle.std.proofs.Common.{◌≡◌, ℕ, suc, ◌+◌, ◌-◌, ◌*◌, ◌/◌, ◌%◌, ◌<◌, Bool, true, false, cond, eqb, leb, ◌&&◌, List, [], ◌∷◌, length, map, take, Option, Some, None, refl, ◌∙◌, ap, arith}
 use Rattle.std.specs.Prelude.{slice_get, sum_by, replicate, option_map, option_and_then}
 use Rattle.std.proofs.lemmas.Bool.Decides.{nat_tests}
 use Rattle.pw_isa.specs.declared.instruction.Inst.{Inst}
 use Rattle.pw_tree.specs.Units.{Function, TypedUnit}
 use Rattle.pw_tree.specs.Names.{Project, Definition, function_at}
-use Rattle.pw_code.specs.Items.{size}
 use Rattle.pw_code.specs.FunctionCode.{function_code, function_words}
 use Rattle.pw_code.proofs.Exports.{size-function}
 use Rattle.pw_agree.specs.Kept.{Keep}
-use Rattle.pw_agree.specs.Placing.{units_of, base_of, text_of, data_of, code_before_functions, words_of_unit, words_of_module, function_address, target_address}
+use Rattle.pw_agree.specs.Placing.{units_of, text_of, code_before_functions, words_of_unit, words_of_module, function_address, target_address}
 use Rattle.pw_simulation.specs.Projects.{CanRun}
 use Rattle.pw_simulation.specs.Tables.{instructions_at, in_table}
 use Rattle.pw_simulation.specs.ImageWorld.{joined, function_instructions, text_instructions, instruction_in, module_of, code_of}
 use Rattle.pw_simulation.proofs.Tables.{length_of_instructions}
 use Rattle.pw_simulation.proofs.Joined.{get_left, get_right, length_both, got_below, got_of_map, length_of_copies, length_of_map, sum_before, length_of_joined, joined_at}
-use Rattle.pw_simulation.proofs.TwoLevels.{some_same}
-use Rattle.pw_simulation.proofs.Extents.{IsFunctionAt, unit_is, function_is, first_words, words_before_function, address_is}
+use Rattle.pw_simulation.proofs.Extents.{unit_is, function_is, first_words, words_before_function}
 use Rattle.pw_simulation.proofs.Elements.{definition_at}
-use Rattle.pw_simulation.proofs.Addresses.{HasRoom, has_room, function_module}
+use Rattle.pw_simulation.proofs.Addresses.{has_room}
 
 -- ---- a table as a list
 

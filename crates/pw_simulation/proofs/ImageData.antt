@@ -1,30 +1,24 @@
 -- The doublewords of a project's data: how many there are, what each of them is, and its bytes.
-use Rattle.std.proofs.Common.{◌≡◌, ℕ, zero, suc, ◌+◌, ◌-◌, ◌*◌, ◌^◌, ◌<◌, ◌≤◌, Bool, true, false, cond, List, [], ◌∷◌, ◌++◌, length, map, take, drop, filter, flat_map, Option, Some, None, refl, sym, ◌∙◌, ap, subst, arith}
+use Rattle.std.proofs.Common.{◌≡◌, ℕ, zero, suc, ◌+◌, ◌-◌, ◌*◌, ◌<◌, Bool, true, false, cond, List, [], ◌∷◌, ◌++◌, length, take, drop, filter, flat_map, Option, Some, None, refl, sym, ◌∙◌, ap, subst, arith}
 use Rattle.std.specs.Prelude.{slice_get, sum_by, replicate}
 use Rattle.std.specs.List.{AllByRecursion}
 use Rattle.std.specs.Option.{option_map_or, is_some, option_map}
-use Rattle.pw_base.specs.Bytes.{le, le_bytes}
+use Rattle.pw_base.specs.Bytes.{le_bytes}
 use Rattle.pw_tree.specs.declared.tunit.TVar.{TVar}
 use Rattle.pw_tree.specs.declared.tunit.Init.{Init}
 use Rattle.pw_tree.specs.declared.tunit.Init.TheVariants.{Num}
 use Rattle.pw_tree.specs.Units.{TypedUnit}
-use Rattle.pw_tree.specs.Names.{Project, Definition, unit_at, variable_at}
+use Rattle.pw_tree.specs.Names.{Project, Definition, variable_at}
 use Rattle.pw_tree.specs.WellTypedUnits.{room, InitialiserFits, IsWellTypedVariable}
-use Rattle.pw_mem.specs.Memory.{zeros}
-use Rattle.pw_mem.proofs.Zeros.{length_of_zeros}
-use Rattle.pw_code.specs.Objects.{is_initialised, is_uninitialised, fill, filled}
-use Rattle.pw_agree.specs.Image.{doubleword_bytes, element_image, variable_image, variables_image, data_image, slots_image}
-use Rattle.pw_agree.specs.Placing.{units_of, slots_of, elements_of, variables_of_unit, variables_of_units, elements_before}
+use Rattle.pw_code.specs.Objects.{is_initialised, fill, filled}
+use Rattle.pw_agree.specs.Image.{doubleword_bytes, element_image, variable_image, variables_image}
+use Rattle.pw_agree.specs.Placing.{units_of}
 use Rattle.pw_simulation.specs.Projects.{CanRun}
 use Rattle.pw_simulation.specs.ImageWorld.{joined}
 use Rattle.pw_simulation.proofs.Joined.{get_left, get_right, length_both, got_below, length_of_copies, length_of_map, sum_more, length_of_joined, joined_at}
-use Rattle.pw_simulation.proofs.TwoLevels.{total, place}
-use Rattle.pw_simulation.proofs.Extents.{IsUnitAt, IsVariableAt, unit_is, unit_found, variable_is, weight_if, elements_of_units}
-use Rattle.pw_simulation.proofs.Elements.{definition_at, place_if, total_if, elements_in, before_by, IsPlaced, placed, sum_is}
-use Rattle.pw_simulation.proofs.Slots.{got_in}
-use Rattle.pw_simulation.proofs.Links.{typed_variable}
+use Rattle.pw_simulation.proofs.Extents.{unit_is, unit_found, variable_is, weight_if}
+use Rattle.pw_simulation.proofs.Elements.{definition_at, place_if, total_if}
 use Rattle.pw_simulation.proofs.Joined as lists
-use Rattle.pw_agree.proofs.Members.{each_in}
 
 -- ---- bytes
 
@@ -123,8 +117,7 @@ long_units : (project : Project) → CanRun project → (m u : ℕ) (units : Lis
 long_units project run m u [] are = tt
 long_units project run m u (unit ∷ units) are =
     let here : u + 0 ≡ u = omega arith in
-    let there = unit_found project (definition_at m u 0) unit (subst (λ k. slice_get (units_of project m) k ≡ Some unit) here (are 0 unit refl)) in
-    (
+    let there = unit_found project (definition_at m u 0) unit (subst (λ k. slice_get (units_of project m) k ≡ Some unit) here (are 0 unit refl)) in (
       long_length (part_if project m u) (weight_if is_initialised) 0 unit.variables (long_variables project m u 0 unit unit.variables (run.units (definition_at m u 0) unit there).variables),
       long_units project run m (suc u) units (λ v other got. let next : u + suc v ≡ suc u + v = omega arith in subst (λ k. slice_get (units_of project m) k ≡ Some other) next (are (suc v) other got)),
     )

@@ -1,55 +1,34 @@
 -- The image of a project is ready for a run in the project's world, and has the initial value of each variable.
-use Rattle.std.proofs.Common.{◌≡◌, ℕ, zero, suc, ◌+◌, ◌-◌, ◌*◌, ◌%◌, ◌^◌, ◌<◌, ◌≤◌, Bool, true, false, cond, not, eqb, ◌||◌, List, [], ◌∷◌, ◌++◌, length, map, Option, Some, None, Ok, refl, sym, ◌∙◌, ap, subst, arith, ◌⊎◌, inl, inr, slice_index, bytes_eq, lit<}
-use Rattle.std.specs.Prelude.{slice_get, option_map, option_and_then, replicate, Contains}
+use Rattle.std.proofs.Common.{◌≡◌, ℕ, suc, ◌%◌, ◌^◌, ◌<◌, Bool, true, false, not, eqb, ◌||◌, List, [], ◌∷◌, ◌++◌, length, Option, Some, None, Ok, refl, sym, ◌∙◌, ap, arith, bytes_eq, lit<}
+use Rattle.std.specs.Prelude.{slice_get, option_map}
 use Rattle.std.specs.List.{prefix_len, list_any}
-use Rattle.std.specs.Option.{option_map_or, is_some}
 use Rattle.std.proofs.lemmas.Bool.Decides.{nat_tests}
 use Rattle.pw_base.specs.Bytes.{le}
-use Rattle.pw_base.specs.Limits.{stack_start, stack_bytes}
 use Rattle.pw_isa.specs.declared.instruction.Inst.{Inst}
-use Rattle.pw_isa.specs.Encoding.{word_of, IsEncodable}
+use Rattle.pw_isa.specs.Encoding.{word_of}
 use Rattle.pw_isa.proofs.RoundTrip.{decoded-word_of, word_of_fits}
-use Rattle.pw_tree.specs.declared.ty.Ty.{Ty}
-use Rattle.pw_tree.specs.declared.ty.Ty.TheVariants.{Void, Long, Ulong, Fn}
-use Rattle.pw_tree.specs.declared.ty.Sig.{Sig}
-use Rattle.pw_tree.specs.declared.ty.Ref.{Ref}
-use Rattle.pw_tree.specs.declared.tunit.TVar.{TVar}
-use Rattle.pw_tree.specs.declared.tunit.Init.{Init}
-use Rattle.pw_tree.specs.declared.tunit.Init.TheVariants.{Num, Fun}
-use Rattle.pw_tree.specs.Types.{pointer_to}
-use Rattle.pw_tree.specs.Units.{Function, TypedUnit}
-use Rattle.pw_tree.specs.Names.{Project, Definition, Entity, function, object, definition_of, resolved, function_at, variable_at}
-use Rattle.pw_tree.specs.States.{Value, null, pointer, zero_of, value_or_zero}
-use Rattle.pw_tree.specs.States as value
-use Rattle.pw_tree.specs.Meaning.{definition_or_first, initial_element, initial_value, initial_variables}
-use Rattle.pw_tree.specs.WellTypedExpressions.{number, class_of}
-use Rattle.pw_tree.specs.WellTypedUnits.{room, Initialises}
+use Rattle.pw_tree.specs.Units.{Function}
+use Rattle.pw_tree.specs.Names.{Project, Definition, Entity, function, object, definition_of, function_at}
 use Rattle.pw_mem.specs.Memory.{zeros}
 use Rattle.pw_mem.specs.Regions.{bytes_at}
 use Rattle.pw_mem.specs.Words.{doubleword}
-use Rattle.pw_mem.proofs.Zeros.{length_of_zeros}
 use Rattle.pw_code.specs.Objects.{is_initialised, fill, filled}
 use Rattle.pw_agree.specs.Kept.{Keep}
-use Rattle.pw_agree.specs.Image.{text_image, data_image, slots_image, variables_image, variable_image, element_image, stack_region, image}
-use Rattle.pw_agree.specs.Placing.{units_of, text_of, data_of, words_of_module, function_address, slots_of, slot_address, elements_before, variable_address, entity_address, elements_of, variables_of_units}
-use Rattle.pw_agree.proofs.Members.{IsIn}
+use Rattle.pw_agree.specs.Image.{text_image, data_image, slots_image, variables_image, stack_region, image}
+use Rattle.pw_agree.specs.Placing.{units_of, function_address, slots_of, slot_address, entity_address, elements_of, variables_of_units}
 use Rattle.pw_simulation.specs.World.{InStack, entity_place}
 use Rattle.pw_simulation.specs.Memories.{Fetches, HasSome, IsReady}
-use Rattle.pw_simulation.specs.Values.{PointsTo, Represents, IsCarried, IsElement, AreCarried}
-use Rattle.pw_simulation.specs.Projects.{CanRun, KeepsEnough}
+use Rattle.pw_simulation.specs.Projects.{CanRun}
 use Rattle.pw_simulation.specs.ImageWorld.{text_instructions, module_of, code_of, world_of}
-use Rattle.pw_simulation.proofs.Joined.{get_left, get_right, length_both, got_below, got_of_map, got_of_copies, length_of_map}
-use Rattle.pw_simulation.proofs.Extents.{IsVariableAt, variable_is, function_ends, found_before}
-use Rattle.pw_simulation.proofs.Elements.{place_if, total_if, elements_in, before_by, IsPlaced, placed, sum_is, variable_ends}
-use Rattle.pw_simulation.proofs.Addresses.{HasRoom, has_room, function_module, variable_module, IsElementAt, element_at}
-use Rattle.pw_simulation.proofs.ImageCode.{length_of_text, IsCodeAt, code_is}
-use Rattle.pw_simulation.proofs.Slots.{same_bytes, got_in}
+use Rattle.pw_simulation.proofs.Joined.{get_left, length_both, got_below, got_of_map, length_of_map}
+use Rattle.pw_simulation.proofs.Extents.{function_ends, found_before}
+use Rattle.pw_simulation.proofs.Elements.{variable_ends}
+use Rattle.pw_simulation.proofs.Addresses.{has_room, function_module, variable_module}
+use Rattle.pw_simulation.proofs.ImageCode.{length_of_text, code_is}
+use Rattle.pw_simulation.proofs.Slots.{same_bytes}
 use Rattle.pw_simulation.proofs.ImageSees.{code_module, slot_module}
 use Rattle.pw_simulation.proofs.Definitions.{IsReal, definition_is_real}
-use Rattle.pw_simulation.proofs.Links.{contains, means_function}
-use Rattle.pw_simulation.proofs.Enough.{item_points, item_used}
 use Rattle.pw_simulation.proofs.ImageText.{spelled_at, text_spelled}
-use Rattle.pw_simulation.proofs.ImageData.{length_of_variables, initialised_at}
 use Rattle.pw_simulation.proofs.ImageRegions.{text_fetched, data_there, stack_seen}
 
 -- ---- text
@@ -90,7 +69,7 @@ place_is project keep (Some (function d)) = refl
 place_is project keep (Some (object d)) = refl
 place_is project keep None = refl
 
-function_is_low : (project : Project) → CanRun project → (d : Definition) (f : Function) → function_at project d ≡ Some f → function_address project d < 2 ^ 64
+pub function_is_low : (project : Project) → CanRun project → (d : Definition) (f : Function) → function_at project d ≡ Some f → function_address project d < 2 ^ 64
 function_is_low project run d f h =
     let room = has_room project run d.in_module (function_module project d f h) in
     let text = room.text in
@@ -112,11 +91,11 @@ meant_is_low project run name (Some e) found = entity_is_low project run e (defi
 abbrev slot_of : Project → List ℕ → ℕ
 slot_of project name = entity_address project (definition_of project name)
 
-length_of_slots : (project : Project) (m : ℕ) → length (slots_image project m) ≡ length (slots_of project m)
+pub length_of_slots : (project : Project) (m : ℕ) → length (slots_image project m) ≡ length (slots_of project m)
 length_of_slots project m = length_of_map (slot_of project) (slots_of project m)
 
 -- the parts of the data
-abbrev others : Project → ℕ → ℕ
+abbrev pub others : Project → ℕ → ℕ
 others project m = elements_of (variables_of_units Rattle.pw_code.specs.Objects.is_uninitialised (units_of project m))
 
 slot_there : (project : Project) (keep : Keep) → CanRun project → (m : ℕ) (name : List ℕ) → list_any (λ other. bytes_eq other name) (slots_of project m) ≡ true

@@ -1,27 +1,27 @@
 -- Which region of a project's image holds an address: its module's text or data, or the stack.
-use Rattle.std.proofs.Common.{◌≡◌, ℕ, zero, suc, ◌+◌, ◌-◌, ◌*◌, ◌/◌, ◌%◌, ◌^◌, ◌<◌, ◌≤◌, Bool, true, false, cond, eqb, List, [], ◌∷◌, ◌++◌, length, take, drop, Option, Some, None, Ok, append_assoc, refl, sym, ◌∙◌, ap, subst, arith, ◌⊎◌, inl, inr, slice_index}
+use Rattle.std.proofs.Common.{◌≡◌, ℕ, zero, suc, ◌+◌, ◌-◌, ◌*◌, ◌/◌, ◌%◌, ◌^◌, ◌<◌, ◌≤◌, Bool, true, false, cond, eqb, List, [], ◌∷◌, ◌++◌, length, Some, Ok, append_assoc, refl, sym, ◌∙◌, ap, subst, arith, ◌⊎◌, inl, inr, slice_index}
 use Rattle.std.specs.Prelude.{slice_get}
 use Rattle.std.proofs.lemmas.Bool.Decides.{nat_tests}
-use Rattle.pw_base.specs.Bytes.{le, le_bytes}
+use Rattle.pw_base.specs.Bytes.{le_bytes}
 use Rattle.pw_base.specs.Limits.{stack_start, stack_bytes}
 use Rattle.pw_base.proofs.Bytes.{length-le_bytes, le-le_bytes}
 use Rattle.pw_tree.specs.Units.{TypedUnit}
 use Rattle.pw_tree.specs.Names.{Project}
-use Rattle.pw_mem.specs.Regions.{MappedRegion, holds, region_at, bytes_at}
+use Rattle.pw_mem.specs.Regions.{MappedRegion, holds, region_at}
 use Rattle.pw_mem.specs.Memory.{zeros, fetch}
 use Rattle.pw_mem.specs.Words.{text_bytes, doubleword}
 use Rattle.pw_mem.proofs.Zeros.{length_of_zeros}
 use Rattle.pw_mem.proofs.Text.{fetch_word}
-use Rattle.pw_code.specs.Objects.{is_initialised, is_uninitialised}
+use Rattle.pw_code.specs.Objects.{is_uninitialised}
 use Rattle.pw_agree.specs.Kept.{Keep}
-use Rattle.pw_agree.specs.Image.{whole_doublewords, doubleword_bytes, text_image, data_image, slots_image, variables_image, text_region, data_region, stack_region, unless_empty, module_regions, image}
+use Rattle.pw_agree.specs.Image.{text_image, data_image, slots_image, variables_image, text_region, data_region, stack_region, unless_empty, module_regions, image}
 use Rattle.pw_agree.specs.Placing.{units_of, base_of, text_of, data_of, words_of_module, slots_of, elements_of, variables_of_units}
 use Rattle.pw_simulation.specs.Projects.{CanRun}
 use Rattle.pw_simulation.specs.ImageWorld.{text_instructions}
 use Rattle.pw_simulation.proofs.Joined.{length_both, length_of_map}
-use Rattle.pw_simulation.proofs.Extents.{elements_of_units, weight_if}
-use Rattle.pw_simulation.proofs.Elements.{total_if, elements_in, sum_is}
-use Rattle.pw_simulation.proofs.Addresses.{HasRoom, has_room}
+use Rattle.pw_simulation.proofs.Extents.{elements_of_units}
+use Rattle.pw_simulation.proofs.Elements.{elements_in, sum_is}
+use Rattle.pw_simulation.proofs.Addresses.{has_room}
 use Rattle.pw_simulation.proofs.ImageCode.{length_of_text}
 use Rattle.pw_simulation.proofs.ImageText.{spelled_length, text_spelled}
 use Rattle.pw_simulation.proofs.ImageData.{bytes_of_doubleword, length_of_doublewords, length_of_variables}
@@ -127,8 +127,15 @@ length_of_data project run m =
     let variables : List ℕ = variables_image project m 0 (units_of project m) in
     let others : ℕ = elements_of (variables_of_units is_uninitialised (units_of project m)) in
     length_both (slots ++ variables) (zeros others)
-    ∙ omega (arith, length_both slots variables, length_of_map (λ name. Rattle.pw_agree.specs.Placing.entity_address project (Rattle.pw_tree.specs.Names.definition_of project name)) (slots_of project m),
-    length_of_variables project run m, length_of_zeros others, elements_of_units is_uninitialised (units_of project m), sum_is project m)
+    ∙ omega (
+      arith,
+      length_both slots variables,
+      length_of_map (λ name. Rattle.pw_agree.specs.Placing.entity_address project (Rattle.pw_tree.specs.Names.definition_of project name)) (slots_of project m),
+      length_of_variables project run m,
+      length_of_zeros others,
+      elements_of_units is_uninitialised (units_of project m),
+      sum_is project m,
+    )
 
 pub ends_before : (project : Project) (keep : Keep) → CanRun project → (m : ℕ) → m < length project → EndsBefore project keep m
 ends_before project keep run m there =

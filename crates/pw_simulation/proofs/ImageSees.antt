@@ -1,6 +1,6 @@
 -- The world of a project that can be run shows the project.
-use Rattle.std.proofs.Common.{◌≡◌, ◌≢◌, ℕ, zero, suc, ◌+◌, ◌-◌, ◌*◌, ◌%◌, ◌^◌, ◌<◌, ◌≤◌, Bool, true, false, leb, List, [], ◌∷◌, ◌++◌, length, take, Option, Some, None, refl, sym, ◌∙◌, ap, subst, arith, lit<, bytes_eq, codes, inl, inr}
-use Rattle.std.specs.Prelude.{slice_get, sum_by, option_and_then}
+use Rattle.std.proofs.Common.{◌≡◌, ◌≢◌, ℕ, zero, suc, ◌+◌, ◌*◌, ◌^◌, ◌<◌, ◌≤◌, Bool, true, false, leb, List, [], ◌∷◌, length, Option, Some, None, refl, sym, ◌∙◌, ap, subst, arith, lit<, bytes_eq, inl, inr}
+use Rattle.std.specs.Prelude.{slice_get, sum_by}
 use Rattle.std.specs.List.{AllByRecursion, list_any}
 use Rattle.std.specs.Option.{is_some, option_map_or}
 use Rattle.std.proofs.lemmas.Bool.Decides.{nat_tests}
@@ -11,29 +11,28 @@ use Rattle.pw_tree.specs.declared.ty.Ref.{Ref}
 use Rattle.pw_tree.specs.declared.ty.Ref.TheVariants.{Global, LocalFun, LocalVar}
 use Rattle.pw_tree.specs.declared.tunit.TVar.{TVar}
 use Rattle.pw_tree.specs.Units.{Function, TypedUnit}
-use Rattle.pw_tree.specs.Names.{Project, Definition, unit_at, function_at, variable_at}
+use Rattle.pw_tree.specs.Names.{Project, Definition, function_at}
 use Rattle.pw_code.specs.Items.{CodePart, instruction, address, size}
 use Rattle.pw_code.specs.LoadImmediate.{upper, lower}
 use Rattle.pw_code.specs.FunctionCode.{function_code, function_words, entry_code}
 use Rattle.pw_code.proofs.Exports.{size-function}
 use Rattle.pw_agree.specs.Kept.{Keep}
 use Rattle.pw_agree.specs.Image.{distance, with_lower}
-use Rattle.pw_agree.specs.Placing.{units_of, base_of, text_of, data_of, words_of_unit, words_of_module, function_address, slots_of, slot_address, variable_address, target_address, external_names}
+use Rattle.pw_agree.specs.Placing.{units_of, base_of, text_of, data_of, words_of_unit, function_address, slots_of, slot_address, variable_address, target_address, external_names}
 use Rattle.pw_agree.proofs.Members.{IsIn}
-use Rattle.pw_simulation.specs.World.{World, IsApart, target_place}
+use Rattle.pw_simulation.specs.World.{IsApart, target_place}
 use Rattle.pw_simulation.specs.CodeAt.{HasAt}
 use Rattle.pw_simulation.specs.Values.{IsElement}
-use Rattle.pw_simulation.specs.Sees.{Sees, IsClosed, IsFunctionPlace, IsElementPlace, IsKeptFunction}
+use Rattle.pw_simulation.specs.Sees.{Sees, IsClosed, IsFunctionPlace, IsElementPlace}
 use Rattle.pw_simulation.specs.Tables.{instructions_at, in_table}
 use Rattle.pw_simulation.specs.Projects.{CanRun, KeepsEnough}
 use Rattle.pw_simulation.specs.ImageWorld.{text_instructions, module_of, code_of, words_of_project, world_of}
 use Rattle.pw_simulation.proofs.Tables.{IsTarget, references, table_has}
 use Rattle.pw_simulation.proofs.Joined.{got_below, sum_before}
-use Rattle.pw_simulation.proofs.TwoLevels.{some_same}
-use Rattle.pw_simulation.proofs.Extents.{IsUnitAt, IsFunctionAt, unit_is, function_is, first_words, words_before_function, address_is, function_ends, function_within}
-use Rattle.pw_simulation.proofs.Elements.{definition_at, elements_in, variable_within}
-use Rattle.pw_simulation.proofs.Addresses.{HasRoom, has_room, function_module, variable_module, some_words, functions_differ, slot_before, slot_within, IsElementAt, element_at, one_element}
-use Rattle.pw_simulation.proofs.ImageCode.{IsAmongTable, among_table, length_of_text, first_there, kept_there, code_at, IsCodeAt, code_is}
+use Rattle.pw_simulation.proofs.Extents.{unit_is, function_is, first_words, words_before_function, address_is, function_ends, function_within}
+use Rattle.pw_simulation.proofs.Elements.{definition_at, variable_within}
+use Rattle.pw_simulation.proofs.Addresses.{has_room, function_module, variable_module, some_words, functions_differ, slot_before, slot_within, element_at, one_element}
+use Rattle.pw_simulation.proofs.ImageCode.{among_table, length_of_text, first_there, kept_there, code_at, code_is}
 use Rattle.pw_simulation.proofs.Slots.{slot_of_first, slot_of_function, no_units, no_slots}
 
 -- ---- modules that are there

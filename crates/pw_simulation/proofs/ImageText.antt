@@ -9,7 +9,7 @@ use Rattle.pw_isa.specs.Encoding.{word_of, IsEncodable}
 use Rattle.pw_tree.specs.declared.ty.Ref.{Ref}
 use Rattle.pw_tree.specs.declared.ty.Ref.TheVariants.{Global, LocalFun, LocalVar}
 use Rattle.pw_tree.specs.Units.{Function, TypedUnit}
-use Rattle.pw_tree.specs.Names.{Project, Definition, unit_at, function_at}
+use Rattle.pw_tree.specs.Names.{Project, Definition, function_at}
 use Rattle.pw_mem.specs.Memory.{zeros}
 use Rattle.pw_code.specs.Items.{CodePart, instruction, address, size}
 use Rattle.pw_code.specs.LoadImmediate.{upper, lower}
@@ -24,11 +24,11 @@ use Rattle.pw_simulation.specs.Encodable.{CodeHasWords}
 use Rattle.pw_simulation.specs.Projects.{CanRun}
 use Rattle.pw_simulation.specs.ImageWorld.{joined, function_instructions, text_instructions}
 use Rattle.pw_simulation.proofs.Numbers.{upper_of_small, upper_of_negsuc}
-use Rattle.pw_simulation.proofs.Extents.{IsUnitAt, unit_found, function_is, function_ends, address_is}
+use Rattle.pw_simulation.proofs.Extents.{unit_found, function_is, function_ends, address_is}
 use Rattle.pw_simulation.proofs.Elements.{definition_at}
-use Rattle.pw_simulation.proofs.Addresses.{HasRoom, has_room, function_module}
+use Rattle.pw_simulation.proofs.Addresses.{has_room, function_module}
 use Rattle.pw_simulation.proofs.ImageCode.{function_part, unit_part, first_part}
-use Rattle.pw_simulation.proofs.ImageSees.{IsNear, is_near}
+use Rattle.pw_simulation.proofs.ImageSees.{is_near}
 use Rattle.pw_simulation.proofs.Links.{typed_function}
 use Rattle.pw_simulation.proofs.EncodableStatements.{function_has_words}
 
@@ -105,8 +105,7 @@ code_spelled target base place (instruction i ∷ code) near from to has = ((ref
 code_spelled target base place (address rd name ∷ code) near from to has =
     let n = near name in
     let low = n.0 in
-    let high = n.1 in
-    (
+    let high = n.1 in (
       (refl, (has.0, upper_by place (target name) (omega arith) (omega arith) (nat_le place (target name)) refl)),
       ((refl, lower_has_word rd name (distance place (target name)) has.0), code_spelled target base (place + 8) code near (omega arith) (omega arith) has.1),
     )

@@ -52,7 +52,6 @@ pub mod Calls
 pub mod Runs
 pub mod AnyRun
 pub mod LimitedRuns
-pub mod Meaning
 pub mod OnlyKept
 pub mod EncodablePieces
 pub mod EncodableExpressions
@@ -61,3 +60,6 @@ pub mod ImageText
 pub mod ImageData
 pub mod ImageRegions
 pub mod ImageReady
+pub mod ImageVariables
+pub mod Meaning
+pub mod ImageRuns

@@ -1,8 +1,7 @@
 -- In a project that can be run, a name that a unit uses designates what the unit says: a function of that signature, or a variable
 -- of that type and size.
-use Rattle.std.proofs.Common.{◌≡◌, ◌≢◌, ℕ, zero, suc, ◌<◌, Bool, true, false, cond, List, [], ◌∷◌, ◌++◌, length, flat_map, get_or, Option, Some, None, inl, inr, refl, sym, ◌∙◌, ap, subst, arith, bytes_eq, find}
+use Rattle.std.proofs.Common.{◌≡◌, ℕ, suc, Bool, true, false, cond, List, [], ◌∷◌, flat_map, Option, Some, None, inl, inr, refl, sym, ◌∙◌, ap, arith, bytes_eq, find}
 use Rattle.std.specs.Prelude.{slice_get, option_map, option_and_then, Contains}
-use Rattle.std.specs.List.{AllByRecursion}
 use Rattle.std.specs.Option.{option_map_or}
 use Rattle.pw_tree.specs.declared.ty.Sig.{Sig}
 use Rattle.pw_tree.specs.declared.ty.Ref.{Ref}

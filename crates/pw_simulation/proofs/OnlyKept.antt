@@ -1,25 +1,23 @@
 -- The code of a project's world is that of the entry and of kept functions alone, so its kept functions can be run.
-use Rattle.std.proofs.Common.{◌≡◌, ℕ, zero, suc, ◌+◌, ◌*◌, ◌%◌, ◌<◌, ◌≤◌, Bool, true, false, cond, List, [], ◌∷◌, ◌++◌, length, map, take, Option, Some, None, ◌⊎◌, inl, inr, refl, sym, ◌∙◌, ap, subst, arith, lit≤}
+use Rattle.std.proofs.Common.{◌≡◌, ℕ, zero, suc, ◌+◌, ◌*◌, ◌<◌, Bool, true, false, cond, List, [], length, map, take, Option, Some, None, ◌⊎◌, inl, inr, refl, sym, ◌∙◌, ap, arith, lit≤}
 use Rattle.std.specs.Prelude.{slice_get, sum_by, replicate}
 use Rattle.std.specs.Option.{option_map_or}
 use Rattle.pw_isa.specs.declared.instruction.Inst.{Inst}
 use Rattle.pw_tree.specs.Units.{Function, TypedUnit}
 use Rattle.pw_tree.specs.Names.{Project, Definition, function_at}
-use Rattle.pw_tree.specs.WellTypedExpressions.{number, class_of}
+use Rattle.pw_tree.specs.WellTypedExpressions.{class_of}
 use Rattle.pw_tree.specs.declared.ty.Sig.{Sig}
-use Rattle.pw_code.specs.Items.{size}
-use Rattle.pw_code.specs.FunctionCode.{function_code, function_words, entry_code}
+use Rattle.pw_code.specs.FunctionCode.{function_code, function_words}
 use Rattle.pw_agree.specs.Kept.{Keep}
-use Rattle.pw_agree.specs.Placing.{units_of, text_of, code_before_functions, words_of_unit, function_address, target_address}
-use Rattle.pw_simulation.specs.Moments.{IsCode, IsInside}
+use Rattle.pw_agree.specs.Placing.{units_of, text_of, words_of_unit, function_address, target_address}
 use Rattle.pw_simulation.specs.Projects.{CanRun, KeepsEnough}
-use Rattle.pw_simulation.specs.ImageWorld.{joined, function_instructions, text_instructions, module_of, code_of, world_of}
+use Rattle.pw_simulation.specs.ImageWorld.{joined, function_instructions, module_of, code_of, world_of}
 use Rattle.pw_simulation.specs.Tables.{instructions_at}
-use Rattle.pw_simulation.specs.Programs.{body_of, IsRunnableFunction, HasMain, HasStack, LiesInEntry, LiesInKeptFunction, LiesInKeptCode, IsRunnable}
-use Rattle.pw_simulation.proofs.Joined.{got_below, either_side, IsFrom, joined_from}
-use Rattle.pw_simulation.proofs.Extents.{IsFunctionAt, function_is, unit_found, first_words, words_before_function, address_is}
+use Rattle.pw_simulation.specs.Programs.{body_of, IsRunnableFunction, LiesInKeptCode, IsRunnable}
+use Rattle.pw_simulation.proofs.Joined.{got_below, either_side, joined_from}
+use Rattle.pw_simulation.proofs.Extents.{function_is, unit_found, first_words, words_before_function, address_is}
 use Rattle.pw_simulation.proofs.Elements.{definition_at}
-use Rattle.pw_simulation.proofs.ImageCode.{length_of_function, function_part, unit_part, first_part, length_of_unit, length_of_first, IsCodeAt, code_is}
+use Rattle.pw_simulation.proofs.ImageCode.{length_of_function, function_part, unit_part, first_part, length_of_unit, length_of_first, code_is}
 use Rattle.pw_simulation.proofs.Links.{typed_function}
 use Rattle.pw_simulation.proofs.Enough.{body_is_linked}
 

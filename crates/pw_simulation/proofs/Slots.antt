@@ -1,13 +1,11 @@
 -- The slots of a module: each external name that its code refers to has one.
-use Rattle.std.proofs.Common.{◌≡◌, ℕ, zero, suc, ◌<◌, ◌≤◌, Bool, true, false, cond, not, List, [], ◌∷◌, ◌++◌, length, filter, flat_map, Option, Some, None, inl, inr, refl, sym, ◌∙◌, ap, subst, arith, bytes_eq}
+use Rattle.std.proofs.Common.{◌≡◌, ℕ, zero, suc, ◌≤◌, Bool, true, false, not, List, [], ◌∷◌, length, filter, flat_map, Some, inl, inr, refl, ◌∙◌, ap, arith, bytes_eq}
 use Rattle.std.specs.Prelude.{slice_get}
 use Rattle.std.specs.List.{list_any}
 use Rattle.std.specs.Option.{option_map_or}
 use Rattle.std.proofs.lemmas.Slice.Eq.{bytes_eq-Decides}
-use Rattle.pw_tree.specs.declared.ty.Ref.TheVariants.{Global, LocalFun, LocalVar}
 use Rattle.pw_tree.specs.Units.{Function, TypedUnit}
 use Rattle.pw_tree.specs.Names.{Project, Definition, function_at}
-use Rattle.pw_code.specs.Items.{CodePart, instruction, address}
 use Rattle.pw_code.specs.FunctionCode.{function_code}
 use Rattle.pw_agree.specs.Placing.{units_of, code_before_functions, external_names, each_name_once, slots_of}
 use Rattle.pw_agree.proofs.Members.{IsIn, in_left, in_right, in_flat_map, any_in}

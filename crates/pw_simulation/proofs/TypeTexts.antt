@@ -1,5 +1,5 @@
 -- Types that have one text are one type.
-use Rattle.std.proofs.Common.{◌≡◌, ℕ, zero, suc, ◌+◌, ◌^◌, ◌<◌, ◌≤◌, List, [], ◌∷◌, ◌++◌, length, map, Option, Some, None, decimal, codes, refl, sym, ◌∙◌, ap, subst, arith}
+use Rattle.std.proofs.Common.{◌≡◌, ℕ, ◌^◌, ◌<◌, List, [], ◌∷◌, ◌++◌, map, Option, Some, None, decimal, codes, refl, sym, ◌∙◌, ap, arith}
 use Rattle.std.proofs.lemmas.Fmt.{decimal_is_IsNumeral}
 use Rattle.std.specs.Str.Parse.{digits_value}
 use Rattle.pw_tree.specs.declared.ty.Ty.{Ty}
@@ -8,7 +8,6 @@ use Rattle.pw_tree.specs.declared.ty.Sig.{Sig}
 use Rattle.pw_tree.specs.Types.{IsResultType, IsValueType, AreValueTypes, IsArraySize}
 use Rattle.pw_tree.specs.TypeTexts.{letter_of, text_of_function, text_of_variable}
 use Rattle.pw_tree.specs.WellTypedExpressions.{IsSignature}
-use Rattle.pw_simulation.proofs.Joined.{length_both}
 
 -- ---- letters
 

@@ -1,5 +1,5 @@
 -- Code whose instructions all have words: their operands have room in the formats.
-use Rattle.std.specs.Prelude.{ℕ, ◌<◌, List}
+use Rattle.std.specs.Prelude.{◌<◌, List}
 use Rattle.std.specs.List.{AllByRecursion}
 use Rattle.pw_isa.specs.Encoding.{IsEncodable}
 use Rattle.pw_tree.specs.Units.{Function, TypedUnit}

@@ -3,7 +3,7 @@ use Rattle.std.specs.Prelude.{ℕ, suc, ◌+◌, ◌-◌, ◌/◌, ◌%◌, nat_
 use Rattle.std.specs.List.{list_any}
 use Rattle.pw_base.specs.Limits.{module_span, stack_start, stack_bytes}
 use Rattle.pw_isa.specs.declared.instruction.Inst.{Inst}
-use Rattle.pw_tree.specs.Units.{Function, TypedUnit}
+use Rattle.pw_tree.specs.Units.{Function}
 use Rattle.pw_tree.specs.Names.{Project, Definition}
 use Rattle.pw_code.specs.Items.{size}
 use Rattle.pw_code.specs.FunctionCode.{function_code, function_words, entry_code}

@@ -17,5 +17,6 @@ pub mod Projects
 pub mod ImageWorld
 pub mod Encodable
 pub mod ProjectLaws
+pub mod ImageRuns
 pub mod Programs
 pub mod AnyRuns

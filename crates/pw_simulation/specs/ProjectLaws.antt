@@ -4,7 +4,11 @@ use Rattle.std.specs.List.{AllByRecursion}
 use Rattle.pw_tree.specs.Units.{Function}
 use Rattle.pw_tree.specs.Names.{Project, unit_at, function_at}
 use Rattle.pw_tree.specs.Depends.{names_of_all}
+use Rattle.pw_tree.specs.Meaning.{initial_variables}
 use Rattle.pw_agree.specs.Kept.{Keep, FindsKept}
+use Rattle.pw_agree.specs.Image.{image}
+use Rattle.pw_simulation.specs.Memories.{IsReady}
+use Rattle.pw_simulation.specs.Values.{AreCarried}
 use Rattle.pw_simulation.specs.Sees.{Sees}
 use Rattle.pw_simulation.specs.Bodies.{Body, IsLinked}
 use Rattle.pw_simulation.specs.Programs.{IsRunnable}
@@ -32,3 +36,12 @@ BodiesAreLinked =
 -- A project that can be run, of which enough is kept, has a world in which it can be run.
 abbrev pub ProjectsAreRunnable : Type 0
 ProjectsAreRunnable = (project : Project) (keep : Keep) → CanRun project → KeepsEnough project keep → IsRunnable (world_of project keep)
+
+-- The image of a project that can be run, of which enough is kept, is ready for a run in the project's world: the code is fetched
+-- from it, slots and stack are there, and each element of each variable has its initial value.
+pub record StartsReady (project : Project) (keep : Keep) : Type 0 where
+  pub ready : IsReady (world_of project keep) (image project keep)
+  pub variables : AreCarried (world_of project keep) (initial_variables project) (image project keep)
+
+abbrev pub ImagesAreReady : Type 0
+ImagesAreReady = (project : Project) (keep : Keep) → CanRun project → KeepsEnough project keep → StartsReady project keep

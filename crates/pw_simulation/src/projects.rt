@@ -1,6 +1,8 @@
 //! The laws of projects and of their images, over definitions alone. Each is the contract of a function, which does nothing.
 
-ghost use Rattle.pw_simulation.specs.ProjectLaws.{ImagesAreSeen, KeptIsEnough, AllIsEnough, BodiesAreLinked, ProjectsAreRunnable};
+ghost use Rattle.pw_simulation.specs.Encodable.{WellTypedCodeHasWords};
+ghost use Rattle.pw_simulation.specs.ImageRuns.{TheImageRunsAsMeant, TheImageBeginsAsMeant};
+ghost use Rattle.pw_simulation.specs.ProjectLaws.{ImagesAreSeen, KeptIsEnough, AllIsEnough, BodiesAreLinked, ProjectsAreRunnable, ImagesAreReady};
 
 /// The world of a project that can be run shows the project, as far as it is kept: each kept function stands at its place, and
 /// no two things have one address.
@@ -28,4 +30,26 @@ pub fn bodies_are_linked()
 /// well typed and linked, there is a `main`, and its code is that of the entry and of kept functions alone.
 pub fn projects_are_runnable()
     ensures { ProjectsAreRunnable }
+{}
+
+/// Each instruction of a well-typed function's code has a word: its operands have room in the instruction's format.
+pub fn well_typed_code_has_words()
+    ensures { WellTypedCodeHasWords }
+{}
+
+/// The image of a project that can be run, of which enough is kept, is ready for a run: its code is fetched from it, slots hold the
+/// addresses of what their names mean, the stack is there, and each element of each variable has its initial value.
+pub fn images_are_ready()
+    ensures { ImagesAreReady }
+{}
+
+/// The machine's run of the image of a project that can be run, of which enough is kept, is what the project means: its output, the
+/// input that it leaves, and its end, with every address that is fetched in the entry or in a kept function.
+pub fn the_image_runs_as_meant()
+    ensures { TheImageRunsAsMeant }
+{}
+
+/// Where that run is cut short, it did a beginning of what the project means.
+pub fn the_image_begins_as_meant()
+    ensures { TheImageBeginsAsMeant }
 {}
