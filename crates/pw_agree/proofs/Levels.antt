@@ -85,8 +85,9 @@ has_level project n k way none = record { way = way; least = λ j other. no_shor
 
 -- none of the ends of the ways of k names that leads to a function stands before this one
 pub has_parent : (project : Project) (n : Node) (k : ℕ) (p : Node) → IsLevel project p k → Leads project p n →
-    AllByRecursion (λ q. node_is_before q p ≡ false) (ends project k) → IsParent project n k p
-has_parent project n k p level leads none = record {
+    is_reached_before project n (suc k) ≡ false → AllByRecursion (λ q. node_is_before q p ≡ false) (ends project k) → IsParent project n k p
+has_parent project n k p level leads new none = record {
+  own = has_level project n (suc k) (p, level.way, leads) new;
   level = level;
   leads = leads;
   first = λ q other leads_too before.

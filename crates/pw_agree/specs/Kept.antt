@@ -23,7 +23,7 @@ abbrev pub IsRoot : Project → Node → Type 0
 IsRoot project entry = ⊤
 IsRoot project (defined g) = IsPointedTo project g
 
--- A function's body names another one. Nothing names the entry.
+-- A function's body names one, itself or another. Nothing names the entry.
 abbrev pub Leads : Project → Node → Node → Type 0
 Leads project f entry = ⊥
 Leads project f (defined g) = Depends project f g
@@ -33,7 +33,7 @@ pub data IsKept (project : Project) : Node → Type 0 where
   root : {n : Node} → IsRoot project n → IsKept project n
   named : {m n : Node} → IsKept project m → Leads project m n → IsKept project n
 
--- Whether each function's code is in memory.
+-- A choice of functions.
 abbrev pub Keep : Type 0
 Keep = Definition → Bool
 
@@ -66,6 +66,7 @@ NodeIsBefore (defined d) (defined e) = IsBefore d e
 
 -- The parent of a function of level k + 1 is the first function of level k that depends on it.
 pub record IsParent (project : Project) (n : Node) (k : ℕ) (p : Node) : Type 0 where
+  pub own : IsLevel project n (suc k)
   pub level : IsLevel project p k
   pub leads : Leads project p n
   pub first : (q : Node) → IsLevel project q k → Leads project q n → NodeIsBefore q p → ⊥

@@ -62,7 +62,7 @@ kept_so : IsKeptSo
 kept_so = record {
   kept = finds_kept project kept (main_kept, (b_f_kept, tt)) closed;
   b_f_level = has_level project (defined b_f) 2 (defined main, main_way, main_names_f) refl;
-  b_f_parent = has_parent project (defined b_f) 1 (defined main) main_level main_names_f (refl, tt);
+  b_f_parent = has_parent project (defined b_f) 1 (defined main) main_level main_names_f refl (refl, tt);
 }
 
 -- ---- the image

@@ -89,11 +89,11 @@ kept_so = record {
   kept = finds_kept project kept (program_f_kept, (main_kept, (library_g_kept, tt))) closed;
   entry_level = entry_level;
   main_level = main_level;
-  main_parent = has_parent project (defined main) 0 entry entry_level refl (refl, tt);
+  main_parent = has_parent project (defined main) 0 entry entry_level refl refl (refl, tt);
   library_g_level = library_g_level;
-  library_g_parent = has_parent project (defined library_g) 1 (defined main) main_level main_names_g (refl, tt);
+  library_g_parent = has_parent project (defined library_g) 1 (defined main) main_level main_names_g refl (refl, tt);
   program_f_level = has_level project (defined program_f) 3 program_f_way refl;
-  program_f_parent = has_parent project (defined program_f) 2 (defined library_g) library_g_level g_names_f (refl, tt);
+  program_f_parent = has_parent project (defined program_f) 2 (defined library_g) library_g_level g_names_f refl (refl, tt);
 }
 
 -- ---- the image

@@ -73,7 +73,7 @@ kept_so = record {
   kept = finds_kept project kept (main_kept, (callback_kept, tt)) closed;
   callback_level = has_level project (defined callback) 0 hook_points refl;
   main_level = has_level project (defined main) 1 main_way refl;
-  main_parent = has_parent project (defined main) 0 entry (has_level project entry 0 tt refl) refl (refl, (refl, tt));
+  main_parent = has_parent project (defined main) 0 entry (has_level project entry 0 tt refl) refl refl (refl, (refl, tt));
 }
 
 -- ---- the image

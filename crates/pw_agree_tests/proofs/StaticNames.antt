@@ -77,7 +77,7 @@ kept_so = record {
   kept = finds_kept project kept (first_h_kept, (main_kept, tt)) closed;
   main_level = main_level;
   first_h_level = has_level project (defined first_h) 2 first_h_way refl;
-  first_h_parent = has_parent project (defined first_h) 1 (defined main) main_level main_names_h (refl, tt);
+  first_h_parent = has_parent project (defined first_h) 1 (defined main) main_level main_names_h refl (refl, tt);
 }
 
 -- ---- the image

@@ -8,7 +8,7 @@ use Rattle.pw_module.specs.declared.dep_table.FunRec.{FunRec}
 use Rattle.pw_module.specs.declared.dep_table.RootRec.{RootRec}
 use Rattle.pw_module.specs.LoadOrder.{order_of}
 use Rattle.pw_module.specs.Resolution.{bound_symbol, IsUnboundSymbol, DiffersFromBound}
-use Rattle.pw_module.specs.Reach.{FunctionNumber, IsKeptRecord, IsRootRecord, RecordLeads}
+use Rattle.pw_module.specs.Reach.{FunctionNumber, IsKeptRecord, IsRootFunction, RecordLeads}
 
 -- ---- modules, by what the search and the reach go by
 
@@ -72,7 +72,7 @@ pub record BreadthFirst : Type 0 where
   pub order : order_of four_modules ≡ 0 ∷ 3 ∷ 2 ∷ 1 ∷ []
   pub meant : bound_symbol four_modules 0 3 ≡ Some (record { «module» = 2; sym = 1 })
   pub in_c : bound_symbol four_modules 1 1 ≡ Some (record { «module» = 2; sym = 1 })
-  pub is_root : IsRootRecord four_modules (number 0 0)
+  pub is_root : IsRootFunction four_modules (number 0 0)
   pub main_leads : RecordLeads four_modules (number 0 1) (number 2 0)
   pub kept : IsKeptRecord four_modules (number 2 0)
 
@@ -95,7 +95,7 @@ pub record ProgramIsFirst : Type 0 where
   pub meant : bound_symbol interposed 1 2 ≡ Some (record { «module» = 0; sym = 2 })
   pub static : bound_symbol interposed 1 1 ≡ Some (record { «module» = 1; sym = 1 })
   pub g_leads : RecordLeads interposed (number 1 1) (number 0 1)
-  pub pointed : IsRootRecord interposed (number 1 2)
+  pub pointed : IsRootFunction interposed (number 1 2)
 
 -- ---- faults: without a definition, and with another type
 

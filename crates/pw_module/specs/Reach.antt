@@ -54,12 +54,12 @@ pub record IsPointerRecord (modules : List Module) (g : FunctionNumber) : Type 0
   pub means : BindsRecord modules place r.fun g
 
 -- The roots: the entry, and each function that a record of a root names.
-abbrev pub IsRootRecord : List Module → FunctionNumber → Type 0
-IsRootRecord modules g = IsEntryRecord modules g ⊎ IsPointerRecord modules g
+abbrev pub IsRootFunction : List Module → FunctionNumber → Type 0
+IsRootFunction modules g = IsEntryRecord modules g ⊎ IsPointerRecord modules g
 
 -- ---- kept functions
 
--- A function's record has a dependency that means another function.
+-- A function's record has a dependency that means a function, itself or another.
 pub record RecordLeads (modules : List Module) (f g : FunctionNumber) : Type 0 where
   pub from : FunRec
   pub recorded : IsRecordOf modules f from
@@ -69,14 +69,14 @@ pub record RecordLeads (modules : List Module) (f g : FunctionNumber) : Type 0 w
 
 -- A root is kept, and so is what a kept function leads to; nothing else is.
 pub data IsKeptRecord (modules : List Module) : FunctionNumber → Type 0 where
-  root : {g : FunctionNumber} → IsRootRecord modules g → IsKeptRecord modules g
+  root : {g : FunctionNumber} → IsRootFunction modules g → IsKeptRecord modules g
   named : {f g : FunctionNumber} → IsKeptRecord modules f → RecordLeads modules f g → IsKeptRecord modules g
 
 -- ---- levels and parents
 
 -- A way of so many dependencies leads from a root to a function.
 abbrev pub HasRecordWay : List Module → ℕ → FunctionNumber → Type 0
-HasRecordWay modules zero g = IsRootRecord modules g
+HasRecordWay modules zero g = IsRootFunction modules g
 HasRecordWay modules (suc k) g = (f : FunctionNumber) × HasRecordWay modules k f × RecordLeads modules f g
 
 -- The level of a kept function is the length of a shortest way to it.
@@ -91,6 +91,7 @@ pub data RecordIsBefore (f g : FunctionNumber) : Type 0 where
 
 -- The parent of a function of level k + 1 is the first function of level k that leads to it.
 pub record IsRecordParent (modules : List Module) (g : FunctionNumber) (k : ℕ) (p : FunctionNumber) : Type 0 where
+  pub own : IsRecordLevel modules g (suc k)
   pub level : IsRecordLevel modules p k
   pub leads : RecordLeads modules p g
   pub first : (q : FunctionNumber) → IsRecordLevel modules q k → RecordLeads modules q g → RecordIsBefore q p → ⊥
