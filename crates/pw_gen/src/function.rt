@@ -1,5 +1,6 @@
 //! The code of a function.
 ghost use Rattle.std.specs.Prelude.{◌≡◌, ◌+◌, ◌<◌, ◌≤◌, length, pos, IfOk};
+ghost use Rattle.pw_base.specs.Limits as limits;
 ghost use Rattle.pw_tree.specs.Units.{typed_function_of};
 ghost use Rattle.pw_code.specs.Frames.{frame_bytes};
 ghost use Rattle.pw_code.specs.FunctionCode as code;
@@ -70,7 +71,7 @@ fn put_open_frame(frame: &Frame, to: &mut Vec<Item>) -> Result<(), NoMemory>
 
 /// Appends the stores of `count` parameters, from the number `number` on, into their slots.
 fn put_parameters(number: u8, count: u8, to: &mut Vec<Item>) -> Result<(), NoMemory>
-    requires { number + count ≤ 6 }
+    requires { number + count ≤ limits.parameters }
     ensures { Appends (code.store_parameters number count) to.old.items to.new.items result }
 {
     if count == 0 {

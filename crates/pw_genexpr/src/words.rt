@@ -1,6 +1,6 @@
 //! How many words the code of an expression is.
 ghost use Rattle.std.specs.Prelude.{◌≡◌, ◌+◌, ◌*◌, ◌<◌, ◌≤◌, length};
-ghost use Rattle.pw_base.specs.Limits.{function_tokens};
+ghost use Rattle.pw_base.specs.Limits.{function_tokens, parameters};
 ghost use Rattle.pw_tree.specs.TypedExpressions.{typed_expression_of, typed_expressions_of};
 ghost use Rattle.pw_tree.specs.WellTypedExpressions.{expressions_in, expressions_in_all};
 ghost use Rattle.pw_code.specs.ExpressionCode.{expression_words, arguments_words};
@@ -50,7 +50,7 @@ pub fn expression_words(e: &TExpr) -> u32
 fn call_words(arguments: &[TExpr]) -> u32
     requires { HaveShortCode (typed_expressions_of arguments.now) }
     ensures words { result ≡ arguments_words (typed_expressions_of arguments.now) + length arguments.now }
-    ensures few { result ≤ 16 * expressions_in_all (typed_expressions_of arguments.now) + 6 }
+    ensures few { result ≤ 16 * expressions_in_all (typed_expressions_of arguments.now) + parameters }
 {
     let mut words = 0;
     for argument in arguments {
