@@ -6,8 +6,11 @@
 #![tactic(auto)]
 
 mod distance;
+mod externals;
 mod link_error;
+mod name_list;
 mod placed;
+mod places;
 
 pub use distance::hi_lo;
 pub use link_error::{LinkError, What};

@@ -1,0 +1,4 @@
+-- The words of private functions' contracts.
+pub mod NameLists
+pub mod WithinLimits
+pub mod PlaceLists
