@@ -2,3 +2,4 @@
 pub mod NameLists
 pub mod WithinLimits
 pub mod PlaceLists
+pub mod NumberLists

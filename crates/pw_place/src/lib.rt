@@ -11,6 +11,7 @@ mod link_error;
 mod name_list;
 mod placed;
 mod places;
+mod symbol_numbers;
 
 pub use distance::hi_lo;
 pub use link_error::{LinkError, What};
