@@ -133,11 +133,7 @@ fn number_variables(
 }
 
 /// The numbers of a unit's static definitions from `first` on, and the number after them.
-fn number_unit(
-    alloc: Global,
-    first: u32,
-    object: &Object,
-) -> Result<(UnitNumbers, u32), NoMemory>
+fn number_unit(alloc: Global, first: u32, object: &Object) -> Result<(UnitNumbers, u32), NoMemory>
     requires { first + definitions_in object.now < 2 ^ 32 }
     ensures numbers { IfOk result (λ n. n.0 ≡ unit_numbers first object.now) }
     ensures next { IfOk result (λ n. n.1 ≡ first + static_in object.now) }
@@ -191,8 +187,7 @@ pub(crate) fn number_symbols<'a>(
     requires { AllByRecursion IsSound places.now.objects.now }
     ensures { IfOk result (λ numbers. numbers.places.now ≡ places.now) }
 {
-    let (units, first_external) =
-        number_units(alloc, first_static(places.kind), places.objects)?;
+    let (units, first_external) = number_units(alloc, first_static(places.kind), places.objects)?;
     Ok(SymbolNumbers {
         places,
         units,
