@@ -1,1 +1,3 @@
 pub mod Near
+pub mod NameKeys
+pub mod Joined
