@@ -1,3 +1,5 @@
 pub mod Near
 pub mod NumberedSymbols
 pub mod FewDefinitions
+pub mod NameKeys
+pub mod Joined
