@@ -2,3 +2,5 @@
 pub mod NameLists
 pub mod WithinLimits
 pub mod PlaceLists
+pub mod PlacedItems
+pub mod PointerPlaces

@@ -5,12 +5,14 @@
 //! that can't be done, the first fault is reported.
 #![tactic(auto)]
 
+mod data;
 mod distance;
 mod externals;
 mod link_error;
 mod name_list;
 mod placed;
 mod places;
+mod pointers;
 
 pub use distance::hi_lo;
 pub use link_error::{LinkError, What};
