@@ -3,3 +3,5 @@ pub mod NameLists
 pub mod WithinLimits
 pub mod PlaceLists
 pub mod NumberLists
+pub mod PlacedItems
+pub mod PointerPlaces

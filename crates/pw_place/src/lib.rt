@@ -5,6 +5,7 @@
 //! that can't be done, the first fault is reported.
 #![tactic(auto)]
 
+mod data;
 mod distance;
 mod externals;
 mod link_error;
@@ -12,6 +13,7 @@ mod name_list;
 mod placed;
 mod places;
 mod symbol_numbers;
+mod pointers;
 
 pub use distance::hi_lo;
 pub use link_error::{LinkError, What};
