@@ -3,3 +3,4 @@ pub mod NumberedSymbols
 pub mod FewDefinitions
 pub mod NameKeys
 pub mod Joined
+pub mod VariableTexts

@@ -5,3 +5,5 @@ pub mod PlaceLists
 pub mod NumberLists
 pub mod PlacedItems
 pub mod PointerPlaces
+pub mod NameKinds
+pub mod ExternalSymbols

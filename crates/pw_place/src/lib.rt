@@ -14,6 +14,11 @@ mod placed;
 mod places;
 mod symbol_numbers;
 mod pointers;
+mod variable_text;
+mod symbols;
+mod sizes;
+mod name_kinds;
+mod definitions;
 
 pub use distance::hi_lo;
 pub use link_error::{LinkError, What};
