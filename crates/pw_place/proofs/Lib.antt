@@ -1,3 +1,5 @@
 pub mod Near
 pub mod NameKeys
 pub mod Joined
+pub mod Sums
+pub mod FirstNames

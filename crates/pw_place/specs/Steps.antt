@@ -1,4 +1,6 @@
 -- The words of private functions' contracts.
 pub mod NameLists
+pub mod ExternalLists
 pub mod WithinLimits
+pub mod Running
 pub mod PlaceLists

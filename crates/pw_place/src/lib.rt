@@ -11,6 +11,9 @@ mod link_error;
 mod name_list;
 mod placed;
 mod places;
+mod placing;
+mod sizes;
+mod slots;
 
 pub use distance::hi_lo;
 pub use link_error::{LinkError, What};
