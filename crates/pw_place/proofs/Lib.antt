@@ -3,3 +3,5 @@ pub mod NameKeys
 pub mod Joined
 pub mod Sums
 pub mod FirstNames
+pub mod Running
+pub mod Enumerated
