@@ -4,3 +4,7 @@ pub mod FewDefinitions
 pub mod NameKeys
 pub mod Joined
 pub mod VariableTexts
+pub mod Sums
+pub mod FirstNames
+pub mod Running
+pub mod Enumerated

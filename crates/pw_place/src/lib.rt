@@ -19,6 +19,8 @@ mod symbols;
 mod sizes;
 mod name_kinds;
 mod definitions;
+mod placing;
+mod slots;
 
 pub use distance::hi_lo;
 pub use link_error::{LinkError, What};
