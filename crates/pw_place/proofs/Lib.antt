@@ -1,1 +1,4 @@
 pub mod Near
+pub mod Numbered
+pub mod Extents
+pub mod PlacedRefs
