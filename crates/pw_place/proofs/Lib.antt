@@ -8,3 +8,6 @@ pub mod Sums
 pub mod FirstNames
 pub mod Running
 pub mod Enumerated
+pub mod Numbered
+pub mod Extents
+pub mod PlacedRefs
