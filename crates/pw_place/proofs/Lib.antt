@@ -11,3 +11,5 @@ pub mod Enumerated
 pub mod Numbered
 pub mod Extents
 pub mod PlacedRefs
+pub mod MappedItems
+pub mod NamedKinds

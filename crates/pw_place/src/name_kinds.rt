@@ -1,7 +1,7 @@
 //! What the external names of a module stand for.
 ghost use Rattle.std.specs.Prelude.{◌≡◌, ◌<◌, ◌^◌, length, map, replicate, None, bytes_eq, IfOk};
 ghost use Rattle.std.specs.List.{IsDistinct};
-ghost use Rattle.pw_place.specs.Steps.NameKinds.{kinds_among, met_at, symbol_met};
+ghost use Rattle.pw_place.specs.Steps.NameKinds.{kinds_among, is_unknown_at, met_at, symbol_met};
 
 use crate::externals::Externals;
 use pw_base::NoMemory;
@@ -20,11 +20,21 @@ fn unknown(alloc: Global, count: usize) -> Result<Items<Option<SymKind>>, NoMemo
     Ok(kinds)
 }
 
+/// Whether there is a name of this number, and nothing is known of it yet.
+fn is_unknown(kinds: &[Option<SymKind>], number: usize) -> bool
+    ensures { result ≡ is_unknown_at kinds.now number }
+{
+    match kinds.get(number) {
+        Some(kind) => kind.is_none(),
+        None => false,
+    }
+}
+
 /// A definition is met of the name of this number: the first one counts.
 fn meet(kinds: &mut Items<Option<SymKind>>, number: usize, kind: SymKind)
     ensures { kinds.new ≡ met_at kinds.old number kind }
 {
-    if let Some(None) = kinds.get(number) {
+    if is_unknown(kinds.as_slice(), number) {
         kinds.set(number, Some(kind));
     }
 }

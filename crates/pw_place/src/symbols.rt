@@ -3,7 +3,7 @@ ghost use Rattle.std.specs.Prelude.{◌≡◌, ◌++◌, Some, not, map, filter,
 ghost use Rattle.std.specs.List.{enumerate_from, AllByRecursion};
 ghost use Rattle.pw_code.specs.Soundness.{IsSound};
 ghost use Rattle.pw_place.specs.Symbols as definition;
-ghost use Rattle.pw_place.specs.Steps.ExternalSymbols as names;
+ghost use Rattle.pw_place.specs.Steps.ExternalSymbols as external;
 
 use crate::definitions::defined_symbols;
 use crate::name_kinds::name_kinds;
@@ -87,7 +87,7 @@ fn push_static(
 
 /// What the name of this number stands for.
 fn kind_at(kinds: &[Option<SymKind>], number: usize) -> SymKind
-    ensures { result ≡ names.kind_at kinds.now number }
+    ensures { result ≡ external.kind_at kinds.now number }
 {
     match kinds.get(number) {
         Some(Some(kind)) => *kind,
@@ -102,7 +102,7 @@ fn push_names(
     kinds: &[Option<SymKind>],
     to: &mut Items<Option<Symbol>>,
 ) -> Result<(), NoMemory>
-    ensures { OnOk result (to.new ≡ to.old ++ map Some (map (names.symbol_of_name kinds.now) (enumerate_from 0 names.now))) }
+    ensures { OnOk result (to.new ≡ to.old ++ map (λ n. Some (external.symbol_of_name kinds.now n)) (enumerate_from 0 names.now)) }
 {
     for (number, n) in names.iter().enumerate() {
         to.push(Some(Symbol {

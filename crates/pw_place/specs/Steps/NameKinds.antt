@@ -1,7 +1,7 @@
 -- What external names stand for, as definitions are met one after another.
-use Rattle.std.specs.Prelude.{ℕ, zero, suc, ◌&&◌, Bool, if◌then◌else◌, List, [], ◌∷◌, map, find, bytes_eq, Option, Some, option_map}
+use Rattle.std.specs.Prelude.{ℕ, zero, suc, ◌&&◌, Bool, false, if◌then◌else◌, List, [], ◌∷◌, map, find, bytes_eq, slice_get, Option, Some, option_map}
 use Rattle.std.specs.List.{position_or_len}
-use Rattle.std.specs.Option.{option_or}
+use Rattle.std.specs.Option.{option_or, option_map_or, is_none}
 use Rattle.pw_tree.specs.declared.tunit.Ext.{Ext}
 use Rattle.pw_module.specs.declared.symbol.Symbol.{Symbol}
 use Rattle.pw_module.specs.declared.symbol.SymKind.{SymKind}
@@ -17,6 +17,10 @@ kind_among defined name = option_map (λ s. s.kind) (find (defines name) defined
 -- And what names stand for.
 abbrev pub kinds_among : List Symbol → List Ext → List (Option SymKind)
 kinds_among defined names = map (λ n. kind_among defined n.name) names
+
+-- There is a name of this number, and nothing is known of it.
+abbrev pub is_unknown_at : List (Option SymKind) → (number : ℕ) → Bool
+is_unknown_at kinds number = option_map_or is_none (slice_get kinds number) false
 
 -- A definition of the name of a number is met: the first one counts. No name has a number past the end.
 abbrev pub met_at : List (Option SymKind) → (number : ℕ) → SymKind → List (Option SymKind)
