@@ -13,3 +13,5 @@ pub mod Extents
 pub mod PlacedRefs
 pub mod MappedItems
 pub mod NamedKinds
+pub mod DistinctFirsts
+pub mod AllSymbols
