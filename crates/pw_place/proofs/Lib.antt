@@ -5,3 +5,4 @@ pub mod Sums
 pub mod FirstNames
 pub mod Running
 pub mod Enumerated
+pub mod PlacedUnits
