@@ -6,3 +6,6 @@ pub mod FirstNames
 pub mod Running
 pub mod Enumerated
 pub mod PlacedUnits
+pub mod VariableParts
+pub mod Bounds
+pub mod FoundPlaces

@@ -11,27 +11,20 @@ use Rattle.pw_code.specs.Objects.{is_initialised}
 use Rattle.pw_place.specs.Sizes.{code_bytes, function_bytes, entry_items}
 use Rattle.pw_place.specs.Places.{functions, variables, functions_in, variables_in, functions_before, variables_before, initialised_size, uninitialised_size, slots_size, function_start, variable_start}
 use Rattle.pw_place.specs.Steps.PlaceLists.{unit_places, all_places}
-use Rattle.pw_place.specs.Steps.Running.{running, function_place, after_function, variable_place, after_variable, after_functions, places_of_unit, after_unit}
+use Rattle.pw_place.specs.Steps.Running.{running, function_place, after_function, variable_place, after_variable, after_functions, places_of_unit, after_unit, first_places}
 use Rattle.pw_place.specs.declared.places.UnitPlaces.{UnitPlaces}
 use Rattle.pw_place.specs.declared.placing.Next.{Next}
 use Rattle.pw_place.proofs.Enumerated.{seen_at, all_seen, same_each}
-use Rattle.pw_place.proofs.Running.{moved, initialised_part, other_part, initialised_is, others_are, functions_passed, variables_passed, units_passed}
-
--- The first places.
-abbrev pub start : Kind → List Object → Next
-start kind objects = record {
-  function = code_bytes (entry_items kind);
-  initialised = slots_size kind objects;
-  others = slots_size kind objects + initialised_size (variables objects);
-}
+use Rattle.pw_place.proofs.VariableParts.{initialised_part, other_part, initialised_is, others_are}
+use Rattle.pw_place.proofs.Running.{moved, functions_passed, variables_passed, units_passed}
 
 module _ (kind : Kind) (objects : List Object) (unit : ℕ) (o : Object) (at : slice_get objects unit ≡ Some o) where
   -- the places of this unit's first definitions
   here : Next
-  here = fold after_unit (start kind objects) (take unit objects)
+  here = fold after_unit (first_places kind objects) (take unit objects)
 
   abbrev reached : Next
-  reached = moved (start kind objects) (sum_by function_bytes (functions (take unit objects))) (sum_by initialised_part (variables (take unit objects))) (sum_by other_part (variables (take unit objects)))
+  reached = moved (first_places kind objects) (sum_by function_bytes (functions (take unit objects))) (sum_by initialised_part (variables (take unit objects))) (sum_by other_part (variables (take unit objects)))
 
   -- the unit's own
   own_functions : functions_in objects unit ≡ o.funs
@@ -67,39 +60,39 @@ module _ (kind : Kind) (objects : List Object) (unit : ℕ) (o : Object) (at : s
       let entered = functions_passed o.funs n in
       let passed = variables_passed (take i o.vars) m in
       let first : (fold after_variable m (take i o.vars)).initialised ≡ slots_size kind objects + initialised_size (variables_before objects unit i) =
-          let one = ap (λ m. m.initialised) passed in
-          let two = ap (λ m. m.initialised) entered in
-          let three = ap (λ m. m.initialised) e in
-          let four = before initialised_part i in
-          let five = initialised_is (variables_before objects unit i) in
-          omega (arith, one, two, three, four, five) in
+      let one = ap (λ m. m.initialised) passed in
+      let two = ap (λ m. m.initialised) entered in
+      let three = ap (λ m. m.initialised) e in
+      let four = before initialised_part i in
+      let five = initialised_is (variables_before objects unit i) in
+      omega (arith, one, two, three, four, five) in
       let second : (fold after_variable m (take i o.vars)).others ≡ slots_size kind objects + initialised_size (variables objects) + uninitialised_size (variables_before objects unit i) =
-          let one = ap (λ m. m.others) passed in
-          let two = ap (λ m. m.others) entered in
-          let three = ap (λ m. m.others) e in
-          let four = before other_part i in
-          let five = others_are (variables_before objects unit i) in
-          omega (arith, one, two, three, four, five) in
+      let one = ap (λ m. m.others) passed in
+      let two = ap (λ m. m.others) entered in
+      let three = ap (λ m. m.others) e in
+      let four = before other_part i in
+      let five = others_are (variables_before objects unit i) in
+      omega (arith, one, two, three, four, five) in
       let kind_of : is_initialised x ≡ option_map_or is_initialised (slice_get (variables_in objects unit) i) true =
-          sym (ap (λ xs. option_map_or is_initialised (slice_get xs i) true) own_variables ∙ ap (λ it. option_map_or is_initialised it true) there) in
+      sym (ap (λ xs. option_map_or is_initialised (slice_get xs i) true) own_variables ∙ ap (λ it. option_map_or is_initialised it true) there) in
       (λ j. chosen (first j) (second j) (kind_of j))
 
   -- The unit's definitions stand at their places.
-  pub unit_placed : places_of_unit (fold after_unit (start kind objects) (take unit objects)) o ≡ unit_places kind objects (unit, o)
+  pub unit_placed : places_of_unit (fold after_unit (first_places kind objects) (take unit objects)) o ≡ unit_places kind objects (unit, o)
   unit_placed =
-      let n = fold after_unit (start kind objects) (take unit objects) in
-      let e = units_passed (take unit objects) (start kind objects) in
+      let n = fold after_unit (first_places kind objects) (take unit objects) in
+      let e = units_passed (take unit objects) (first_places kind objects) in
       let fs : running function_place after_function n o.funs ≡ map (λ f. function_start kind objects unit f.0) (enumerate_from 0 o.funs) =
-          all_seen function_place after_function n o.funs
-          ∙ same_each (seen_at function_place after_function n o.funs) (λ f. function_start kind objects unit f.0) o.funs (λ i f there. function_here n e i f) in
+      all_seen function_place after_function n o.funs
+      ∙ same_each (seen_at function_place after_function n o.funs) (λ f. function_start kind objects unit f.0) o.funs (λ i f there. function_here n e i f) in
       let xs : running variable_place after_variable (after_functions n o) o.vars ≡ map (λ x. variable_start kind objects unit x.0) (enumerate_from 0 o.vars) =
-          all_seen variable_place after_variable (after_functions n o) o.vars
-          ∙ same_each (seen_at variable_place after_variable (after_functions n o) o.vars) (λ x. variable_start kind objects unit x.0) o.vars (λ i x there. variable_here n e i x there) in
+      all_seen variable_place after_variable (after_functions n o) o.vars
+      ∙ same_each (seen_at variable_place after_variable (after_functions n o) o.vars) (λ x. variable_start kind objects unit x.0) o.vars (λ i x there. variable_here n e i x there) in
       (λ j. record { functions = fs j; variables = xs j })
 
 -- All definitions stand at their places.
 pub all_placed : (kind : Kind) (objects : List Object) →
-    running places_of_unit after_unit (start kind objects) objects ≡ all_places kind objects
+    running places_of_unit after_unit (first_places kind objects) objects ≡ all_places kind objects
 all_placed kind objects =
-    all_seen places_of_unit after_unit (start kind objects) objects
-    ∙ same_each (seen_at places_of_unit after_unit (start kind objects) objects) (unit_places kind objects) objects (λ unit o at. unit_placed kind objects unit o at)
+    all_seen places_of_unit after_unit (first_places kind objects) objects
+    ∙ same_each (seen_at places_of_unit after_unit (first_places kind objects) objects) (unit_places kind objects) objects (λ unit o at. unit_placed kind objects unit o at)
