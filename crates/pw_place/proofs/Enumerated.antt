@@ -69,7 +69,8 @@ module _ {S X Y : Type 0} (seen : S → X → Y) (after : S → X → S) (s : S)
       ap (λ t. running seen after t xs) (sym (fold_push after s before x))
       ∙ seen_from (before ++ x ∷ []) xs
       ∙ (λ j. map (seen_at (shifted before x xs j)) (enumerate_from (counted before x j) xs)) in
-      (λ j. seen (fold after s (take-append_seam before (x ∷ xs) (~ j))) x ∷ rest j)
+      let own = sym (take-append_seam before (x ∷ xs)) in
+      (λ j. seen (fold after s (own j)) x ∷ rest j)
 
   pub all_seen : (xs : List X) → running seen after s xs ≡ map (seen_at xs) (enumerate_from 0 xs)
   all_seen xs = seen_from [] xs

@@ -15,3 +15,7 @@ pub mod MappedItems
 pub mod NamedKinds
 pub mod DistinctFirsts
 pub mod AllSymbols
+pub mod PlacedUnits
+pub mod VariableParts
+pub mod Bounds
+pub mod FoundPlaces

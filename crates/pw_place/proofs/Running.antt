@@ -12,6 +12,7 @@ use Rattle.pw_place.specs.Sizes.{function_bytes, variable_bytes}
 use Rattle.pw_place.specs.Places.{functions, variables, initialised_size, uninitialised_size}
 use Rattle.pw_place.specs.Steps.Running.{running, after_function, after_variable, after_functions, after_unit}
 use Rattle.pw_place.specs.declared.placing.Next.{Next}
+use Rattle.pw_place.proofs.VariableParts.{initialised_part, other_part, initialised_is, others_are}
 
 module _ {S X Y : Type 0} (seen : S → X → Y) (after : S → X → S) where
   running_push : (s : S) (xs : List X) (x : X) → running seen after s (xs ++ x ∷ []) ≡ running seen after s xs ++ seen (fold after s xs) x ∷ []
@@ -29,42 +30,6 @@ module _ {S X Y : Type 0} (seen : S → X → Y) (after : S → X → S) where
       fold after s (take (i + 1) xs) ≡ after (fold after s (take i xs)) x
   after_more s xs i x within is =
       ap (fold after s) (take_more xs i x within ∙ ap (λ y. take i xs ++ y ∷ []) (sym is)) ∙ fold_push after s (take i xs) x
-
--- ---- sums of the items that pass a test
-
-sum_filter : {X : Type 0} (p : X → Bool) (f g : X → ℕ) → ((x : X) → (if p x then f x else 0) ≡ g x) → (xs : List X) →
-    sum_by f (filter p xs) ≡ sum_by g xs
-sum_filter p f g e [] = refl
-sum_filter p f g e (x ∷ xs) = sum_filter_more p f g x xs (e x) (sum_filter p f g e xs) (p x) refl ∙ sym (sum_by-cons g x xs)
-  where
-    sum_filter_more : {X : Type 0} (p : X → Bool) (f g : X → ℕ) (x : X) (xs : List X) → (if p x then f x else 0) ≡ g x
-        → sum_by f (filter p xs) ≡ sum_by g xs → (b : Bool) → p x ≡ b → sum_by f (filter p (x ∷ xs)) ≡ g x + sum_by g xs
-    sum_filter_more p f g x xs e rest true h =
-        let all : sum_by f (filter p (x ∷ xs)) ≡ sum_by f (x ∷ filter p xs) = ap (λ b. sum_by f (cond b (x ∷ filter p xs) (filter p xs))) h in
-        let own : f x ≡ g x = sym (ap (λ b. if b then f x else 0) h) ∙ e in
-        let parts = sum_by-cons f x (filter p xs) in
-        omega (arith, all, own, parts, rest)
-    sum_filter_more p f g x xs e rest false h =
-        let all : sum_by f (filter p (x ∷ xs)) ≡ sum_by f (filter p xs) = ap (λ b. sum_by f (cond b (x ∷ filter p xs) (filter p xs))) h in
-        let own : 0 ≡ g x = sym (ap (λ b. if b then f x else 0) h) ∙ e in
-        omega (arith, all, own, rest)
-
--- The bytes that a variable takes of those with an initialiser, and of the others.
-abbrev pub initialised_part : TVar → ℕ
-initialised_part x = if is_initialised x then variable_bytes x else 0
-
-abbrev pub other_part : TVar → ℕ
-other_part x = if is_initialised x then 0 else variable_bytes x
-
-pub initialised_is : (xs : List TVar) → initialised_size xs ≡ sum_by initialised_part xs
-initialised_is xs = sum_filter is_initialised variable_bytes initialised_part (λ x. refl) xs
-
-turned : {A : Type 0} (o : Option A) (n : ℕ) → (if is_none o then n else 0) ≡ (if is_some o then 0 else n)
-turned None n = refl
-turned (Some a) n = refl
-
-pub others_are : (xs : List TVar) → uninitialised_size xs ≡ sum_by other_part xs
-others_are xs = sum_filter is_uninitialised variable_bytes other_part (λ x. turned x.init (variable_bytes x)) xs
 
 -- ---- where the next ones stand
 

@@ -33,11 +33,7 @@ fn variable_bytes(x: &TVar) -> u32
 }
 
 /// The places of functions.
-fn function_places(
-    alloc: Global,
-    funs: &[FunCode],
-    next: &mut Next,
-) -> Result<Items<u32>, NoMemory>
+fn function_places(alloc: Global, funs: &[FunCode], next: &mut Next) -> Result<Items<u32>, NoMemory>
     requires { next.old.function + sum_by sizes.function_bytes funs.now < 2 ^ 32 }
     ensures places { IfOk result (λ it. it ≡ steps.running steps.function_place steps.after_function next.old funs.now) }
     ensures next { OnOk result (next.new ≡ fold steps.after_function next.old funs.now) }
@@ -85,11 +81,7 @@ fn after_variable(next: Next, x: &TVar) -> Next
 }
 
 /// The places of variables.
-fn variable_places(
-    alloc: Global,
-    vars: &[TVar],
-    next: &mut Next,
-) -> Result<Items<u32>, NoMemory>
+fn variable_places(alloc: Global, vars: &[TVar], next: &mut Next) -> Result<Items<u32>, NoMemory>
     requires initialised { next.old.initialised + places.initialised_size vars.now < 2 ^ 32 }
     requires others { next.old.others + places.uninitialised_size vars.now < 2 ^ 32 }
     ensures places { IfOk result (λ it. it ≡ steps.running steps.variable_place steps.after_variable next.old vars.now) }

@@ -1,5 +1,6 @@
 //! How many bytes and elements the parts of a module have.
-ghost use Rattle.std.specs.Prelude.{◌≡◌, ◌<◌, ◌^◌, sum_by};
+ghost use Rattle.std.specs.Prelude.{◌≡◌, ◌<◌, ◌^◌, if◌then◌else◌, sum_by};
+ghost use Rattle.pw_code.specs.Objects.{is_initialised};
 ghost use Rattle.pw_tree.specs.WellTypedUnits as units;
 ghost use Rattle.pw_place.specs.Places as places;
 ghost use Rattle.pw_place.specs.Refusals as refusals;
@@ -11,6 +12,9 @@ use pw_tree::TVar;
 
 /// The bytes of an instruction word.
 const WORD_BYTES: u64 = 4;
+
+/// The bytes of an element.
+const ELEMENT_BYTES: u64 = 8;
 
 /// The bytes of an item.
 fn item_bytes(item: &Item) -> u64
@@ -100,4 +104,40 @@ pub(crate) fn elements(objects: &[Object]) -> u64
         count += elements_of(object.vars.as_slice());
     }
     count
+}
+
+/// The bytes of a variable that has an initialiser.
+fn initialised_part(x: &TVar) -> u64
+    requires { (if is_initialised x.now then sizes.variable_bytes x.now else 0) < 2 ^ 64 }
+    ensures { result ≡ (if is_initialised x.now then sizes.variable_bytes x.now else 0) }
+{
+    if x.init.is_some() {
+        ELEMENT_BYTES * room(x)
+    } else {
+        0
+    }
+}
+
+/// The bytes of those variables that have an initialiser.
+fn initialised_bytes_of(vars: &[TVar]) -> u64
+    requires { places.initialised_size vars.now < 2 ^ 64 }
+    ensures { result ≡ places.initialised_size vars.now }
+{
+    let mut bytes = 0;
+    for x in vars {
+        bytes += initialised_part(x);
+    }
+    bytes
+}
+
+/// The bytes of all units' variables that have an initialiser.
+pub(crate) fn initialised_bytes(objects: &[Object]) -> u64
+    requires { places.initialised_size (places.variables objects.now) < 2 ^ 64 }
+    ensures { result ≡ places.initialised_size (places.variables objects.now) }
+{
+    let mut bytes = 0;
+    for object in objects {
+        bytes += initialised_bytes_of(object.vars.as_slice());
+    }
+    bytes
 }

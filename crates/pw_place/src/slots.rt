@@ -54,7 +54,11 @@ fn add_entry(alloc: Global, kind: Kind, names: &mut NameList) -> Result<(), NoMe
 }
 
 /// The names that have slots, in order of first reference.
-pub(crate) fn slot_names(alloc: Global, kind: Kind, objects: &[Object]) -> Result<NameList, NoMemory>
+pub(crate) fn slot_names(
+    alloc: Global,
+    kind: Kind,
+    objects: &[Object],
+) -> Result<NameList, NoMemory>
     ensures { IfOk result (λ names. names ≡ places.slot_names kind objects.now) }
 {
     let mut names = NameList::new(alloc);

@@ -4,7 +4,9 @@ use Rattle.pw_tree.specs.declared.tunit.TVar.{TVar}
 use Rattle.pw_code.specs.declared.object.FunCode.{FunCode}
 use Rattle.pw_code.specs.declared.object.Object.{Object}
 use Rattle.pw_code.specs.Objects.{is_initialised}
-use Rattle.pw_place.specs.Sizes.{function_bytes, variable_bytes}
+use Rattle.pw_base.specs.declared.kinds.Kind.{Kind}
+use Rattle.pw_place.specs.Sizes.{code_bytes, function_bytes, variable_bytes, entry_items}
+use Rattle.pw_place.specs.Places.{variables, initialised_size, slots_size}
 use Rattle.pw_place.specs.declared.places.UnitPlaces.{UnitPlaces}
 use Rattle.pw_place.specs.declared.placing.Next.{Next}
 
@@ -42,3 +44,11 @@ places_of_unit next o = record {
 
 abbrev pub after_unit : Next → Object → Next
 after_unit next o = fold after_variable (after_functions next o) o.vars
+
+-- The places of the first definitions.
+abbrev pub first_places : Kind → List Object → Next
+first_places kind objects = record {
+  function = code_bytes (entry_items kind);
+  initialised = slots_size kind objects;
+  others = slots_size kind objects + initialised_size (variables objects);
+}

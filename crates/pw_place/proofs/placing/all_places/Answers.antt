@@ -3,7 +3,8 @@ use Rattle.std.proofs.Common.{◌≡◌, ◌++◌, [], ◌∷◌, sym, ap, ◌�
 use Rattle.pw_place.specs.Sizes.{function_bytes}
 use Rattle.pw_place.specs.Places.{functions, variables}
 use Rattle.pw_place.specs.Steps.Running.{places_of_unit, after_unit}
-use Rattle.pw_place.proofs.Running.{running_more, after_more, units_passed, initialised_part, other_part, initialised_is, others_are}
+use Rattle.pw_place.proofs.Running.{running_more, after_more, units_passed}
+use Rattle.pw_place.proofs.VariableParts.{initialised_part, other_part, initialised_is, others_are}
 use Rattle.pw_place.proofs.Sums.{parts_le}
 use Rattle.pw_place.proofs.placing.all_places.Goals as goal
 
