@@ -13,6 +13,7 @@ mod name_list;
 mod placed;
 mod places;
 mod pointers;
+mod text;
 
 pub use distance::hi_lo;
 pub use link_error::{LinkError, What};
