@@ -62,6 +62,17 @@ fn immediates(distance: i64) -> (i32, i32)
     (signed(hi), lo)
 }
 
+/// How far a target stands after a place.
+#[tactic(auto, using(crate::proofs::Reach::is_near))]
+fn distance(target: u32, at: u32) -> i64
+    requires target { target < 2 ^ 26 }
+    requires place { at ≤ limits.text_offset + limits.text_bytes }
+    ensures distance { result ≡ pos target -ℤ pos at }
+    ensures reach { IsWithinReach result }
+{
+    i64::from(target) - i64::from(at)
+}
+
 /// Appends an instruction.
 fn put(words: &mut Items<u32>, inst: &Inst) -> Result<(), NoMemory>
     requires { IsEncodable inst.now }
@@ -123,7 +134,7 @@ fn put_address(
     requires placed { IsPlacedRef places.now.objects.now unit to.now }
     ensures { OnOk result (words.new ≡ words.old ++ contents.words_of_item places.now.kind places.now.objects.now unit at (Item.Addr rd to.now)) }
 {
-    let distance = i64::from(places.target(unit, to)) - i64::from(at);
+    let distance = distance(places.target(unit, to), at);
     match to {
         Ref::Global(_) => put_slot_address(words, rd, distance),
         Ref::LocalFun(_) => put_definition_address(words, rd, distance),
@@ -228,7 +239,7 @@ fn put_program_entry(words: &mut Items<u32>, places: &Places) -> Result<(), NoMe
         },
     )?;
     let slot = DATA + places.slot_start(b"main");
-    put_slot_address(words, T0, i64::from(slot) - i64::from(TEXT + WORD_BYTES))?;
+    put_slot_address(words, T0, distance(slot, TEXT + WORD_BYTES))?;
     put(
         words,
         &Inst::Jalr {
