@@ -4,3 +4,13 @@ pub mod Extents
 pub mod PlacedRefs
 pub mod Reach
 pub mod Written
+pub mod NameKeys
+pub mod Joined
+pub mod Sums
+pub mod FirstNames
+pub mod Running
+pub mod Enumerated
+pub mod PlacedUnits
+pub mod VariableParts
+pub mod Bounds
+pub mod FoundPlaces

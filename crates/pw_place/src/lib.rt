@@ -14,6 +14,9 @@ mod placed;
 mod places;
 mod pointers;
 mod text;
+mod placing;
+mod sizes;
+mod slots;
 
 pub use distance::hi_lo;
 pub use link_error::{LinkError, What};

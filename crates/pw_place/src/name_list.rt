@@ -1,10 +1,10 @@
 //! Lists of names, each once, in order of first appearance.
 ghost use Rattle.std.specs.Prelude.{◌≡◌, ◌<◌, ◌^◌, [], length, bytes_eq, OnOk};
-ghost use Rattle.std.specs.List.{position_or_len};
+ghost use Rattle.std.specs.List.{list_any, position_or_len};
 ghost use Rattle.pw_place.specs.Steps.NameLists.{joined};
 
 use indexmap::IndexSet;
-use pw_base::{Name, NoMemory};
+use pw_base::NoMemory;
 use std::alloc::Global;
 use std::marker::Model;
 
@@ -35,17 +35,24 @@ impl NameList {
     }
 
     /// A name joins them, unless it is one of them.
-    pub(crate) fn add(&mut self, alloc: Global, name: &Name) -> Result<(), NoMemory>
+    pub(crate) fn add(&mut self, alloc: Global, name: &[u8]) -> Result<(), NoMemory>
         ensures { OnOk result (self.new ≡ joined self.old name.now) }
     {
-        if self.set.contains(name.bytes()) {
+        if self.set.contains(name) {
             return Ok(());
         }
-        let key = Vec::from_slice(alloc, name.bytes())?;
+        let key = Vec::from_slice(alloc, name)?;
         match self.set.insert(key) {
             Ok(_) => Ok(()),
             Err(_) => Err(NoMemory),
         }
+    }
+
+    /// Whether this is one of the names.
+    pub(crate) fn contains(&self, name: &[u8]) -> bool
+        ensures { result ≡ list_any (bytes_eq name.now) self.now }
+    {
+        self.set.contains(name)
     }
 
     /// How many of the names stand before this one.

@@ -3,10 +3,14 @@ ghost use Rattle.std.specs.Prelude.{◌≡◌, ◌<◌, length, slice_index, IfO
 ghost use Rattle.pw_place.specs.Names as names;
 ghost use Rattle.pw_place.specs.Places as places;
 ghost use Rattle.pw_place.specs.Steps.PlaceLists.{ArePlaces, IsPlacedRef};
+ghost use Rattle.pw_place.specs.Steps.Running.{first_places};
 ghost use Rattle.pw_place.specs.Steps.WithinLimits.{IsWithinLimits};
 
 use crate::externals::Externals;
 use crate::name_list::NameList;
+use crate::placing::{Next, all_places};
+use crate::sizes::{entry_bytes, initialised_bytes};
+use crate::slots::slot_names;
 use pw_base::{Kind, Limits, NoMemory};
 use pw_code::Object;
 use pw_tree::Ref;
@@ -97,6 +101,20 @@ impl<'a> Places<'a> {
     }
 }
 
+/// The places of the first definitions.
+fn first_places(kind: Kind, objects: &[Object], slots: &NameList) -> Next
+    requires limits { IsWithinLimits kind objects.now }
+    requires slots { slots.now ≡ places.slot_names kind objects.now }
+    ensures { result ≡ first_places kind objects.now }
+{
+    let slots_size = SLOT_BYTES * slots.len() as u32;
+    Next {
+        function: entry_bytes(kind) as u32,
+        initialised: slots_size,
+        others: slots_size + initialised_bytes(objects) as u32,
+    }
+}
+
 /// The places of objects within the limits, whose external names these are.
 pub(crate) fn place_objects<'a>(
     alloc: Global,
@@ -109,11 +127,13 @@ pub(crate) fn place_objects<'a>(
     ensures kind { IfOk result (λ placed. placed.kind ≡ kind) }
     ensures objects { IfOk result (λ placed. placed.objects.now ≡ objects.now) }
 {
+    let slots = slot_names(alloc, kind, objects)?;
+    let units = all_places(alloc, objects, first_places(kind, objects, &slots))?;
     Ok(Places {
         kind,
         objects,
-        units: Items::new(alloc),
-        slots: NameList::new(alloc),
+        units,
+        slots,
         externals,
     })
 }
