@@ -95,8 +95,8 @@ passing_to : {A : Type 0} (f : A → ℕ) (p : A → Bool) (all before : List A)
     → sum_by f (filter p before) + f a ≤ sum_by f (filter p all)
 passing_to f p all before a after passes same =
     let whole : sum_by f (filter p all) ≡ sum_by f (filter p before) + sum_by f (filter p (a ∷ after)) =
-        ap (λ xs. sum_by f (filter p xs)) same ∙ ap (sum_by f) (filter-append p before (a ∷ after))
-        ∙ sum_by-append f (filter p before) (filter p (a ∷ after)) in
+    ap (λ xs. sum_by f (filter p xs)) same ∙ ap (sum_by f) (filter-append p before (a ∷ after))
+    ∙ sum_by-append f (filter p before) (filter p (a ∷ after)) in
     let rest : sum_by f (filter p (a ∷ after)) ≡ f a + sum_by f (filter p after) = passing f p a after true passes in
     omega arith
 
@@ -108,9 +108,9 @@ variable_end kind objects unit i x there = rw there (by kind objects unit i x th
     by : (kind : Kind) (objects : List Object) (unit i : ℕ) (x : TVar) → slice_get (variables_in objects unit) i ≡ Some x
         → (b : Bool) → is_initialised x ≡ b
         → cond (is_initialised x) (slots_size kind objects + initialised_size (variables_before objects unit i))
-                (slots_size kind objects + initialised_size (variables objects) + uninitialised_size (variables_before objects unit i))
-              + variable_bytes x
-            ≤ slots_size kind objects + 8 * elements objects
+        (slots_size kind objects + initialised_size (variables objects) + uninitialised_size (variables_before objects unit i))
+        + variable_bytes x
+        ≤ slots_size kind objects + 8 * elements objects
     by kind objects unit i x there true e =
         let cut = in_unit (λ o. o.vars) objects unit i x there in
         let all = sizes_of_variables (variables objects) in
@@ -147,7 +147,7 @@ few_variables objects unit o there sound =
     let after = drop (suc unit) objects in
     let one = at_least_one o o.vars sound.variables in
     let whole : elements objects ≡ sum_by (λ (x : TVar). room x.count) (variables before ++ variables (o ∷ after)) =
-        ap elements cut ∙ ap (sum_by (λ (x : TVar). room x.count)) (flat_map-append (λ (o : Object). o.vars) before (o ∷ after)) in
+    ap elements cut ∙ ap (sum_by (λ (x : TVar). room x.count)) (flat_map-append (λ (o : Object). o.vars) before (o ∷ after)) in
     let parts = sum_by-append (λ (x : TVar). room x.count) (variables before) (variables (o ∷ after)) in
     let last = sum_by-append (λ (x : TVar). room x.count) o.vars (variables after) in
     omega arith

@@ -1,6 +1,11 @@
 pub mod Near
 pub mod NumberedSymbols
 pub mod FewDefinitions
+pub mod Numbered
+pub mod Extents
+pub mod PlacedRefs
+pub mod Reach
+pub mod Written
 pub mod NameKeys
 pub mod Joined
 pub mod VariableTexts
@@ -8,9 +13,6 @@ pub mod Sums
 pub mod FirstNames
 pub mod Running
 pub mod Enumerated
-pub mod Numbered
-pub mod Extents
-pub mod PlacedRefs
 pub mod MappedItems
 pub mod NamedKinds
 pub mod DistinctFirsts

@@ -24,7 +24,7 @@ numbered_more n (y ∷ xs) zero x h =
 numbered_more n (y ∷ xs) (suc i) x h =
     let sum : n + 1 + i ≡ n + suc i = omega arith in
     ap (λ zs. (n, y) ∷ zs)
-        (numbered_more (n + 1) xs i x h ∙ ap (λ m. enumerate_from (n + 1) (take i xs) ++ (m, x) ∷ []) sum)
+    (numbered_more (n + 1) xs i x h ∙ ap (λ m. enumerate_from (n + 1) (take i xs) ++ (m, x) ∷ []) sum)
 
 -- What is made of the first elements with their numbers, and of one more.
 made_more : {X A : Type 0} (make : ℕ × X → List A) (xs : List X) (i : ℕ) (x : X) → slice_get xs i ≡ Some x
@@ -104,9 +104,9 @@ all_made {X = X} P make n (x ∷ xs) each =
     let first : AllByRecursion P (make (n + 0, x)) = each 0 x refl in
     let here : n + 0 ≡ n = omega arith in
     let rest : (i : ℕ) (y : X) → slice_get xs i ≡ Some y → AllByRecursion P (make (n + 1 + i, y)) =
-        λ i y h. subst (λ m. AllByRecursion P (make (m, y))) (shifted n i) (each (suc i) y h) in
+    λ i y h. subst (λ m. AllByRecursion P (make (m, y))) (shifted n i) (each (suc i) y h) in
     all_append P (make (n, x)) (flat_map make (enumerate_from (n + 1) xs)) (subst (λ m. AllByRecursion P (make (m, x))) here first)
-        (all_made P make (n + 1) xs rest)
+    (all_made P make (n + 1) xs rest)
   where
     shifted : (n i : ℕ) → n + suc i ≡ n + 1 + i
     shifted n i = omega arith

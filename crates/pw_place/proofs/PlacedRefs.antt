@@ -92,7 +92,7 @@ module _ (objects : List Object) (unit : ℕ) (o : Object) (there : slice_get ob
       → AllByRecursion (IsPlacedPointer objects) (flat_map (pointers_in_element unit variable start) (enumerate_from 0 values))
   values_placed variable start values stands sound =
       all_made (IsPlacedPointer objects) (pointers_in_element unit variable start) 0 values
-          (λ j value at. element_placed variable start (0 + j) value stands (all_at (IsSoundElement o) values j value sound at))
+      (λ j value at. element_placed variable start (0 + j) value stands (all_at (IsSoundElement o) values j value sound at))
 
   variable_pointers : (kind : Kind) (i : ℕ) (x : TVar) → slice_get o.vars i ≡ Some x → IsSoundVariable o x
       → AllByRecursion (IsPlacedPointer objects) (pointers_in_variable kind objects unit (i, x))
@@ -107,7 +107,7 @@ module _ (objects : List Object) (unit : ℕ) (o : Object) (there : slice_get ob
   unit_pointers : (kind : Kind) → IsSound o → AllByRecursion (IsPlacedPointer objects) (pointers_in_unit kind objects (unit, o))
   unit_pointers kind sound =
       all_made (IsPlacedPointer objects) (pointers_in_variable kind objects unit) 0 o.vars
-          (λ i x at. at_number i x at (variable_pointers kind i x at (all_at (IsSoundVariable o) o.vars i x sound.variables at)))
+      (λ i x at. at_number i x at (variable_pointers kind i x at (all_at (IsSoundVariable o) o.vars i x sound.variables at)))
     where
       at_number : (i : ℕ) (x : TVar) → slice_get o.vars i ≡ Some x
           → AllByRecursion (IsPlacedPointer objects) (pointers_in_variable kind objects unit (i, x))
@@ -119,4 +119,4 @@ pub pointers_placed : (kind : Kind) (objects : List Object) → AllByRecursion I
     → AllByRecursion (IsPlacedPointer objects) (pointers kind objects)
 pointers_placed kind objects sound =
     all_made (IsPlacedPointer objects) (pointers_in_unit kind objects) 0 objects
-        (λ unit o there. rw zero-add (unit_pointers objects unit o there kind (all_at IsSound objects unit o sound there)))
+    (λ unit o there. rw zero-add (unit_pointers objects unit o there kind (all_at IsSound objects unit o sound there)))

@@ -16,10 +16,11 @@ mod symbol_numbers;
 mod pointers;
 mod variable_text;
 mod symbols;
+mod text;
+mod placing;
 mod sizes;
 mod name_kinds;
 mod definitions;
-mod placing;
 mod slots;
 
 pub use distance::hi_lo;

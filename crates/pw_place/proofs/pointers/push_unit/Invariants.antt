@@ -11,6 +11,6 @@ invariant-loop-i l = record {
   made :
       map pointer_of l.to
       ≡ map pointer_of l.fn.to
-        ++ flat_map (pointers_in_variable l.places.kind l.places.objects.now l.unit) (enumerate_from 0 (take l.i l.object.vars));
+      ++ flat_map (pointers_in_variable l.places.kind l.places.objects.now l.unit) (enumerate_from 0 (take l.i l.object.vars));
   left : AllByRecursion (IsSoundVariable l.object) (drop l.i l.object.vars);
 }
