@@ -1,5 +1,6 @@
 -- The external names of a module differ.
-use Rattle.std.proofs.Common.{◌≡◌, ℕ, Bool, true, false, not, cond, List, [], ◌∷◌, map, refl, bytes_eq}
+use Rattle.std.proofs.Common.{◌≡◌, ℕ, Bool, true, false, not, cond, List, [], ◌∷◌, map, refl, ◌∙◌, bytes_eq}
+use Rattle.std.proofs.lemmas.Cmp.{nat_list_eq_equiv}
 use Rattle.std.specs.List.{AllByRecursion, IsDistinct, filter}
 use Rattle.pw_tree.specs.declared.tunit.Ext.{Ext}
 use Rattle.pw_code.specs.declared.object.Object.{Object}
@@ -9,16 +10,19 @@ use Rattle.pw_place.specs.Names.{first_of_each, same_name, declared_names, exter
 abbrev Lack : List ℕ → List Ext → Type 0
 Lack name names = AllByRecursion (λ other. bytes_eq name other ≡ false) (map (λ (n : Ext). n.name) names)
 
-lack_by : (name : List ℕ) (n : Ext) (names : List Ext) (b : Bool) → bytes_eq name n.name ≡ b → Lack name names →
+turned : (a b : List ℕ) → bytes_eq a b ≡ false → bytes_eq b a ≡ false
+turned a b h = nat_list_eq_equiv.symm b a ∙ h
+
+lack_by : (name : List ℕ) (n : Ext) (names : List Ext) (b : Bool) → bytes_eq n.name name ≡ b → Lack name names →
     Lack name (cond (not b) (n ∷ names) names)
 lack_by name n names true e rest = rest
-lack_by name n names false e rest = (e, rest)
+lack_by name n names false e rest = (turned n.name name e, rest)
 
 -- Those that are others are left.
-lack_left : (name : Ext) (names : List Ext) → Lack name.name (filter (λ n. not (same_name name n)) names)
+lack_left : (name : Ext) (names : List Ext) → Lack name.name (filter (λ n. not (same_name n name)) names)
 lack_left name [] = tt
 lack_left name (n ∷ names) =
-    lack_by name.name n (filter (λ m. not (same_name name m)) names) (bytes_eq name.name n.name) refl (lack_left name names)
+    lack_by name.name n (filter (λ m. not (same_name m name)) names) (bytes_eq n.name name.name) refl (lack_left name names)
 
 module _ (p : Ext → Bool) where
   lack_kept_by : (name : List ℕ) (n : Ext) (names : List Ext) (b : Bool) → bytes_eq name n.name ≡ false → Lack name names →
@@ -47,7 +51,7 @@ firsts_differ : (names : List Ext) → IsDistinct bytes_eq (map (λ (m : Ext). m
 unfolding first_of_each IsDistinct
 firsts_differ [] = tt
 firsts_differ (n ∷ names) =
-    (lack_left n (first_of_each same_name names), differ_kept (λ m. not (same_name n m)) (first_of_each same_name names) (firsts_differ names))
+    (lack_left n (first_of_each same_name names), differ_kept (λ m. not (same_name m n)) (first_of_each same_name names) (firsts_differ names))
 
 pub names_differ : (objects : List Object) → IsDistinct bytes_eq (map (λ (n : Ext). n.name) (external_names objects))
 names_differ objects = firsts_differ (declared_names objects)

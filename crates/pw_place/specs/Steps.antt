@@ -9,3 +9,4 @@ pub mod PlacedItems
 pub mod PointerPlaces
 pub mod NameKinds
 pub mod ExternalSymbols
+pub mod PlacedFunctions

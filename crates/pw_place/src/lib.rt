@@ -14,6 +14,7 @@ mod placed;
 mod places;
 mod symbol_numbers;
 mod pointers;
+mod records;
 mod variable_text;
 mod symbols;
 mod text;
