@@ -64,9 +64,9 @@ module _ (kind : Kind) (objects : List Object) where
       let static : List Symbol = static_symbols kind objects in
       let others : List Symbol = map (external_symbol kind objects) (external_names objects) in
       let last : map (λ n. Some (symbol_of_name kinds n)) (enumerate_from 0 names) ≡ map Some others =
-          (λ i. map (λ n. Some (symbol_of_name (of_kinds i) n)) (enumerate_from 0 names))
-          ∙ (λ i. map (λ n. Some (symbol_of_name (kinds_among (of_definitions i) names) n)) (enumerate_from 0 names))
-          ∙ external names ∙ ap (λ ns. map Some (map (external_symbol kind objects) ns)) of_names in
+      (λ i. map (λ n. Some (symbol_of_name (of_kinds i) n)) (enumerate_from 0 names))
+      ∙ (λ i. map (λ n. Some (symbol_of_name (kinds_among (of_definitions i) names) n)) (enumerate_from 0 names))
+      ∙ external names ∙ ap (λ ns. map Some (map (external_symbol kind objects) ns)) of_names in
       e4
       ∙ (λ i. e3 i ++ last i)
       ∙ (λ i. (e2 i ++ map Some (filter (λ s. not s.global) (of_definitions i))) ++ map Some others)

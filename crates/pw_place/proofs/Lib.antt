@@ -21,3 +21,4 @@ pub mod PlacedUnits
 pub mod VariableParts
 pub mod Bounds
 pub mod FoundPlaces
+pub mod FewSymbols

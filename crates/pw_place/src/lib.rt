@@ -6,23 +6,23 @@
 #![tactic(auto)]
 
 mod data;
+mod definitions;
 mod distance;
 mod externals;
 mod link_error;
+mod name_kinds;
 mod name_list;
 mod placed;
 mod places;
-mod symbol_numbers;
+mod placing;
 mod pointers;
 mod records;
-mod variable_text;
+mod sizes;
+mod slots;
+mod symbol_numbers;
 mod symbols;
 mod text;
-mod placing;
-mod sizes;
-mod name_kinds;
-mod definitions;
-mod slots;
+mod variable_text;
 
 pub use distance::hi_lo;
 pub use link_error::{LinkError, What};
