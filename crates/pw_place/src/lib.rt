@@ -5,13 +5,16 @@
 //! that can't be done, the first fault is reported.
 #![tactic(auto)]
 
+mod defined_names;
 mod distance;
 mod externals;
 mod link_error;
 mod name_list;
+mod other_texts;
 mod placed;
 mod places;
 mod placing;
+mod refusals;
 mod sizes;
 mod slots;
 
