@@ -7,16 +7,19 @@
 
 mod data;
 mod definitions;
+mod defined_names;
 mod distance;
 mod externals;
 mod link_error;
 mod name_kinds;
 mod name_list;
+mod other_texts;
 mod placed;
 mod places;
 mod placing;
 mod pointers;
 mod records;
+mod refusals;
 mod sizes;
 mod slots;
 mod symbol_numbers;
