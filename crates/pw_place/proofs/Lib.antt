@@ -4,8 +4,11 @@ pub mod Extents
 pub mod PlacedRefs
 pub mod Reach
 pub mod Written
+pub mod NumberedSymbols
+pub mod FewDefinitions
 pub mod NameKeys
 pub mod Joined
+pub mod VariableTexts
 pub mod Sums
 pub mod FirstNames
 pub mod Running
@@ -14,3 +17,5 @@ pub mod PlacedUnits
 pub mod VariableParts
 pub mod Bounds
 pub mod FoundPlaces
+pub mod MappedItems
+pub mod NamedKinds

@@ -4,5 +4,8 @@ pub mod ExternalLists
 pub mod WithinLimits
 pub mod Running
 pub mod PlaceLists
+pub mod NumberLists
 pub mod PlacedItems
 pub mod PointerPlaces
+pub mod NameKinds
+pub mod ExternalSymbols

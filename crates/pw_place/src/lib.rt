@@ -15,7 +15,12 @@ mod places;
 mod pointers;
 mod text;
 mod placing;
+mod symbol_numbers;
+mod variable_text;
+mod symbols;
 mod sizes;
+mod name_kinds;
+mod definitions;
 mod slots;
 
 pub use distance::hi_lo;
