@@ -21,11 +21,11 @@ mod pointers;
 mod records;
 mod refusals;
 mod sizes;
-mod slots;
-mod symbol_numbers;
-mod symbols;
 mod text;
+mod symbol_numbers;
 mod variable_text;
+mod symbols;
+mod slots;
 
 pub use distance::hi_lo;
 pub use link_error::{LinkError, What};
