@@ -6,22 +6,23 @@
 #![tactic(auto)]
 
 mod data;
+mod definitions;
 mod distance;
 mod externals;
 mod link_error;
+mod name_kinds;
 mod name_list;
 mod placed;
 mod places;
-mod pointers;
-mod text;
 mod placing;
-mod symbol_numbers;
-mod variable_text;
-mod symbols;
+mod pointers;
+mod relocations;
 mod sizes;
-mod name_kinds;
-mod definitions;
 mod slots;
+mod symbol_numbers;
+mod symbols;
+mod text;
+mod variable_text;
 
 pub use distance::hi_lo;
 pub use link_error::{LinkError, What};
