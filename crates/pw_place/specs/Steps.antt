@@ -2,6 +2,9 @@
 pub mod NameLists
 pub mod ExternalLists
 pub mod WithinLimits
+pub mod Passing
+pub mod DefinedNames
+pub mod OtherTexts
 pub mod Running
 pub mod PlaceLists
 pub mod NumberLists
@@ -9,3 +12,4 @@ pub mod PlacedItems
 pub mod PointerPlaces
 pub mod NameKinds
 pub mod ExternalSymbols
+pub mod PlacedFunctions

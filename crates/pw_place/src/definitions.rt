@@ -30,10 +30,7 @@ fn function_symbol(
     requires { slice_get (functions_in places.now.objects.now unit) i ≡ Some f.now }
     ensures { IfOk result (λ s. s ≡ symbols.function_symbol places.now.kind places.now.objects.now unit (i, f.now)) }
 {
-    let kind = SymKind::Fun(
-        u64::from(places.function_start(unit, i)),
-        function_bytes(f),
-    );
+    let kind = SymKind::Fun(u64::from(places.function_start(unit, i)), function_bytes(f));
     Ok(Symbol {
         name: f.name.copy(alloc)?,
         global: f.global,

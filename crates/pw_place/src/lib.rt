@@ -6,16 +6,20 @@
 #![tactic(auto)]
 
 mod data;
+mod defined_names;
 mod definitions;
 mod distance;
 mod externals;
 mod link_error;
 mod name_kinds;
 mod name_list;
+mod other_texts;
 mod placed;
 mod places;
 mod placing;
 mod pointers;
+mod records;
+mod refusals;
 mod relocations;
 mod sizes;
 mod slots;

@@ -36,11 +36,7 @@ fn entry_text(alloc: Global) -> Result<TypeText, NoMemory>
 }
 
 /// Appends the symbol of a program's entry.
-fn push_entry(
-    alloc: Global,
-    kind: Kind,
-    to: &mut Items<Option<Symbol>>,
-) -> Result<(), NoMemory>
+fn push_entry(alloc: Global, kind: Kind, to: &mut Items<Option<Symbol>>) -> Result<(), NoMemory>
     ensures { OnOk result (to.new ≡ to.old ++ map Some (definition.entry_symbols kind)) }
 {
     match kind {
@@ -116,10 +112,7 @@ fn push_names(
 }
 
 /// The symbols of a module, by number; the first is none.
-pub(crate) fn symbols(
-    alloc: Global,
-    places: &Places,
-) -> Result<Items<Option<Symbol>>, NoMemory>
+pub(crate) fn symbols(alloc: Global, places: &Places) -> Result<Items<Option<Symbol>>, NoMemory>
     requires { AllByRecursion IsSound places.now.objects.now }
     ensures { IfOk result (λ found. found ≡ definition.symbols places.now.kind places.now.objects.now) }
 {
@@ -129,6 +122,11 @@ pub(crate) fn symbols(
     symbols.push(None)?;
     push_entry(alloc, places.kind, &mut symbols)?;
     push_static(alloc, defined.as_slice(), &mut symbols)?;
-    push_names(alloc, places.externals.entries.as_slice(), kinds.as_slice(), &mut symbols)?;
+    push_names(
+        alloc,
+        places.externals.entries.as_slice(),
+        kinds.as_slice(),
+        &mut symbols,
+    )?;
     Ok(symbols)
 }

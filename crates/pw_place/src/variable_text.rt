@@ -46,11 +46,7 @@ fn bytes_of(alloc: Global, ty: Ty, size: Option<u32>) -> Result<Items<u8>, NoMem
 
 /// The text of a variable's type, an array's where it has a size.
 #[tactic(auto, using(crate::proofs::VariableTexts::typed_text))]
-pub(crate) fn variable_text(
-    alloc: Global,
-    ty: Ty,
-    size: Option<u32>,
-) -> Result<TypeText, NoMemory>
+pub(crate) fn variable_text(alloc: Global, ty: Ty, size: Option<u32>) -> Result<TypeText, NoMemory>
     requires valued { IsValueType ty }
     requires sized { IsArraySize size }
     ensures { IfOk result (λ text. text ≡ texts.text_of_variable ty size) }
