@@ -1,11 +1,11 @@
 -- Lists whose elements come with their numbers, and lists that are cut at an element.
-use Rattle.std.proofs.Common.{◌≡◌, ℕ, zero, suc, ◌+◌, ◌<◌, List, [], ◌∷◌, ◌++◌, length, get_or, take, drop, refl, sym, ◌∙◌, ap, subst, arith, append_assoc, zero-add, add-one, Some}
+use Rattle.std.proofs.Common.{◌≡◌, ℕ, zero, suc, ◌+◌, ◌<◌, List, [], ◌∷◌, ◌++◌, length, map, get_or, take, drop, refl, sym, ◌∙◌, ap, subst, arith, append_assoc, zero-add, add-one, Some}
 use Rattle.std.specs.Prelude.{slice_get, flat_map}
 use Rattle.std.specs.List.{enumerate_from, AllByRecursion}
 use Rattle.std.proofs.lemmas.Option.{slice_get_read}
 use Rattle.std.proofs.lemmas.Grind.{flat_map-append}
 use Rattle.std.proofs.lemmas.List.Concat.{flat_map-cons}
-use Rattle.std.proofs.lemmas.List.{append-nil}
+use Rattle.std.proofs.lemmas.List.{append-nil, map-append}
 
 -- A list, cut around the element at a place.
 pub cut_at : {X : Type 0} (xs : List X) (i : ℕ) (x : X) → slice_get xs i ≡ Some x → xs ≡ take i xs ++ (x ∷ drop (suc i) xs)
@@ -110,3 +110,13 @@ all_made {X = X} P make n (x ∷ xs) each =
   where
     shifted : (n i : ℕ) → n + suc i ≡ n + 1 + i
     shifted n i = omega arith
+
+-- A list of what numbered elements give, and of one more.
+pub listed_step : {X A : Type 0} (give : ℕ × X → A) (xs : List X) (i : ℕ) (x : X) (old now new : List A) → slice_get xs i ≡ Some x
+    → now ≡ old ++ map give (enumerate_from 0 (take i xs)) → new ≡ now ++ give (i, x) ∷ []
+    → new ≡ old ++ map give (enumerate_from 0 (take (i + 1) xs))
+listed_step give xs i x old now new there so_far more =
+    let more_elements : enumerate_from 0 (take (i + 1) xs) ≡ enumerate_from 0 (take i xs) ++ (i, x) ∷ [] =
+    rw add-one (numbered_more 0 xs i x there ∙ ap (λ n. enumerate_from 0 (take i xs) ++ (n, x) ∷ []) (zero-add i)) in
+    more ∙ ap (λ zs. zs ++ give (i, x) ∷ []) so_far ∙ append_assoc old (map give (enumerate_from 0 (take i xs))) (give (i, x) ∷ [])
+    ∙ ap (λ zs. old ++ zs) (sym (ap (map give) more_elements ∙ map-append give (enumerate_from 0 (take i xs)) ((i, x) ∷ [])))

@@ -27,7 +27,7 @@ within p xs = prefix_len-le-length (λ x. not (p x)) xs
 pub slot_within : (kind : Kind) (objects : List Object) (name : List ℕ) → slot_start kind objects name ≤ 8 * length (slot_names kind objects)
 slot_within kind objects name = let at = within (bytes_eq name) (slot_names kind objects) in omega arith
 
-element_at : {X : Type 0} (xs : List X) (i : ℕ) → i < length xs → (x : X) × (slice_get xs i ≡ Some x)
+pub element_at : {X : Type 0} (xs : List X) (i : ℕ) → i < length xs → (x : X) × (slice_get xs i ≡ Some x)
 element_at [] i low = absurd (omega arith)
 element_at (x ∷ xs) zero low = (x, refl)
 element_at (x ∷ xs) (suc i) low = element_at xs i (omega arith)

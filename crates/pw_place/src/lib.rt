@@ -6,8 +6,8 @@
 #![tactic(auto)]
 
 mod data;
-mod definitions;
 mod defined_names;
+mod definitions;
 mod distance;
 mod externals;
 mod link_error;
@@ -20,12 +20,13 @@ mod placing;
 mod pointers;
 mod records;
 mod refusals;
+mod relocations;
 mod sizes;
-mod text;
-mod symbol_numbers;
-mod variable_text;
-mod symbols;
 mod slots;
+mod symbol_numbers;
+mod symbols;
+mod text;
+mod variable_text;
 
 pub use distance::hi_lo;
 pub use link_error::{LinkError, What};

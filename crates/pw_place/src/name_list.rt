@@ -1,5 +1,5 @@
 //! Lists of names, each once, in order of first appearance.
-ghost use Rattle.std.specs.Prelude.{◌≡◌, ◌<◌, ◌^◌, [], length, bytes_eq, OnOk};
+ghost use Rattle.std.specs.Prelude.{◌≡◌, ◌<◌, ◌^◌, [], length, bytes_eq, slice_get, MatchOption, OnOk};
 ghost use Rattle.std.specs.List.{list_any, position_or_len};
 ghost use Rattle.pw_place.specs.Steps.NameLists.{joined};
 
@@ -63,6 +63,16 @@ impl NameList {
         match self.set.get_index_of(name) {
             Some(number) => number as u32,
             None => self.set.len() as u32,
+        }
+    }
+
+    /// The name of this number, if there is one.
+    pub(crate) fn get(&self, i: usize) -> Option<&[u8]>
+        ensures { MatchOption result (slice_get self.now i ≡ None) (λ name. slice_get self.now i ≡ Some name.now) }
+    {
+        match self.set.get_index(i) {
+            Some(key) => Some(key.as_slice()),
+            None => None,
         }
     }
 
