@@ -1,5 +1,5 @@
 -- One more slot is appended.
-use Rattle.std.proofs.Common.{◌<◌, ◌++◌, length, ap, sym, ◌∙◌, subst, take, flat_map, append_assoc}
+use Rattle.std.proofs.Common.{◌<◌, ◌++◌, ap, sym, ◌∙◌, subst, take, flat_map, append_assoc}
 use Rattle.pw_base.specs.Field.{field}
 use Rattle.pw_place.proofs.Numbered.{same_more}
 use Rattle.pw_place.proofs.data.put_slots.Goals as goal

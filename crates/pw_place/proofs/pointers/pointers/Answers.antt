@@ -1,5 +1,5 @@
 -- The pointers of one more unit are appended, and all of them have places.
-use Rattle.std.proofs.Common.{sym, ◌∙◌, ap, take, subst}
+use Rattle.std.proofs.Common.{sym, ◌∙◌, ap, subst}
 use Rattle.std.proofs.lemmas.List.{take_all}
 use Rattle.std.specs.List.{flat_map, enumerate_from, AllByRecursion}
 use Rattle.pw_code.specs.Soundness.{IsSound}

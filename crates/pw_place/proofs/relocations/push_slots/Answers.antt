@@ -1,5 +1,5 @@
 -- The relocation of one more slot is appended.
-use Rattle.std.proofs.Common.{◌≡◌, ℕ, ◌+◌, ◌*◌, ◌<◌, [], ◌∷◌, ◌++◌, length, ◌∙◌, ap, arith}
+use Rattle.std.proofs.Common.{ℕ, ◌+◌, ◌*◌, ◌<◌, [], ◌∷◌, ◌++◌, length, ◌∙◌, ap, arith}
 use Rattle.pw_base.specs.Limits.{data_offset}
 use Rattle.pw_module.specs.declared.relocation.Reloc.{Reloc}
 use Rattle.pw_module.specs.declared.relocation.RelocKind.TheVariants.{Sym}

@@ -1,5 +1,4 @@
 -- One more item is written.
-use Rattle.std.proofs.Common.{◌≡◌, sym, ◌∙◌}
 use Rattle.pw_place.specs.Steps.PlacedItems.{IsPlacedItem}
 use Rattle.pw_place.proofs.Numbered.{next_of_all}
 use Rattle.pw_place.proofs.Written.{written_step, written_all, stands_step}
