@@ -1,5 +1,8 @@
 //! A list of units as a row of a table, and whether they merge into what the row says.
 
+ghost use Rattle.std.specs.List.{AllByRecursion};
+ghost use Rattle.pw_code.specs.Soundness.{IsSound};
+
 use crate::digest::digest;
 use crate::sources::objects;
 use pw_base::Kind;
@@ -125,7 +128,9 @@ pub(crate) fn is_refused(
     kind: Kind,
     fault: &str,
     why: &str,
-) -> Result<(), Fail> {
+) -> Result<(), Fail>
+    requires { AllByRecursion IsSound objects.now }
+{
     match merge(alloc, objects, kind) {
         Ok(_) => assert!(rt; false, "{why}"),
         Err(found) => {

@@ -41,7 +41,9 @@ fn has_zeros(
     alloc: Global,
     objects: &Items<Object>,
     zeros: u64,
-) -> Result<(), Fail> {
+) -> Result<(), Fail>
+    requires { AllByRecursion IsSound objects.now }
+{
     match merge(alloc, objects, Kind::Library) {
         Ok(placed) => assert_eq!(rt; placed.zeros, zeros),
         Err(_) => assert!(rt; false),
