@@ -8,9 +8,10 @@ const ROWS: [Row; 8] = [
     Row {
         why: "the elements that an initialiser leaves out are zeros of the file",
         kind: Kind::Library,
-        units: &[
-            ("a.c", "long t[4] = {7}; unsigned long u = 18446744073709551615ul;"),
-        ],
+        units: &[(
+            "a.c",
+            "long t[4] = {7}; unsigned long u = 18446744073709551615ul;",
+        )],
         words: 0,
         slots: &[],
         bytes: 40,
@@ -22,9 +23,10 @@ const ROWS: [Row; 8] = [
     Row {
         why: "a pointer to a static function is the module's base and its place",
         kind: Kind::Program,
-        units: &[
-            ("a.c", "static long cb(void) { return 5; } fn0 hook = cb; long main(void) { return hook(); }"),
-        ],
+        units: &[(
+            "a.c",
+            "static long cb(void) { return 5; } fn0 hook = cb; long main(void) { return hook(); }",
+        )],
         words: 45,
         slots: &["main", "hook"],
         bytes: 24,
@@ -37,7 +39,10 @@ const ROWS: [Row; 8] = [
         why: "a pointer to an external function is its symbol, and a root",
         kind: Kind::Program,
         units: &[
-            ("a.c", "extern long cb(void); fn0 hook = cb; long main(void) { return hook(); }"),
+            (
+                "a.c",
+                "extern long cb(void); fn0 hook = cb; long main(void) { return hook(); }",
+            ),
             ("b.c", "long cb(void) { return 6; }"),
         ],
         words: 45,
@@ -51,9 +56,10 @@ const ROWS: [Row; 8] = [
     Row {
         why: "each element that names a function is a pointer and a root",
         kind: Kind::Library,
-        units: &[
-            ("a.c", "static long f(void) { return 1; } long g(void) { return 2; } static fn0 t[4] = {g, f, g};"),
-        ],
+        units: &[(
+            "a.c",
+            "static long f(void) { return 1; } long g(void) { return 2; } static fn0 t[4] = {g, f, g};",
+        )],
         words: 30,
         slots: &[],
         bytes: 32,
@@ -67,7 +73,10 @@ const ROWS: [Row; 8] = [
         kind: Kind::Library,
         units: &[
             ("a.c", "long a[5] = {1}; long f(void) { return 1; }"),
-            ("b.c", "extern long f(void); static long b = 3; static fn0 p = f;"),
+            (
+                "b.c",
+                "extern long f(void); static long b = 3; static fn0 p = f;",
+            ),
         ],
         words: 15,
         slots: &[],
@@ -80,9 +89,10 @@ const ROWS: [Row; 8] = [
     Row {
         why: "names that are used and not defined are undefined symbols",
         kind: Kind::Library,
-        units: &[
-            ("a.c", "extern long gone(void); extern long far[16]; long f(long i) { return gone() + far[i]; }"),
-        ],
+        units: &[(
+            "a.c",
+            "extern long gone(void); extern long far[16]; long f(long i) { return gone() + far[i]; }",
+        )],
         words: 33,
         slots: &["gone", "far"],
         bytes: 16,

@@ -34,7 +34,10 @@ const ROWS: [Refused; 11] = [
         why: "a name with two types: its first text and the other",
         kind: Kind::Library,
         units: &[
-            ("a.c", "extern long f(long a); long g(void) { return f(1); }"),
+            (
+                "a.c",
+                "extern long f(long a); long g(void) { return f(1); }",
+            ),
             ("b.c", "long f(void) { return 2; }"),
         ],
         fault: "f l(l) l()",
@@ -52,41 +55,45 @@ const ROWS: [Refused; 11] = [
     Refused {
         why: "a program with a static main has none",
         kind: Kind::Program,
-        units: &[
-            ("a.c", "static long main(void) { return 0; } long f(void) { return main(); }"),
-        ],
+        units: &[(
+            "a.c",
+            "static long main(void) { return 0; } long f(void) { return main(); }",
+        )],
         fault: "no main",
     },
     Refused {
         why: "a program that uses main and does not define it has none",
         kind: Kind::Program,
-        units: &[
-            ("a.c", "extern long main(void); long f(void) { return main(); }"),
-        ],
+        units: &[(
+            "a.c",
+            "extern long main(void); long f(void) { return main(); }",
+        )],
         fault: "no main",
     },
     Refused {
         why: "a main of another type",
         kind: Kind::Program,
-        units: &[
-            ("a.c", "void main(void) { }"),
-        ],
+        units: &[("a.c", "void main(void) { }")],
         fault: "main v()",
     },
     Refused {
         why: "a variable that is named main has a wrong type too",
         kind: Kind::Program,
-        units: &[
-            ("a.c", "long main[2];"),
-        ],
+        units: &[("a.c", "long main[2];")],
         fault: "main l[2]",
     },
     Refused {
         why: "of a name that two units define and one with two types, the first of these faults",
         kind: Kind::Library,
         units: &[
-            ("a.c", "extern long f(long a); long g(void) { return f(1); }"),
-            ("b.c", "long f(void) { return 2; } long g(void) { return 3; }"),
+            (
+                "a.c",
+                "extern long f(long a); long g(void) { return f(1); }",
+            ),
+            (
+                "b.c",
+                "long f(void) { return 2; } long g(void) { return 3; }",
+            ),
         ],
         fault: "twice g",
     },

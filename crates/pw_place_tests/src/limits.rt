@@ -56,22 +56,48 @@ fn a_module_has_at_most_64_units(rt: HostRuntime) -> Result<(), Fail> {
     let alloc = rt.alloc();
     has_zeros(&rt, alloc, &many(alloc, 64, b"static long x;")?, 512)?;
     let more = many(alloc, 65, b"static long x;")?;
-    is_refused(&rt, alloc, &more, Kind::Library, "65 units", "one unit more")
+    is_refused(
+        &rt,
+        alloc,
+        &more,
+        Kind::Library,
+        "65 units",
+        "one unit more",
+    )
 }
 
 #[test]
 fn units_are_counted_before_definitions(rt: HostRuntime) -> Result<(), Fail> {
     let alloc = rt.alloc();
     let more = many(alloc, 65, b"long x;")?;
-    is_refused(&rt, alloc, &more, Kind::Program, "65 units", "x is defined in each, and no main")
+    is_refused(
+        &rt,
+        alloc,
+        &more,
+        Kind::Program,
+        "65 units",
+        "x is defined in each, and no main",
+    )
 }
 
 #[test]
 fn a_module_has_at_most_262144_elements(rt: HostRuntime) -> Result<(), Fail> {
     let alloc = rt.alloc();
-    has_zeros(&rt, alloc, &many(alloc, 4, b"static long x[65536];")?, 2_097_152)?;
+    has_zeros(
+        &rt,
+        alloc,
+        &many(alloc, 4, b"static long x[65536];")?,
+        2_097_152,
+    )?;
     let more = many(alloc, 5, b"static long x[65536];")?;
-    is_refused(&rt, alloc, &more, Kind::Library, "327680 elements", "an array more")
+    is_refused(
+        &rt,
+        alloc,
+        &more,
+        Kind::Library,
+        "327680 elements",
+        "an array more",
+    )
 }
 
 #[test]
@@ -79,5 +105,12 @@ fn a_module_has_at_most_16384_external_names(rt: HostRuntime) -> Result<(), Fail
     let alloc = rt.alloc();
     let text = variables(alloc, 16_385)?;
     let more = many(alloc, 1, text.as_slice())?;
-    is_refused(&rt, alloc, &more, Kind::Library, "16385 names", "one name more")
+    is_refused(
+        &rt,
+        alloc,
+        &more,
+        Kind::Library,
+        "16385 names",
+        "one name more",
+    )
 }

@@ -8,9 +8,7 @@ const ROWS: [Row; 11] = [
     Row {
         why: "a program of one unit: the entry stands first, and the slot of main",
         kind: Kind::Program,
-        units: &[
-            ("a.c", "long main(void) { return 0; }"),
-        ],
+        units: &[("a.c", "long main(void) { return 0; }")],
         words: 21,
         slots: &["main"],
         bytes: 8,
@@ -23,8 +21,14 @@ const ROWS: [Row; 11] = [
         why: "three units: functions one after another, calls through slots",
         kind: Kind::Program,
         units: &[
-            ("a.c", "extern long f(long x); long main(void) { return f(1); }"),
-            ("b.c", "extern long g(long x); long f(long x) { return g(x) + 1; }"),
+            (
+                "a.c",
+                "extern long f(long x); long main(void) { return f(1); }",
+            ),
+            (
+                "b.c",
+                "extern long g(long x); long f(long x) { return g(x) + 1; }",
+            ),
             ("c.c", "long g(long x) { return x * 2; }"),
         ],
         words: 71,
@@ -38,9 +42,7 @@ const ROWS: [Row; 11] = [
     Row {
         why: "a library has no entry",
         kind: Kind::Library,
-        units: &[
-            ("a.c", "long f(void) { return 1; }"),
-        ],
+        units: &[("a.c", "long f(void) { return 1; }")],
         words: 15,
         slots: &[],
         bytes: 0,
@@ -52,9 +54,7 @@ const ROWS: [Row; 11] = [
     Row {
         why: "a library may lack main, and may define it with any type",
         kind: Kind::Library,
-        units: &[
-            ("a.c", "void main(void) { }"),
-        ],
+        units: &[("a.c", "void main(void) { }")],
         words: 13,
         slots: &[],
         bytes: 0,
@@ -66,9 +66,10 @@ const ROWS: [Row; 11] = [
     Row {
         why: "a name that may be interposed is reached by its slot, even from its own unit",
         kind: Kind::Library,
-        units: &[
-            ("a.c", "long f(void) { return 1; } long g(void) { return f(); }"),
-        ],
+        units: &[(
+            "a.c",
+            "long f(void) { return 1; } long g(void) { return f(); }",
+        )],
         words: 32,
         slots: &["f"],
         bytes: 8,
@@ -81,8 +82,14 @@ const ROWS: [Row; 11] = [
         why: "static functions of one name in two units are two symbols",
         kind: Kind::Program,
         units: &[
-            ("a.c", "static long f(void) { return 1; } extern long g(void); long main(void) { return f() + g(); }"),
-            ("b.c", "static long f(void) { return 2; } long g(void) { return f(); }"),
+            (
+                "a.c",
+                "static long f(void) { return 1; } extern long g(void); long main(void) { return f() + g(); }",
+            ),
+            (
+                "b.c",
+                "static long f(void) { return 2; } long g(void) { return f(); }",
+            ),
         ],
         words: 76,
         slots: &["main", "g"],
@@ -96,7 +103,10 @@ const ROWS: [Row; 11] = [
         why: "static variables of one name in two units are two symbols and two places",
         kind: Kind::Program,
         units: &[
-            ("a.c", "static long x = 1; extern long g(void); long main(void) { return x + g(); }"),
+            (
+                "a.c",
+                "static long x = 1; extern long g(void); long main(void) { return x + g(); }",
+            ),
             ("b.c", "static long x = 2; long g(void) { return x; }"),
         ],
         words: 46,
@@ -111,7 +121,10 @@ const ROWS: [Row; 11] = [
         why: "a name that is referred to twice, from two units, has one slot",
         kind: Kind::Program,
         units: &[
-            ("a.c", "extern long f(void); long main(void) { return f() + f(); }"),
+            (
+                "a.c",
+                "extern long f(void); long main(void) { return f() + f(); }",
+            ),
             ("b.c", "extern long f(void); long h(void) { return f(); }"),
             ("c.c", "long f(void) { return 1; }"),
         ],
@@ -126,9 +139,10 @@ const ROWS: [Row; 11] = [
     Row {
         why: "slots stand in order of first reference, and not of definition",
         kind: Kind::Library,
-        units: &[
-            ("a.c", "long a; long b; long f(void) { return b; } long g(void) { return a; }"),
-        ],
+        units: &[(
+            "a.c",
+            "long a; long b; long f(void) { return b; } long g(void) { return a; }",
+        )],
         words: 34,
         slots: &["b", "a"],
         bytes: 16,
@@ -156,7 +170,10 @@ const ROWS: [Row; 11] = [
         why: "within each group variables stand in order of units and definition",
         kind: Kind::Library,
         units: &[
-            ("a.c", "static long x[3]; long a = 1; static long y; long b[2] = {2, 3};"),
+            (
+                "a.c",
+                "static long x[3]; long a = 1; static long y; long b[2] = {2, 3};",
+            ),
             ("b.c", "long c[2]; long d = 4;"),
         ],
         words: 0,
