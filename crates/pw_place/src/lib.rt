@@ -5,6 +5,7 @@
 //! that can't be done, the first fault is reported.
 #![tactic(auto)]
 
+mod counts;
 mod data;
 mod defined_names;
 mod definitions;

@@ -10,7 +10,7 @@ use crate::externals::Externals;
 use crate::link_error::{LinkError, What};
 use crate::name_list::NameList;
 use crate::other_texts::{different_names, other_entry};
-use crate::sizes::{elements, text_size};
+use crate::counts::{elements, text_size};
 use pw_base::{Kind, Limits, TypeText};
 use pw_code::Object;
 use pw_tree::Ext;
@@ -35,14 +35,16 @@ fn check_count(what: What, limit: u64, count: u64) -> Result<(), LinkError>
 /// Whether the counts are within their limits.
 fn check_counts(kind: Kind, objects: &[Object], externals: &Externals) -> Result<(), LinkError>
     requires names { externals.now.entries ≡ external_names objects.now }
-    requires elements { refusals.elements objects.now < 2 ^ 64 }
-    requires text { places.text_size kind objects.now < 2 ^ 64 }
     ensures { Passes (count_fault kind objects.now) result }
 {
     check_count(What::Units, Limits::MODULE_UNITS as u64, objects.len() as u64)?;
     check_count(What::Names, Limits::MODULE_NAMES as u64, externals.entries.len() as u64)?;
-    check_count(What::Elements, Limits::MODULE_ELEMENTS, elements(objects))?;
-    check_count(What::TextBytes, Limits::TEXT_BYTES, text_size(kind, objects))
+    check_count(
+        What::Elements,
+        Limits::MODULE_ELEMENTS,
+        elements(objects).ok_or(LinkError::NoMemory)?,
+    )?;
+    check_count(What::TextBytes, Limits::TEXT_BYTES, text_size(kind, objects).ok_or(LinkError::NoMemory)?)
 }
 
 /// The first of the entries whose name is one of these.
@@ -136,8 +138,6 @@ pub(crate) fn check(
     externals: &Externals,
 ) -> Result<(), LinkError>
     requires names { externals.now.entries ≡ external_names objects.now }
-    requires elements { refusals.elements objects.now < 2 ^ 64 }
-    requires text { places.text_size kind objects.now < 2 ^ 64 }
     ensures { Passes (refusals.link_fault kind objects.now) result }
 {
     check_counts(kind, objects, externals)?;

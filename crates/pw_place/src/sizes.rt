@@ -1,9 +1,8 @@
-//! How many bytes and elements the parts of a module have.
-ghost use Rattle.std.specs.Prelude.{◌≡◌, ◌<◌, ◌^◌, if◌then◌else◌, sum_by};
+//! How many bytes and elements the parts of a module have that is within its limits.
+ghost use Rattle.std.specs.Prelude.{◌≡◌, ◌<◌, ◌^◌, if◌then◌else◌};
 ghost use Rattle.pw_code.specs.Objects.{is_initialised};
 ghost use Rattle.pw_tree.specs.WellTypedUnits as units;
 ghost use Rattle.pw_place.specs.Places as places;
-ghost use Rattle.pw_place.specs.Refusals as refusals;
 ghost use Rattle.pw_place.specs.Sizes as sizes;
 
 use pw_base::Kind;
@@ -17,7 +16,7 @@ const WORD_BYTES: u64 = 4;
 const ELEMENT_BYTES: u64 = 8;
 
 /// The bytes of an item.
-fn item_bytes(item: &Item) -> u64
+pub(crate) fn item_bytes(item: &Item) -> u64
     ensures { result ≡ sizes.item_bytes item.now }
 {
     match item {
@@ -38,18 +37,6 @@ pub(crate) fn function_bytes(f: &FunCode) -> u64
     bytes
 }
 
-/// The bytes of functions.
-fn functions_bytes(funs: &[FunCode]) -> u64
-    requires { sum_by sizes.function_bytes funs.now < 2 ^ 64 }
-    ensures { result ≡ sum_by sizes.function_bytes funs.now }
-{
-    let mut bytes = 0;
-    for f in funs {
-        bytes += function_bytes(f);
-    }
-    bytes
-}
-
 /// The bytes of the entry.
 pub(crate) fn entry_bytes(kind: Kind) -> u64
     ensures { result ≡ sizes.code_bytes (sizes.entry_items kind) }
@@ -60,18 +47,6 @@ pub(crate) fn entry_bytes(kind: Kind) -> u64
     }
 }
 
-/// The bytes of all text.
-pub(crate) fn text_size(kind: Kind, objects: &[Object]) -> u64
-    requires { places.text_size kind objects.now < 2 ^ 64 }
-    ensures { result ≡ places.text_size kind objects.now }
-{
-    let mut bytes = entry_bytes(kind);
-    for object in objects {
-        bytes += functions_bytes(object.funs.as_slice());
-    }
-    bytes
-}
-
 /// How many elements a variable has.
 pub(crate) fn room(x: &TVar) -> u64
     ensures { result ≡ units.room x.now.count }
@@ -80,30 +55,6 @@ pub(crate) fn room(x: &TVar) -> u64
         None => 1,
         Some(size) => u64::from(size),
     }
-}
-
-/// The elements of variables.
-fn elements_of(vars: &[TVar]) -> u64
-    requires { sum_by (λ x. units.room x.count) vars.now < 2 ^ 64 }
-    ensures { result ≡ sum_by (λ x. units.room x.count) vars.now }
-{
-    let mut count = 0;
-    for x in vars {
-        count += room(x);
-    }
-    count
-}
-
-/// The elements of all variables.
-pub(crate) fn elements(objects: &[Object]) -> u64
-    requires { refusals.elements objects.now < 2 ^ 64 }
-    ensures { result ≡ refusals.elements objects.now }
-{
-    let mut count = 0;
-    for object in objects {
-        count += elements_of(object.vars.as_slice());
-    }
-    count
 }
 
 /// The bytes of a variable that has an initialiser.

@@ -2,7 +2,7 @@
 use Rattle.std.proofs.Common.{◌≡◌, ◌+◌, take, sum_by}
 use Rattle.pw_place.specs.Sizes.{code_bytes, entry_items, function_bytes}
 use Rattle.pw_place.specs.Places.{functions}
-use Rattle.pw_place.proofs.sizes.text_size.Given as goal
+use Rattle.pw_place.proofs.counts.text_size.Given as goal
 
 abbrev pub invariant-loop-object : goal.invariant-loop-object
 invariant-loop-object l =
