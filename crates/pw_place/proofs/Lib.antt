@@ -22,3 +22,8 @@ pub mod VariableParts
 pub mod Bounds
 pub mod FoundPlaces
 pub mod FewSymbols
+pub mod DefinedTwice
+pub mod Found
+pub mod DifferentNames
+pub mod Faults
+pub mod FaultFree

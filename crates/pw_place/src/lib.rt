@@ -12,6 +12,7 @@ mod definitions;
 mod distance;
 mod externals;
 mod link_error;
+mod merging;
 mod name_kinds;
 mod name_list;
 mod other_texts;
@@ -31,4 +32,5 @@ mod variable_text;
 
 pub use distance::hi_lo;
 pub use link_error::{LinkError, What};
+pub use merging::merge;
 pub use placed::Placed;

@@ -1,5 +1,5 @@
 //! Names to which units give different types.
-ghost use Rattle.std.specs.Prelude.{◌≡◌, [], ◌<◌, ◌^◌, length, find, fold, OnOk, IfOk, option_copied};
+ghost use Rattle.std.specs.Prelude.{◌≡◌, [], ◌<◌, ◌^◌, length, find, fold, bytes_eq, OnOk, IfOk, option_copied};
 ghost use Rattle.pw_place.specs.Refusals as refusals;
 ghost use Rattle.pw_place.specs.Steps.OtherTexts as steps;
 
@@ -10,13 +10,20 @@ use pw_code::Object;
 use pw_tree::Ext;
 use std::alloc::Global;
 
+/// Whether two entries have one text.
+fn has_text(first: &Ext, n: &Ext) -> bool
+    ensures { result ≡ bytes_eq first.now.text n.now.text }
+{
+    first.text.bytes() == n.text.bytes()
+}
+
 /// Whether an entry has another text than the first of its name.
 fn differs(externals: &Externals, n: &Ext) -> bool
     requires { length externals.now.entries < 2 ^ 32 }
     ensures { result ≡ steps.differs externals.now.entries n.now }
 {
     match externals.entries.get(externals.number(n.name.bytes()) as usize) {
-        Some(first) => first.text.bytes() != n.text.bytes(),
+        Some(first) => !has_text(first, n),
         None => false,
     }
 }

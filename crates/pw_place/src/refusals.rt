@@ -1,9 +1,10 @@
 //! The first fault of a link.
-ghost use Rattle.std.specs.Prelude.{◌≡◌, ◌<◌, ◌≤◌, ◌^◌, length, option_copied};
+ghost use Rattle.std.specs.Prelude.{◌≡◌, ◌<◌, ◌^◌, length, find, bytes_eq, option_copied};
+ghost use Rattle.std.specs.Option.{option_or};
 ghost use Rattle.pw_place.specs.Names.{external_names};
 ghost use Rattle.pw_place.specs.Places as places;
 ghost use Rattle.pw_place.specs.Refusals as refusals;
-ghost use Rattle.pw_place.specs.Steps.Passing.{Passes, count_fault, first_among, duplicate_among, main_lacks, main_differs};
+ghost use Rattle.pw_place.specs.Steps.Passing.{Passes, count_fault, definitions_fault, names_fault, first_among, duplicate_among, main_lacks, main_differs};
 
 use crate::defined_names::{DefinedNames, defined_names};
 use crate::externals::Externals;
@@ -117,17 +118,57 @@ fn check_main_text(alloc: Global, text: &TypeText) -> Result<(), LinkError>
     Err(LinkError::MainType(text.copy(alloc)?))
 }
 
+/// The entry of `main` among these.
+fn main_among(entries: &[Ext]) -> Option<&Ext>
+    ensures { option_copied result ≡ find (λ n. bytes_eq n.name refusals.main_name) entries.now }
+{
+    entries.iter().find(|n| n.name.bytes() == MAIN)
+}
+
 /// Whether a program's `main` has its type.
 fn check_main_type(alloc: Global, kind: Kind, externals: &Externals) -> Result<(), LinkError>
     ensures { Passes (main_differs kind externals.now.entries) result }
 {
     match kind {
-        Kind::Program => match externals.entries.as_slice().iter().find(|n| n.name.bytes() == MAIN) {
+        Kind::Program => match main_among(externals.entries.as_slice()) {
             Some(n) => check_main_text(alloc, &n.text),
             None => Ok(()),
         },
         Kind::Library => Ok(()),
     }
+}
+
+/// Whether names, of which these are defined, are right: the faults after the counts.
+fn check_names(
+    alloc: Global,
+    kind: Kind,
+    objects: &[Object],
+    externals: &Externals,
+    names: &DefinedNames,
+) -> Result<(), LinkError>
+    requires externals { externals.now.entries ≡ external_names objects.now }
+    requires few { length externals.now.entries < 2 ^ 32 }
+    ensures { Passes (names_fault kind objects.now externals.now.entries names.now) result }
+{
+    check_duplicates(alloc, externals, names)?;
+    check_types(alloc, objects, externals)?;
+    check_main(kind, names)?;
+    check_main_type(alloc, kind, externals)
+}
+
+/// Whether definitions and types are right: the faults after the counts.
+fn check_definitions(
+    alloc: Global,
+    kind: Kind,
+    objects: &[Object],
+    externals: &Externals,
+) -> Result<(), LinkError>
+    requires externals { externals.now.entries ≡ external_names objects.now }
+    requires few { length externals.now.entries < 2 ^ 32 }
+    ensures { Passes (definitions_fault kind objects.now) result }
+{
+    let names = defined_names(alloc, objects)?;
+    check_names(alloc, kind, objects, externals, &names)
 }
 
 /// Whether these objects, which have these external names, make a module; else the first fault.
@@ -138,12 +179,8 @@ pub(crate) fn check(
     externals: &Externals,
 ) -> Result<(), LinkError>
     requires names { externals.now.entries ≡ external_names objects.now }
-    ensures { Passes (refusals.link_fault kind objects.now) result }
+    ensures { Passes (option_or (count_fault kind objects.now) (definitions_fault kind objects.now)) result }
 {
     check_counts(kind, objects, externals)?;
-    let names = defined_names(alloc, objects)?;
-    check_duplicates(alloc, externals, &names)?;
-    check_types(alloc, objects, externals)?;
-    check_main(kind, &names)?;
-    check_main_type(alloc, kind, externals)
+    check_definitions(alloc, kind, objects, externals)
 }

@@ -10,7 +10,8 @@ use Rattle.pw_tree.specs.WellTypedExpressions.{text_named}
 use Rattle.pw_code.specs.declared.object.Object.{Object}
 use Rattle.pw_place.specs.Names.{external_names}
 use Rattle.pw_place.specs.Places.{text_size}
-use Rattle.pw_place.specs.Refusals.{above, elements, main_name, wrong_text}
+use Rattle.pw_place.specs.Refusals.{above, elements, main_name, wrong_text, duplicate, type_differs, no_main, main_type}
+use Rattle.pw_place.specs.declared.defined_names.DefinedNames.{DefinedNames}
 use Rattle.pw_place.specs.declared.link_error.What.TheVariants.{Units, Names, Elements, TextBytes}
 use Rattle.pw_place.specs.declared.link_error.LinkError.{LinkError}
 use Rattle.pw_place.specs.declared.link_error.LinkError.TheVariants.{TooMany, Duplicate, TypeDiffers, NoMain, MainType, NoMemory}
@@ -48,3 +49,14 @@ main_lacks Library all = None
 abbrev pub main_differs : Kind → List Ext → Option LinkError
 main_differs Program entries = option_and_then wrong_text (text_named main_name entries)
 main_differs Library entries = None
+
+-- The first fault of definitions and types, where these are the external names and the defined ones.
+abbrev pub names_fault : Kind → List Object → List Ext → DefinedNames → Option LinkError
+names_fault kind objects entries names =
+    option_or (duplicate_among names.twice entries)
+    (option_or (type_differs objects) (option_or (main_lacks kind names.all) (main_differs kind entries)))
+
+-- The same, of objects.
+abbrev pub definitions_fault : Kind → List Object → Option LinkError
+definitions_fault kind objects =
+    option_or (duplicate objects) (option_or (type_differs objects) (option_or (no_main kind objects) (main_type kind objects)))
