@@ -11,12 +11,13 @@ use Rattle.pw_code.specs.declared.object.Object.{Object}
 use Rattle.pw_place.specs.Names.{external_names, definitions_of}
 use Rattle.pw_place.specs.Refusals.{first_some, above, elements, duplicate, type_differs, no_main, main_type, main_name, link_fault}
 use Rattle.pw_place.specs.Steps.DefinedNames.{AreDefinedNames}
-use Rattle.pw_place.specs.Steps.Passing.{count_fault, definitions_fault, names_fault, duplicate_among, main_lacks, main_differs}
+use Rattle.pw_place.specs.Merging.{Merges}
+use Rattle.pw_place.specs.Steps.Passing.{Passes, count_fault, definitions_fault, names_fault, duplicate_among, main_lacks, main_differs}
 use Rattle.pw_place.specs.Steps.WithinLimits.{IsWithinLimits}
 use Rattle.pw_place.specs.declared.defined_names.DefinedNames.{DefinedNames}
 use Rattle.pw_place.specs.declared.link_error.What.{What}
 use Rattle.pw_place.specs.declared.link_error.LinkError.{LinkError}
-use Rattle.pw_place.specs.declared.link_error.LinkError.TheVariants.{NoMain, Duplicate}
+use Rattle.pw_place.specs.declared.link_error.LinkError.TheVariants.{TooMany, Duplicate, TypeDiffers, NoMain, MainType, NoMemory}
 
 or_none : {A : Type 0} (a : Option A) → option_or a None ≡ a
 or_none None = refl
@@ -52,3 +53,12 @@ names_fault_is kind objects entries names e are =
     let lacks = lacks_main kind objects names are in
     let differs = ap (main_differs kind) e ∙ differs_main kind objects in
     (λ i. option_or (twice i) (option_or (type_differs objects) (option_or (lacks i) (differs i))))
+
+-- A fault of the link is what a merge answers.
+pub merges_not : (Y : Type 0) (kind : Kind) (objects : List Object) (e : LinkError) → Passes {Y = Y} (link_fault kind objects) (Err e) → Merges kind objects (Err e)
+merges_not Y kind objects (TooMany what count) fault = fault
+merges_not Y kind objects (Duplicate name) fault = fault
+merges_not Y kind objects (TypeDiffers name first other) fault = fault
+merges_not Y kind objects NoMain fault = fault
+merges_not Y kind objects (MainType text) fault = fault
+merges_not Y kind objects NoMemory fault = tt

@@ -13,6 +13,15 @@ cut_at [] i x h = cc
 cut_at (y ∷ xs) zero x h = let same : y ≡ x = cc in ap (λ z. z ∷ xs) same
 cut_at (y ∷ xs) (suc i) x h = ap (λ zs. y ∷ zs) (cut_at xs i x h)
 
+-- what stands before the next item, and the item itself
+taken_more : {X : Type 0} (xs : List X) (i : ℕ) (x : X) → slice_get xs i ≡ Some x → take (suc i) xs ≡ take i xs ++ x ∷ []
+taken_more [] i x h = cc
+taken_more (y ∷ xs) zero x h = let same : y ≡ x = cc in ap (λ z. z ∷ []) same
+taken_more (y ∷ xs) (suc i) x h = ap (λ zs. y ∷ zs) (taken_more xs i x h)
+
+pub take_got : {X : Type 0} (xs : List X) (i : ℕ) (x : X) → slice_get xs i ≡ Some x → take (i + 1) xs ≡ take i xs ++ x ∷ []
+take_got xs i x h = rw add-one (taken_more xs i x h)
+
 -- The first elements with their numbers, and one more.
 numbered_more : {X : Type 0} (n : ℕ) (xs : List X) (i : ℕ) (x : X) → slice_get xs i ≡ Some x
     → enumerate_from n (take (suc i) xs) ≡ enumerate_from n (take i xs) ++ (n + i, x) ∷ []
