@@ -22,3 +22,4 @@ pub mod VariableParts
 pub mod Bounds
 pub mod FoundPlaces
 pub mod FewSymbols
+pub mod FaultFree
