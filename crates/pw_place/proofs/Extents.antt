@@ -27,7 +27,8 @@ use Rattle.pw_place.proofs.Numbered.{cut_at, cut_inside}
 -- A definition of a unit among those of all units.
 in_unit : {A : Type 0} (of : Object → List A) (objects : List Object) (unit i : ℕ) (a : A)
     → slice_get (option_map_or of (slice_get objects unit) []) i ≡ Some a
-    → (after : List A) × (flat_map of objects ≡ (flat_map of (take unit objects) ++ take i (option_map_or of (slice_get objects unit) [])) ++ (a ∷ after))
+    → (after : List A)
+    × (flat_map of objects ≡ (flat_map of (take unit objects) ++ take i (option_map_or of (slice_get objects unit) [])) ++ (a ∷ after))
 in_unit of objects unit i a there = by of objects unit i a (slice_get objects unit) refl there
   where
     by : {A : Type 0} (of : Object → List A) (objects : List Object) (unit i : ℕ) (a : A) (r : Option Object) → slice_get objects unit ≡ r
