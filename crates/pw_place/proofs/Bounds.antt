@@ -1,21 +1,19 @@
 -- Within the limits all places have room in numbers of 32 bits.
-use Rattle.std.proofs.Common.{◌≡◌, ℕ, ◌+◌, ◌*◌, ◌<◌, ◌≤◌, Bool, not, List, [], ◌∷◌, ◌++◌, length, take, filter, get_or, flat_map, fold, sum_by, Option, Some, None, slice_get, refl, sym, ap, ◌∙◌, subst, arith}
+use Rattle.std.proofs.Common.{◌≡◌, ℕ, ◌+◌, ◌*◌, ◌≤◌, Bool, not, List, [], ◌∷◌, ◌++◌, length, take, flat_map, sum_by, Option, Some, None, slice_get, refl, sym, subst, arith}
 use Rattle.std.specs.Option.{option_map_or}
 use Rattle.std.proofs.lemmas.List.{length-append}
 use Rattle.std.proofs.lemmas.Option.{slice_get_within, get_or_from_slice_get}
 use Rattle.std.proofs.lemmas.List.Sums.{sum_by-append, sum_by-cons, sum_by-take-le, count_by-le-length, length-filter}
 use Rattle.std.specs.Str.{bytes_eq}
 use Rattle.pw_base.specs.declared.kinds.Kind.{Kind}
-use Rattle.pw_tree.specs.declared.ty.Ref.{Ref}
 use Rattle.pw_tree.specs.declared.ty.Ref.TheVariants.{Global, LocalFun, LocalVar}
 use Rattle.pw_code.specs.declared.item.Item.{Item}
 use Rattle.pw_code.specs.declared.item.Item.TheVariants.{Word, Addr}
 use Rattle.pw_code.specs.declared.object.Object.{Object}
 use Rattle.pw_place.specs.Names.{first_of_each}
 use Rattle.pw_place.specs.Sizes.{code_bytes, item_bytes, function_bytes, entry_items}
-use Rattle.pw_place.specs.Places.{functions, variables, functions_in, variables_in, functions_before, variables_before, names_in_item, text_items, text_size, slot_names, slots_size, initialised_size, uninitialised_size, function_start, variable_start, target}
+use Rattle.pw_place.specs.Places.{functions, variables, variables_before, names_in_item, text_items, text_size, slots_size, initialised_size, uninitialised_size, function_start, variable_start}
 use Rattle.pw_place.specs.Steps.WithinLimits.{IsWithinLimits}
-use Rattle.pw_place.specs.Steps.PlaceLists.{IsPlacedRef}
 use Rattle.pw_place.proofs.Sums.{sum_flat, parts_le}
 use Rattle.pw_place.proofs.VariableParts.{initialised_part, other_part, initialised_is, others_are, groups_are}
 

@@ -1,7 +1,6 @@
 -- The first name that has another text beside its first one.
-use Rattle.std.proofs.Common.{◌≡◌, ℕ, Bool, true, false, cond, not, ◌&&◌, ◌||◌, if◌then◌else◌, List, [], ◌∷◌, ◌++◌, map, filter, fold, flat_map, find, bytes_eq, slice_get, Option, Some, None, is_some, option_map, option_and_then, refl, sym, ap, subst, ◌∙◌, true≢false}
-use Rattle.std.specs.Bool.{⊤}
-use Rattle.std.specs.List.{list_any, AllByRecursion, IsDistinct, position_or_len}
+use Rattle.std.proofs.Common.{◌≡◌, ℕ, Bool, true, false, cond, not, ◌&&◌, ◌||◌, if◌then◌else◌, List, [], ◌∷◌, map, filter, fold, find, bytes_eq, Option, Some, None, is_some, option_map, option_and_then, refl, sym, ap, subst, ◌∙◌}
+use Rattle.std.specs.List.{list_any, AllByRecursion, IsDistinct}
 use Rattle.std.specs.Option.{option_or, option_map_or}
 use Rattle.std.specs.Cmp.Lexicographic.{bytes_decides, nat_list_eq_equiv}
 use Rattle.std.proofs.Math.Bool.{or-false}
@@ -12,7 +11,6 @@ use Rattle.pw_place.specs.Refusals.{first_some, type_fault, type_differs}
 use Rattle.pw_place.specs.Steps.NameLists.{joined}
 use Rattle.pw_place.specs.Steps.OtherTexts.{is_other, differs, different_joined, unit_different}
 use Rattle.pw_place.specs.Steps.Passing.{first_among}
-use Rattle.pw_place.specs.declared.link_error.LinkError.{LinkError}
 use Rattle.pw_place.specs.declared.link_error.LinkError.TheVariants.{TypeDiffers}
 use Rattle.pw_place.proofs.DefinedTwice.{any_joined}
 use Rattle.pw_place.proofs.Found.{get_found, found_any, found_same}

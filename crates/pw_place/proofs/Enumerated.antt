@@ -1,7 +1,7 @@
 -- Lists that are made of another's items, each with its number.
-use Rattle.std.proofs.Common.{◌≡◌, ℕ, zero, suc, ◌+◌, ◌<◌, List, [], ◌∷◌, ◌++◌, length, map, take, fold, Option, Some, None, slice_get, slice_index, option_map, refl, sym, ap, ◌∙◌, subst, add-zero, add-one, arith}
+use Rattle.std.proofs.Common.{◌≡◌, ℕ, zero, suc, ◌+◌, ◌<◌, List, [], ◌∷◌, ◌++◌, length, map, take, fold, Some, slice_get, slice_index, option_map, refl, sym, ap, ◌∙◌, subst, add-zero, arith}
 use Rattle.std.specs.List.{enumerate_from}
-use Rattle.std.proofs.lemmas.List.{append-nil, append_assoc, length-append}
+use Rattle.std.proofs.lemmas.List.{append_assoc, length-append}
 use Rattle.std.proofs.lemmas.List.Sums.{fold_push}
 use Rattle.std.proofs.Math.Seq.{take-append_seam}
 use Rattle.pw_place.specs.Steps.Running.{running}

@@ -1,5 +1,5 @@
 -- How far functions, slots and variables reach.
-use Rattle.std.proofs.Common.{◌≡◌, ℕ, zero, suc, ◌+◌, ◌*◌, ◌<◌, ◌≤◌, Bool, true, false, cond, List, [], ◌∷◌, ◌++◌, length, take, drop, filter, refl, sym, ◌∙◌, ap, subst, arith, zero-add, Option, Some, None, length-append}
+use Rattle.std.proofs.Common.{◌≡◌, ℕ, suc, ◌+◌, ◌*◌, ◌≤◌, Bool, true, false, cond, List, [], ◌∷◌, ◌++◌, length, take, drop, filter, refl, sym, ◌∙◌, ap, arith, zero-add, Option, Some, None, length-append}
 use Rattle.std.specs.Prelude.{slice_get, flat_map, sum_by, bytes_eq, not}
 use Rattle.std.specs.Option.{is_none, is_some, option_map_or}
 use Rattle.std.proofs.lemmas.List.Sums.{sum_by-append, sum_by-cons}
@@ -20,7 +20,7 @@ use Rattle.pw_code.specs.Objects.{is_initialised, is_uninitialised}
 use Rattle.pw_code.specs.Soundness.{IsSound, IsSoundVariable}
 use Rattle.pw_place.specs.Names.{first_of_each}
 use Rattle.pw_place.specs.Sizes.{item_bytes, code_bytes, function_bytes, variable_bytes, entry_items}
-use Rattle.pw_place.specs.Places.{functions, variables, functions_in, variables_in, functions_before, variables_before, function_start, text_size, variable_start, names_in_item, text_items, slot_names, slots_size, initialised_size, uninitialised_size}
+use Rattle.pw_place.specs.Places.{functions, variables, functions_in, variables_in, functions_before, variables_before, function_start, text_size, variable_start, names_in_item, text_items, slots_size, initialised_size, uninitialised_size}
 use Rattle.pw_place.specs.Refusals.{elements}
 use Rattle.pw_place.proofs.Numbered.{cut_at, cut_inside}
 

@@ -1,14 +1,13 @@
 -- A link without a fault is within the limits.
-use Rattle.std.proofs.Common.{◌≡◌, ℕ, ◌≤◌, Bool, true, false, cond, List, [], ◌∷◌, length, refl, Option, Some, None}
+use Rattle.std.proofs.Common.{◌≡◌, ℕ, ◌≤◌, Bool, true, false, cond, List, ◌∷◌, length, refl, Option, Some, None}
 use Rattle.std.specs.Prelude.{nat_lt}
-use Rattle.std.specs.Option.{option_or}
 use Rattle.std.proofs.lemmas.Bool.{ltb-false}
 use Rattle.pw_base.specs.Limits.{module_units, module_names, module_elements, text_bytes}
 use Rattle.pw_base.specs.declared.kinds.Kind.{Kind}
 use Rattle.pw_code.specs.declared.object.Object.{Object}
 use Rattle.pw_place.specs.Names.{external_names}
 use Rattle.pw_place.specs.Places.{text_size}
-use Rattle.pw_place.specs.Refusals.{first_some, above, elements, duplicate, type_differs, no_main, main_type, link_fault}
+use Rattle.pw_place.specs.Refusals.{first_some, above, elements, link_fault}
 use Rattle.pw_place.specs.declared.link_error.What.{What}
 use Rattle.pw_place.specs.declared.link_error.What.TheVariants.{Units, Names, Elements, TextBytes}
 use Rattle.pw_place.specs.declared.link_error.LinkError.TheVariants.{TooMany}

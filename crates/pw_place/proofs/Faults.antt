@@ -1,21 +1,18 @@
 -- The faults of a link in parts, and together.
-use Rattle.std.proofs.Common.{rules, ◌≡◌, ℕ, ◌<◌, ◌≤◌, Bool, true, false, if◌then◌else◌, List, length, find, map, bytes_eq, nat_eq, nat_lt, Option, Some, None, option_map, Result, Ok, Err, is_some, true≢false, refl, sym, ap, subst, ◌∙◌, arith}
+use Rattle.std.proofs.Common.{rules, ◌≡◌, ℕ, Bool, true, false, if◌then◌else◌, List, find, bytes_eq, nat_eq, nat_lt, Option, Some, None, option_map, Err, refl, ap, ◌∙◌, arith}
 use Rattle.std.specs.List.{list_any}
 use Rattle.std.specs.Option.{option_or}
 use Rattle.std.proofs.lemmas.Bool.Decides.{nat_tests}
-use Rattle.std.proofs.lemmas.Bool.{ltb-false}
 use Rattle.pw_base.specs.declared.kinds.Kind.{Kind}
 use Rattle.pw_base.specs.declared.kinds.Kind.TheVariants.{Program, Library}
 use Rattle.pw_tree.specs.declared.tunit.Ext.{Ext}
 use Rattle.pw_code.specs.declared.object.Object.{Object}
 use Rattle.pw_place.specs.Names.{external_names, definitions_of}
-use Rattle.pw_place.specs.Refusals.{first_some, above, elements, duplicate, type_differs, no_main, main_type, main_name, link_fault}
+use Rattle.pw_place.specs.Refusals.{first_some, duplicate, type_differs, no_main, main_type, main_name, link_fault}
 use Rattle.pw_place.specs.Steps.DefinedNames.{AreDefinedNames}
 use Rattle.pw_place.specs.Merging.{Merges}
 use Rattle.pw_place.specs.Steps.Passing.{Passes, count_fault, definitions_fault, names_fault, duplicate_among, main_lacks, main_differs}
-use Rattle.pw_place.specs.Steps.WithinLimits.{IsWithinLimits}
 use Rattle.pw_place.specs.declared.defined_names.DefinedNames.{DefinedNames}
-use Rattle.pw_place.specs.declared.link_error.What.{What}
 use Rattle.pw_place.specs.declared.link_error.LinkError.{LinkError}
 use Rattle.pw_place.specs.declared.link_error.LinkError.TheVariants.{TooMany, Duplicate, TypeDiffers, NoMain, MainType, NoMemory}
 
@@ -49,7 +46,7 @@ pub names_fault_is : (kind : Kind) (objects : List Object) (entries : List Ext) 
     → AreDefinedNames objects names → names_fault kind objects entries names ≡ definitions_fault kind objects
 names_fault_is kind objects entries names e are =
     let twice : duplicate_among names.twice entries ≡ duplicate objects =
-        ap (duplicate_among names.twice) e ∙ (λ i. option_map (λ n. Duplicate n.name) (find (λ n. are.more n.name i) (external_names objects))) in
+    ap (duplicate_among names.twice) e ∙ (λ i. option_map (λ n. Duplicate n.name) (find (λ n. are.more n.name i) (external_names objects))) in
     let lacks = lacks_main kind objects names are in
     let differs = ap (main_differs kind) e ∙ differs_main kind objects in
     (λ i. option_or (twice i) (option_or (type_differs objects) (option_or (lacks i) (differs i))))

@@ -1,6 +1,6 @@
 -- Sound objects within the limits have few definitions: a function takes a word at least, and a variable an element.
-use Rattle.std.proofs.Common.{◌≡◌, ℕ, ◌+◌, ◌*◌, ◌^◌, ◌<◌, ◌≤◌, List, [], ◌∷◌, length, Option, Some, None, cond, not, arith}
-use Rattle.std.specs.Prelude.{sum_by, count_by}
+use Rattle.std.proofs.Common.{ℕ, ◌+◌, ◌*◌, ◌^◌, ◌<◌, ◌≤◌, List, [], ◌∷◌, length, Option, Some, None, arith}
+use Rattle.std.specs.Prelude.{sum_by}
 use Rattle.std.specs.List.{AllByRecursion}
 use Rattle.std.proofs.lemmas.List.Sums.{sum_by-cons, sum_by-append, sum_by-le-sum_by, count_by-le-length}
 use Rattle.pw_base.specs.declared.kinds.Kind.{Kind}
@@ -15,7 +15,7 @@ use Rattle.pw_code.specs.Soundness.{IsSound, IsSoundFunction, IsSoundVariable}
 use Rattle.pw_place.specs.Sizes.{item_bytes, code_bytes, function_bytes}
 use Rattle.pw_place.specs.Places.{functions, variables}
 use Rattle.pw_place.specs.Refusals.{elements}
-use Rattle.pw_place.specs.Symbols.{static_functions, static_variables, static_definitions}
+use Rattle.pw_place.specs.Symbols.{static_definitions}
 use Rattle.pw_place.specs.Steps.WithinLimits.{IsWithinLimits}
 use Rattle.pw_place.specs.Steps.NumberLists.{is_static_function, is_static_variable, static_in, definitions_in, all_definitions}
 

@@ -1,15 +1,12 @@
 -- Names that join one after another are the first of each.
-use Rattle.std.proofs.Common.{◌≡◌, ℕ, List, [], ◌∷◌, ◌++◌, fold, flat_map, refl, sym, ap, ◌∙◌}
-use Rattle.std.specs.Str.{bytes_eq}
+use Rattle.std.proofs.Common.{◌≡◌, List, [], ◌++◌, fold, flat_map, sym, ◌∙◌}
 use Rattle.std.proofs.lemmas.List.Sums.{fold-append}
-use Rattle.std.proofs.lemmas.Grind.{flat_map-append}
 use Rattle.pw_base.specs.declared.kinds.Kind.{Kind}
-use Rattle.pw_tree.specs.declared.tunit.Ext.{Ext}
 use Rattle.pw_code.specs.declared.object.Object.{Object}
 use Rattle.pw_place.specs.Names.{external_names}
 use Rattle.pw_place.specs.Places.{functions, names_in_item, slot_names}
 use Rattle.pw_place.specs.Sizes.{entry_items}
-use Rattle.pw_place.specs.Steps.NameLists.{joined, all_joined, item_joined, code_joined, function_joined, object_joined}
+use Rattle.pw_place.specs.Steps.NameLists.{joined, item_joined, code_joined, function_joined, object_joined}
 use Rattle.pw_place.specs.Steps.ExternalLists.{entry_joined, unit_joined}
 use Rattle.pw_place.proofs.Joined.{fold_flat, all_joined_are_first}
 

@@ -1,6 +1,6 @@
 -- What names stand for, as definitions are met one after another.
-use Rattle.std.proofs.Common.{◌≡◌, ℕ, zero, suc, ◌+◌, ◌<◌, Bool, true, false, not, ◌&&◌, cond, List, [], ◌∷◌, ◌++◌, map, replicate, length, Option, Some, None, refl, sym, ap, subst, ◌∙◌, arith, bytes_eq}
-use Rattle.std.specs.Prelude.{find, filter, slice_get, slice_set, option_map}
+use Rattle.std.proofs.Common.{◌≡◌, ℕ, zero, suc, ◌+◌, ◌<◌, Bool, true, false, not, ◌&&◌, cond, List, [], ◌∷◌, ◌++◌, map, replicate, length, Option, Some, None, refl, sym, ap, ◌∙◌, arith, bytes_eq}
+use Rattle.std.specs.Prelude.{find, slice_get, slice_set, option_map}
 use Rattle.std.specs.List.{AllByRecursion, IsDistinct, position_or_len}
 use Rattle.std.specs.Option.{option_or, option_map_or, is_none}
 use Rattle.std.specs.Cmp.Lexicographic.{same_text}
@@ -9,7 +9,6 @@ use Rattle.std.proofs.lemmas.Option.{slice_get_within}
 use Rattle.pw_tree.specs.declared.tunit.Ext.{Ext}
 use Rattle.pw_module.specs.declared.symbol.Symbol.{Symbol}
 use Rattle.pw_module.specs.declared.symbol.SymKind.{SymKind}
-use Rattle.pw_place.specs.Names.{first_of_each, same_name, declared_names, external_names}
 use Rattle.pw_place.specs.Steps.NameKinds.{defines, kind_among, kinds_among, met_at, is_unknown_at, symbol_met}
 
 -- ---- a kind that is set

@@ -4,7 +4,6 @@ use Rattle.std.specs.Prelude.{slice_get, flat_map}
 use Rattle.std.specs.List.{enumerate_from, AllByRecursion}
 use Rattle.std.proofs.lemmas.Option.{slice_get_read}
 use Rattle.std.proofs.lemmas.Grind.{flat_map-append}
-use Rattle.std.proofs.lemmas.List.Concat.{flat_map-cons}
 use Rattle.std.proofs.lemmas.List.{append-nil, map-append}
 
 -- A list, cut around the element at a place.

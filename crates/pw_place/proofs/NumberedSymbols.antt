@@ -1,11 +1,9 @@
 -- The numbers of static definitions stand in their lists.
-use Rattle.std.proofs.Common.{◌≡◌, ℕ, zero, suc, ◌+◌, ◌<◌, ◌≤◌, Bool, cond, List, [], ◌∷◌, length, take, Option, Some, None, refl, sym, ap, subst, ◌∙◌, arith}
-use Rattle.std.specs.Prelude.{slice_get, slice_index, count_by, sum_by}
+use Rattle.std.proofs.Common.{◌≡◌, ℕ, zero, suc, ◌+◌, ◌<◌, Bool, cond, List, [], ◌∷◌, length, take, Option, Some, None, refl, sym, ap, subst, ◌∙◌, arith}
+use Rattle.std.specs.Prelude.{slice_get, slice_index, count_by}
 use Rattle.std.specs.Option.{option_map, option_map_or}
 use Rattle.std.proofs.lemmas.List.Sums.{sum_by-cons}
 use Rattle.pw_base.specs.declared.kinds.Kind.{Kind}
-use Rattle.pw_tree.specs.declared.tunit.TVar.{TVar}
-use Rattle.pw_code.specs.declared.object.FunCode.{FunCode}
 use Rattle.pw_code.specs.declared.object.Object.{Object}
 use Rattle.pw_place.specs.Places.{functions_in, variables_in}
 use Rattle.pw_place.specs.Symbols.{first_static, static_functions, static_variables, static_definitions, static_function_number, static_variable_number}

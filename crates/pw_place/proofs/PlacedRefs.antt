@@ -1,8 +1,8 @@
 -- What sound objects refer to has a place.
-use Rattle.std.proofs.Common.{◌≡◌, ℕ, zero, suc, ◌+◌, ◌<◌, Bool, true, false, List, [], ◌∷◌, length, refl, subst, zero-add, Option, Some, None}
+use Rattle.std.proofs.Common.{◌≡◌, ℕ, ◌+◌, ◌<◌, Bool, true, false, List, [], ◌∷◌, length, refl, zero-add, Option, Some, None}
 use Rattle.std.specs.Prelude.{slice_get, option_map, flat_map}
 use Rattle.std.specs.List.{AllByRecursion, enumerate_from}
-use Rattle.std.specs.Option.{option_map_or, unwrap_or}
+use Rattle.std.specs.Option.{unwrap_or}
 use Rattle.std.proofs.lemmas.Option.{slice_get_within}
 use Rattle.pw_base.specs.declared.kinds.Kind.{Kind}
 use Rattle.pw_tree.specs.declared.ty.Ref.{Ref}
@@ -17,7 +17,7 @@ use Rattle.pw_code.specs.declared.object.Object.{Object}
 use Rattle.pw_code.specs.Soundness.{IsSound, IsSoundItem, IsSoundFunction, IsSoundVariable, IsSoundElement, IsFullInitialiser, IsKnownRef, IsFunctionRef, IsStaticFunction, IsStaticVariable}
 use Rattle.pw_place.specs.Places.{functions_in, variables_in, variable_start}
 use Rattle.pw_place.specs.Symbols.{ref_of_variable}
-use Rattle.pw_place.specs.Contents.{Pointer, values_of, pointers_in_element, pointers_in_values, pointers_in_variable, pointers_in_unit, pointers}
+use Rattle.pw_place.specs.Contents.{pointers_in_element, pointers_in_values, pointers_in_variable, pointers_in_unit, pointers}
 use Rattle.pw_place.specs.Steps.PlaceLists.{IsPlacedRef}
 use Rattle.pw_place.specs.Steps.PlacedItems.{IsPlacedItem, IsPlacedFunction}
 use Rattle.pw_place.specs.Steps.PointerPlaces.{IsPlacedPointer}

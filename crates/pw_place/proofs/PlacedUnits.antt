@@ -1,5 +1,5 @@
 -- Definitions that are placed one after another stand at their places.
-use Rattle.std.proofs.Common.{◌≡◌, ℕ, ◌+◌, ◌*◌, Bool, true, false, if◌then◌else◌, List, [], ◌∷◌, ◌++◌, map, take, fold, sum_by, Option, Some, None, slice_get, refl, sym, ap, ◌∙◌, subst, arith}
+use Rattle.std.proofs.Common.{◌≡◌, ℕ, ◌+◌, Bool, true, if◌then◌else◌, List, [], ◌++◌, map, take, fold, sum_by, Some, slice_get, sym, ap, ◌∙◌, arith}
 use Rattle.std.specs.Option.{option_map_or}
 use Rattle.std.specs.List.{enumerate_from}
 use Rattle.std.proofs.lemmas.List.Sums.{sum_by-append}
@@ -8,11 +8,10 @@ use Rattle.pw_tree.specs.declared.tunit.TVar.{TVar}
 use Rattle.pw_code.specs.declared.object.FunCode.{FunCode}
 use Rattle.pw_code.specs.declared.object.Object.{Object}
 use Rattle.pw_code.specs.Objects.{is_initialised}
-use Rattle.pw_place.specs.Sizes.{code_bytes, function_bytes, entry_items}
-use Rattle.pw_place.specs.Places.{functions, variables, functions_in, variables_in, functions_before, variables_before, initialised_size, uninitialised_size, slots_size, function_start, variable_start}
+use Rattle.pw_place.specs.Sizes.{function_bytes}
+use Rattle.pw_place.specs.Places.{functions, variables, functions_in, variables_in, variables_before, initialised_size, uninitialised_size, slots_size, function_start, variable_start}
 use Rattle.pw_place.specs.Steps.PlaceLists.{unit_places, all_places}
 use Rattle.pw_place.specs.Steps.Running.{running, function_place, after_function, variable_place, after_variable, after_functions, places_of_unit, after_unit, first_places}
-use Rattle.pw_place.specs.declared.places.UnitPlaces.{UnitPlaces}
 use Rattle.pw_place.specs.declared.placing.Next.{Next}
 use Rattle.pw_place.proofs.Enumerated.{seen_at, all_seen, same_each}
 use Rattle.pw_place.proofs.VariableParts.{initialised_part, other_part, initialised_is, others_are}

@@ -1,6 +1,6 @@
 -- What code refers to is within reach of it.
-use Rattle.std.proofs.Common.{◌≡◌, ℕ, zero, suc, ◌+◌, ◌*◌, ◌<◌, ◌≤◌, ◌^◌, Bool, true, false, cond, List, [], ◌∷◌, length, get_or, refl, ap, subst, arith, pos, negsuc, w32, Some}
-use Rattle.std.specs.Prelude.{ℤ, not, ◌-ℤ◌, ◌+ℤ◌, bytes_eq, slice_get}
+use Rattle.std.proofs.Common.{◌≡◌, ℕ, zero, suc, ◌+◌, ◌*◌, ◌<◌, ◌≤◌, ◌^◌, Bool, List, [], ◌∷◌, length, refl, arith, pos, w32, Some}
+use Rattle.std.specs.Prelude.{not, ◌-ℤ◌, ◌+ℤ◌, bytes_eq, slice_get}
 use Rattle.std.specs.List.{position_or_len}
 use Rattle.std.proofs.lemmas.Int.{ints, fits_signed_from_abs}
 use Rattle.std.proofs.lemmas.List.Sums.{prefix_len-le-length}

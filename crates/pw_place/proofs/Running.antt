@@ -1,13 +1,11 @@
 -- Places that follow one another: one more item, and where the next ones stand.
-use Rattle.std.proofs.Common.{◌≡◌, ℕ, ◌+◌, ◌*◌, ◌<◌, ◌≤◌, Bool, true, false, not, cond, if◌then◌else◌, List, [], ◌∷◌, ◌++◌, length, take, filter, get_or, flat_map, fold, sum_by, Option, Some, None, is_some, refl, sym, ap, ◌∙◌, subst, arith}
-use Rattle.std.specs.Option.{is_none}
+use Rattle.std.proofs.Common.{◌≡◌, ℕ, ◌+◌, ◌<◌, ◌≤◌, Bool, true, false, if◌then◌else◌, List, [], ◌∷◌, ◌++◌, length, take, get_or, fold, sum_by, refl, sym, ap, ◌∙◌, subst, arith}
 use Rattle.std.proofs.lemmas.List.{take_more}
 use Rattle.std.proofs.lemmas.List.Sums.{fold_push, sum_by-append, sum_by-cons, sum_by_more_le}
 use Rattle.pw_tree.specs.declared.tunit.TVar.{TVar}
-use Rattle.pw_tree.specs.declared.tunit.Init.{Init}
 use Rattle.pw_code.specs.declared.object.FunCode.{FunCode}
 use Rattle.pw_code.specs.declared.object.Object.{Object}
-use Rattle.pw_code.specs.Objects.{is_initialised, is_uninitialised}
+use Rattle.pw_code.specs.Objects.{is_initialised}
 use Rattle.pw_place.specs.Sizes.{function_bytes, variable_bytes}
 use Rattle.pw_place.specs.Places.{functions, variables, initialised_size, uninitialised_size}
 use Rattle.pw_place.specs.Steps.Running.{running, after_function, after_variable, after_functions, after_unit}

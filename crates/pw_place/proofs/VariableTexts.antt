@@ -4,7 +4,7 @@ use Rattle.std.specs.Prelude.{decimal}
 use Rattle.std.proofs.lemmas.Bool.{or_right}
 use Rattle.std.proofs.lemmas.Bool.Decides.{nat_tests}
 use Rattle.pw_base.specs.Limits.{parameters}
-use Rattle.pw_base.specs.TypeText.{is_value_letter, is_type_letter, IsTypeText, IsTypeTextOrEmpty}
+use Rattle.pw_base.specs.TypeText.{is_value_letter, is_type_letter, IsTypeTextOrEmpty}
 use Rattle.pw_tree.specs.declared.ty.Ty.{Ty}
 use Rattle.pw_tree.specs.declared.ty.Ty.TheVariants.{Void, Long, Ulong, Fn}
 use Rattle.pw_tree.specs.Types.{IsValueType, IsArraySize}

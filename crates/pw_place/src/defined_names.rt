@@ -42,11 +42,7 @@ fn define_functions(
 }
 
 /// The names of variables are.
-fn define_variables(
-    alloc: Global,
-    vars: &[TVar],
-    names: &mut DefinedNames,
-) -> Result<(), NoMemory>
+fn define_variables(alloc: Global, vars: &[TVar], names: &mut DefinedNames) -> Result<(), NoMemory>
     ensures { OnOk result (names.new ≡ fold steps.variable_defined names.old vars.now) }
 {
     for x in vars {

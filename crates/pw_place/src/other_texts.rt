@@ -22,7 +22,10 @@ fn differs(externals: &Externals, n: &Ext) -> bool
     requires { length externals.now.entries < 2 ^ 32 }
     ensures { result ≡ steps.differs externals.now.entries n.now }
 {
-    match externals.entries.get(externals.number(n.name.bytes()) as usize) {
+    match externals
+        .entries
+        .get(externals.number(n.name.bytes()) as usize)
+    {
         Some(first) => !has_text(first, n),
         None => false,
     }

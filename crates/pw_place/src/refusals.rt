@@ -6,12 +6,12 @@ ghost use Rattle.pw_place.specs.Places as places;
 ghost use Rattle.pw_place.specs.Refusals as refusals;
 ghost use Rattle.pw_place.specs.Steps.Passing.{Passes, count_fault, definitions_fault, names_fault, first_among, duplicate_among, main_lacks, main_differs};
 
+use crate::counts::{elements, text_size};
 use crate::defined_names::{DefinedNames, defined_names};
 use crate::externals::Externals;
 use crate::link_error::{LinkError, What};
 use crate::name_list::NameList;
 use crate::other_texts::{different_names, other_entry};
-use crate::counts::{elements, text_size};
 use pw_base::{Kind, Limits, TypeText};
 use pw_code::Object;
 use pw_tree::Ext;
@@ -38,14 +38,26 @@ fn check_counts(kind: Kind, objects: &[Object], externals: &Externals) -> Result
     requires names { externals.now.entries ≡ external_names objects.now }
     ensures { Passes (count_fault kind objects.now) result }
 {
-    check_count(What::Units, Limits::MODULE_UNITS as u64, objects.len() as u64)?;
-    check_count(What::Names, Limits::MODULE_NAMES as u64, externals.entries.len() as u64)?;
+    check_count(
+        What::Units,
+        Limits::MODULE_UNITS as u64,
+        objects.len() as u64,
+    )?;
+    check_count(
+        What::Names,
+        Limits::MODULE_NAMES as u64,
+        externals.entries.len() as u64,
+    )?;
     check_count(
         What::Elements,
         Limits::MODULE_ELEMENTS,
         elements(objects).ok_or(LinkError::NoMemory)?,
     )?;
-    check_count(What::TextBytes, Limits::TEXT_BYTES, text_size(kind, objects).ok_or(LinkError::NoMemory)?)
+    check_count(
+        What::TextBytes,
+        Limits::TEXT_BYTES,
+        text_size(kind, objects).ok_or(LinkError::NoMemory)?,
+    )
 }
 
 /// The first of the entries whose name is one of these.
@@ -56,7 +68,11 @@ fn first_among<'a>(names: &NameList, entries: &'a [Ext]) -> Option<&'a Ext>
 }
 
 /// Whether no name is defined twice.
-fn check_duplicates(alloc: Global, externals: &Externals, names: &DefinedNames) -> Result<(), LinkError>
+fn check_duplicates(
+    alloc: Global,
+    externals: &Externals,
+    names: &DefinedNames,
+) -> Result<(), LinkError>
     ensures { Passes (duplicate_among names.now.twice externals.now.entries) result }
 {
     match first_among(&names.twice, externals.entries.as_slice()) {

@@ -1,5 +1,5 @@
 -- The names that are defined, and those that are defined more than once.
-use Rattle.std.specs.Prelude.{◌≡◌, ℕ, Bool, if◌then◌else◌, List, [], fold, count_by, bytes_eq, nat_lt}
+use Rattle.std.specs.Prelude.{◌≡◌, ℕ, if◌then◌else◌, List, [], fold, bytes_eq, nat_lt}
 use Rattle.std.specs.List.{list_any}
 use Rattle.pw_tree.specs.declared.tunit.TVar.{TVar}
 use Rattle.pw_code.specs.declared.object.FunCode.{FunCode}

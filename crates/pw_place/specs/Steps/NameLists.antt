@@ -1,7 +1,6 @@
 -- Names that join a list, each once.
 use Rattle.std.specs.Prelude.{ℕ, if◌then◌else◌, List, [], ◌∷◌, ◌++◌, fold, bytes_eq}
 use Rattle.std.specs.List.{list_any}
-use Rattle.pw_tree.specs.declared.tunit.Ext.{Ext}
 use Rattle.pw_code.specs.declared.item.Item.{Item}
 use Rattle.pw_code.specs.declared.object.FunCode.{FunCode}
 use Rattle.pw_code.specs.declared.object.Object.{Object}

@@ -4,9 +4,7 @@ use Rattle.std.specs.List.{enumerate_from}
 use Rattle.pw_base.specs.declared.kinds.Kind.{Kind}
 use Rattle.pw_tree.specs.declared.ty.Ref.{Ref}
 use Rattle.pw_tree.specs.declared.ty.Ref.TheVariants.{Global, LocalFun, LocalVar}
-use Rattle.pw_tree.specs.declared.tunit.TVar.{TVar}
 use Rattle.pw_tree.specs.declared.tunit.Ext.{Ext}
-use Rattle.pw_code.specs.declared.object.FunCode.{FunCode}
 use Rattle.pw_code.specs.declared.object.Object.{Object}
 use Rattle.pw_place.specs.Names.{external_names}
 use Rattle.pw_place.specs.Places.{functions_in, variables_in, function_start, variable_start, slot_names}

@@ -1,5 +1,5 @@
 -- Pointers as the code has them.
-use Rattle.std.specs.Prelude.{ℕ, ◌<◌, List, length}
+use Rattle.std.specs.Prelude.{◌<◌, List, length}
 use Rattle.pw_code.specs.declared.object.Object.{Object}
 use Rattle.pw_place.specs.Contents.{Pointer}
 use Rattle.pw_place.specs.Steps.PlaceLists.{IsPlacedRef}

@@ -1,5 +1,5 @@
 -- Objects that have no more than a module may have.
-use Rattle.std.specs.Prelude.{ℕ, ◌≤◌, List, length}
+use Rattle.std.specs.Prelude.{◌≤◌, List, length}
 use Rattle.pw_base.specs.Limits.{module_units, module_names, module_elements, text_bytes}
 use Rattle.pw_base.specs.declared.kinds.Kind.{Kind}
 use Rattle.pw_code.specs.declared.object.Object.{Object}

@@ -1,5 +1,5 @@
 -- The elements so far and those of the next object are within all.
-use Rattle.std.proofs.Common.{◌≡◌, sum_by, ap, arith}
+use Rattle.std.proofs.Common.{sum_by, ap, arith}
 use Rattle.pw_tree.specs.WellTypedUnits.{room}
 use Rattle.pw_place.proofs.Sums.{parts_le}
 use Rattle.pw_place.proofs.counts.elements.Goals as goal

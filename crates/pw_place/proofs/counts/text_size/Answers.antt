@@ -1,5 +1,5 @@
 -- The bytes so far and those of the next object are within all.
-use Rattle.std.proofs.Common.{◌≡◌, sum_by, ap, arith}
+use Rattle.std.proofs.Common.{sum_by, ap, arith}
 use Rattle.pw_place.specs.Sizes.{function_bytes}
 use Rattle.pw_place.proofs.Sums.{parts_le}
 use Rattle.pw_place.proofs.counts.text_size.Goals as goal

@@ -1,5 +1,5 @@
 -- The names of the objects so far are defined.
-use Rattle.std.proofs.Common.{◌≡◌, [], take, fold}
+use Rattle.std.proofs.Common.{◌≡◌, take, fold}
 use Rattle.pw_place.specs.Steps.DefinedNames.{unit_defined, no_names}
 use Rattle.pw_place.proofs.defined_names.defined_names.Given as goal
 

@@ -1,5 +1,5 @@
 -- What is not known is set, and nothing else.
-use Rattle.std.proofs.Common.{◌≡◌, ◌∙◌, ap, sym, true, false, subst}
+use Rattle.std.proofs.Common.{◌∙◌, ap, sym}
 use Rattle.pw_place.specs.Steps.NameKinds.{is_unknown_at}
 use Rattle.pw_place.proofs.NamedKinds.{unknown_within, unknown_is_set, known_is_kept}
 use Rattle.pw_place.proofs.name_kinds.meet.Goals as goal

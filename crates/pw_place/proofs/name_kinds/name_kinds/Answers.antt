@@ -1,5 +1,5 @@
 -- One more definition is met.
-use Rattle.std.proofs.Common.{◌≡◌, ◌∙◌, ◌++◌, ◌∷◌, [], take, sym, ap, None, replicate}
+use Rattle.std.proofs.Common.{◌∙◌, ◌++◌, ◌∷◌, [], take, sym, ap, None, replicate}
 use Rattle.std.proofs.lemmas.List.{take_more}
 use Rattle.pw_place.specs.Steps.NameKinds.{kinds_among, symbol_met}
 use Rattle.pw_place.proofs.NamedKinds.{symbol_is_met, nothing_known}

@@ -1,5 +1,5 @@
 -- The first unit that has an entry with another text has the first one.
-use Rattle.std.proofs.Common.{◌≡◌, ◌+◌, ◌∙◌, ap, sym, find, drop}
+use Rattle.std.proofs.Common.{◌+◌, ◌∙◌, ap, sym, find, drop}
 use Rattle.std.specs.Option.{option_or}
 use Rattle.pw_place.specs.Names.{declared_names}
 use Rattle.pw_place.specs.Steps.OtherTexts.{is_other}

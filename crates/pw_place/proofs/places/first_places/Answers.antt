@@ -1,5 +1,5 @@
 -- The places have room in the numbers.
-use Rattle.std.proofs.Common.{◌≡◌, ap, length, arith}
+use Rattle.std.proofs.Common.{ap, length, arith}
 use Rattle.pw_place.proofs.Bounds.{have_room}
 use Rattle.pw_place.proofs.places.first_places.Goals as goal
 

@@ -1,5 +1,5 @@
 -- The lists that were made are those of the places.
-use Rattle.std.proofs.Common.{◌≡◌, ◌∙◌, ap, arith}
+use Rattle.std.proofs.Common.{◌∙◌, ap, arith}
 use Rattle.pw_place.specs.Steps.Running.{running, places_of_unit, after_unit}
 use Rattle.pw_place.proofs.Bounds.{have_room}
 use Rattle.pw_place.proofs.PlacedUnits.{all_placed}

@@ -1,7 +1,7 @@
 -- One more unit is placed, and the next one stands after it.
-use Rattle.std.proofs.Common.{◌≡◌, ◌++◌, [], ◌∷◌, sym, ap, ◌∙◌, take, fold, arith}
+use Rattle.std.proofs.Common.{◌++◌, [], ◌∷◌, sym, ap, ◌∙◌, take, arith}
 use Rattle.pw_place.specs.Sizes.{function_bytes}
-use Rattle.pw_place.specs.Places.{functions, variables}
+use Rattle.pw_place.specs.Places.{variables}
 use Rattle.pw_place.specs.Steps.Running.{places_of_unit, after_unit}
 use Rattle.pw_place.proofs.Running.{running_more, after_more, units_passed}
 use Rattle.pw_place.proofs.VariableParts.{initialised_part, other_part, initialised_is, others_are}

@@ -1,5 +1,5 @@
 -- One more function is placed, and the next one stands after it.
-use Rattle.std.proofs.Common.{◌≡◌, ◌+◌, ◌++◌, [], ◌∷◌, sym, ap, ◌∙◌, take, fold, arith}
+use Rattle.std.proofs.Common.{◌+◌, ◌++◌, [], ◌∷◌, sym, ap, ◌∙◌, take, arith}
 use Rattle.std.proofs.lemmas.List.Sums.{sum_by_more_le}
 use Rattle.pw_place.specs.Sizes.{function_bytes}
 use Rattle.pw_place.specs.Steps.Running.{function_place, after_function}

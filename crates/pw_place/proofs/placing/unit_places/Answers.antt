@@ -1,7 +1,6 @@
 -- The functions take no room of the variables.
-use Rattle.std.proofs.Common.{◌≡◌, ◌+◌, ◌<◌, ◌^◌, ap, sym, ◌∙◌, subst, arith}
+use Rattle.std.proofs.Common.{ap, ◌∙◌, arith}
 use Rattle.pw_place.specs.Places.{initialised_size, uninitialised_size}
-use Rattle.pw_place.specs.Steps.Running.{after_function}
 use Rattle.pw_place.proofs.Running.{functions_passed}
 use Rattle.pw_place.proofs.placing.unit_places.Goals as goal
 

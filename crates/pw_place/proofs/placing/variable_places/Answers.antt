@@ -1,5 +1,5 @@
 -- One more variable is placed, and the next ones stand after it.
-use Rattle.std.proofs.Common.{◌≡◌, ◌++◌, [], ◌∷◌, sym, ap, ◌∙◌, ◌^◌}
+use Rattle.std.proofs.Common.{◌++◌, [], ◌∷◌, sym, ap, ◌∙◌, ◌^◌}
 use Rattle.pw_place.specs.Steps.Running.{variable_place, after_variable}
 use Rattle.pw_place.proofs.Running.{running_more, after_more, room_for}
 use Rattle.pw_place.proofs.placing.variable_places.Goals as goal

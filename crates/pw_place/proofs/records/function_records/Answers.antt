@@ -1,5 +1,5 @@
 -- The records of one more unit are appended.
-use Rattle.std.proofs.Common.{◌≡◌, ◌∙◌, ◌++◌, ap, sym, map, length, refl}
+use Rattle.std.proofs.Common.{◌∙◌, ◌++◌, ap, map}
 use Rattle.std.specs.List.{enumerate_from}
 use Rattle.pw_code.specs.Soundness.{IsSound}
 use Rattle.pw_place.specs.Tables.{entry_records, unit_records, function_record}

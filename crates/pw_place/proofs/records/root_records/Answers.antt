@@ -1,5 +1,5 @@
 -- The record of one more pointer is appended.
-use Rattle.std.proofs.Common.{◌∙◌, [], ◌∷◌, ◌++◌, ap, refl}
+use Rattle.std.proofs.Common.{◌∙◌, [], ◌∷◌, ◌++◌, ap}
 use Rattle.pw_place.specs.Tables.{root_record}
 use Rattle.pw_place.specs.Steps.PointerPlaces.{pointer_of, IsPlacedPointer}
 use Rattle.pw_place.proofs.MappedItems.{seen_step, all_seen_so}

@@ -1,5 +1,5 @@
 -- The faults of the names that are defined are those of the objects.
-use Rattle.std.proofs.Common.{sym, subst}
+use Rattle.std.proofs.Common.{subst}
 use Rattle.pw_place.specs.Steps.Passing.{Passes}
 use Rattle.pw_place.proofs.Faults.{names_fault_is}
 use Rattle.pw_place.proofs.refusals.check_definitions.Goals as goal

@@ -1,5 +1,5 @@
 -- The bytes so far and those of the next object are within all.
-use Rattle.std.proofs.Common.{◌≡◌, sum_by, ap, sym, ◌∙◌, arith}
+use Rattle.std.proofs.Common.{sum_by, ap, sym, ◌∙◌, arith}
 use Rattle.std.proofs.lemmas.List.{take_all}
 use Rattle.pw_place.specs.Places.{variables, initialised_size}
 use Rattle.pw_place.proofs.Sums.{parts_le, parts_more}

@@ -1,5 +1,5 @@
 -- The bytes so far and those of the next variable are within all.
-use Rattle.std.proofs.Common.{◌≡◌, sum_by, ap, sym, ◌∙◌, arith}
+use Rattle.std.proofs.Common.{sum_by, ap, sym, ◌∙◌, arith}
 use Rattle.std.proofs.lemmas.List.{take_all}
 use Rattle.std.proofs.lemmas.List.Sums.{sum_by_more_le}
 use Rattle.pw_place.proofs.VariableParts.{initialised_part, initialised_is}

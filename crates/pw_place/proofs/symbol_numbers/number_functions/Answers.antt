@@ -1,5 +1,5 @@
 -- The next number is no more than the first one and all functions.
-use Rattle.std.proofs.Common.{◌+◌, ◌<◌, take, length, arith}
+use Rattle.std.proofs.Common.{take, arith}
 use Rattle.std.proofs.lemmas.List.{length-take}
 use Rattle.std.proofs.lemmas.List.Sums.{count_by-le-length}
 use Rattle.pw_place.specs.Steps.NumberLists.{is_static_function}

@@ -1,6 +1,6 @@
 -- The numbers so far, with the unit's definitions, are no more than all.
-use Rattle.std.proofs.Common.{◌+◌, ◌<◌, take, get_or, length, ap, sym, arith}
-use Rattle.std.proofs.lemmas.List.Sums.{sum_by_more_le_part, sum_by-le-sum_by}
+use Rattle.std.proofs.Common.{ap, arith}
+use Rattle.std.proofs.lemmas.List.Sums.{sum_by_more_le_part}
 use Rattle.pw_place.specs.Steps.NumberLists.{static_in, definitions_in}
 use Rattle.pw_place.proofs.FewDefinitions.{static_among}
 use Rattle.pw_place.proofs.symbol_numbers.number_units.Goals as goal

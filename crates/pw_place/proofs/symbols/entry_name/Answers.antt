@@ -1,5 +1,5 @@
 -- These bytes are a name.
-use Rattle.std.proofs.Common.{◌≡◌, ◌∙◌, true, false, true≢false, subst, sym, Option, Ok, List, ℕ}
+use Rattle.std.proofs.Common.{◌≡◌, ◌∙◌, false, true≢false, subst, sym, Option, Ok, List, ℕ}
 use Rattle.std.specs.Prelude.{codes}
 use Rattle.pw_base.specs.Tests.{is_name, ReadsWhere}
 use Rattle.pw_place.proofs.AllSymbols.{entry_is_named}

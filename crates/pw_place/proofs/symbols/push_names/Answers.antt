@@ -1,5 +1,5 @@
 -- The symbol of one more name is appended.
-use Rattle.std.proofs.Common.{◌∙◌, [], ◌∷◌, ◌++◌, Some, true, refl}
+use Rattle.std.proofs.Common.{◌∙◌, [], ◌∷◌, ◌++◌, Some, true}
 use Rattle.pw_place.specs.Steps.ExternalSymbols.{symbol_of_name}
 use Rattle.pw_place.proofs.MappedItems.{mapped_step}
 use Rattle.pw_place.proofs.symbols.push_names.Goals as goal

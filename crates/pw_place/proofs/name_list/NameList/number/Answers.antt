@@ -1,5 +1,5 @@
 -- The answers to the goals of `NameList::number` in `src/name_list.rt`.
-use Rattle.std.proofs.Common.{◌∙◌, sym, ap, length, ◌<◌, ◌^◌, ◌≡◌, arith}
+use Rattle.std.proofs.Common.{◌∙◌, sym, ap}
 use Rattle.std.specs.List.{position_or_len}
 use Rattle.std.specs.Str.{bytes_eq}
 use Rattle.pw_place.proofs.NameKeys.{bytes, placed, lacking}

@@ -1,5 +1,5 @@
 -- The place stands in the list of the unit's.
-use Rattle.std.proofs.Common.{◌≡◌, ◌∙◌, ap, sym, slice_index}
+use Rattle.std.proofs.Common.{◌∙◌, ap, slice_index}
 use Rattle.pw_place.proofs.FoundPlaces.{function_found, no_function}
 use Rattle.pw_place.proofs.places.Places.function_start.Goals as goal
 

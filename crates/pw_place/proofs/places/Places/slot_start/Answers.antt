@@ -1,6 +1,5 @@
 -- The slots have room in the numbers.
-use Rattle.std.proofs.Common.{◌≡◌, ◌*◌, ◌∙◌, ap, sym, length, not, arith}
-use Rattle.std.specs.List.{position_or_len}
+use Rattle.std.proofs.Common.{ap, length, not, arith}
 use Rattle.std.specs.Str.{bytes_eq}
 use Rattle.std.proofs.lemmas.List.Sums.{prefix_len-le-length}
 use Rattle.pw_place.proofs.Bounds.{have_room}

@@ -1,5 +1,5 @@
 -- The places have room in the numbers.
-use Rattle.std.proofs.Common.{◌≡◌, ◌*◌, ◌∙◌, ap, sym, length, not, arith}
+use Rattle.std.proofs.Common.{not, arith}
 use Rattle.std.specs.Str.{bytes_eq}
 use Rattle.std.proofs.lemmas.List.Sums.{prefix_len-le-length}
 use Rattle.pw_place.specs.Places.{slot_names}
