@@ -1,7 +1,7 @@
 -- What a module's text and data hold, and which doublewords of the data are addresses.
-use Rattle.std.specs.Prelude.{ℕ, ◌+◌, ◌*◌, ℤ, pos, ◌-ℤ◌, List, [], ◌∷◌, ◌++◌, map, length, replicate, flat_map}
+use Rattle.std.specs.Prelude.{ℕ, ◌+◌, ◌*◌, ℤ, pos, ◌-ℤ◌, List, [], ◌∷◌, ◌++◌, map, flat_map}
 use Rattle.std.specs.List.{enumerate_from}
-use Rattle.std.specs.Option.{option_map_or, unwrap_or}
+use Rattle.std.specs.Option.{unwrap_or}
 use Rattle.pw_base.specs.Field.{field}
 use Rattle.pw_base.specs.Limits.{text_offset, data_offset}
 use Rattle.pw_base.specs.declared.kinds.Kind.{Kind}
@@ -23,7 +23,7 @@ use Rattle.pw_module.specs.declared.relocation.RelocKind.{RelocKind}
 use Rattle.pw_module.specs.declared.relocation.RelocKind.TheVariants.{Sym, Base}
 use Rattle.pw_place.specs.Sizes.{item_bytes, doubleword_bytes, entry_items}
 use Rattle.pw_place.specs.Places.{variables, function_start, slot_names, variable_start, target, uninitialised_size}
-use Rattle.pw_place.specs.Symbols.{external_number, symbol_number, ref_of_variable}
+use Rattle.pw_place.specs.Symbols.{external_number, ref_of_variable}
 
 -- ---- the text
 

@@ -8,3 +8,4 @@ pub mod Contents
 pub mod Tables
 pub mod Refusals
 pub mod Merging
+pub mod Steps

@@ -1,10 +1,7 @@
 -- What objects merge into: the parts of a module, or the first fault of the link.
-use Rattle.std.specs.Prelude.{◌≡◌, ℕ, ◌<◌, ◌^◌, List, length, Result, Ok, Err, Some, None, ⊤}
-use Rattle.std.specs.List.{AllByRecursion}
+use Rattle.std.specs.Prelude.{◌≡◌, List, Result, Ok, Err, Some, None, ⊤}
 use Rattle.pw_base.specs.declared.kinds.Kind.{Kind}
-use Rattle.pw_code.specs.declared.object.FunCode.{FunCode}
 use Rattle.pw_code.specs.declared.object.Object.{Object}
-use Rattle.pw_code.specs.Soundness.{IsSound}
 use Rattle.pw_place.specs.Places.{slot_names}
 use Rattle.pw_place.specs.Symbols.{symbols}
 use Rattle.pw_place.specs.Contents.{text, bytes, zeros, relocations}

@@ -1,5 +1,5 @@
 -- The names with external linkage of a module's units: in which order, with which text, and how often each is defined.
-use Rattle.std.specs.Prelude.{ℕ, Bool, not, List, [], ◌∷◌, ◌++◌, filter, flat_map, count_by, bytes_eq}
+use Rattle.std.specs.Prelude.{ℕ, Bool, not, List, [], ◌∷◌, filter, flat_map, count_by, bytes_eq}
 use Rattle.std.specs.List.{position_or_len}
 use Rattle.pw_tree.specs.declared.tunit.Ext.{Ext}
 use Rattle.pw_code.specs.declared.object.Object.{Object}

@@ -9,7 +9,7 @@ use Rattle.pw_tree.specs.declared.ty.Ref.{Ref}
 use Rattle.pw_tree.specs.declared.ty.Ref.TheVariants.{Global, LocalFun, LocalVar}
 use Rattle.pw_tree.specs.declared.tunit.TVar.{TVar}
 use Rattle.pw_code.specs.declared.item.Item.{Item}
-use Rattle.pw_code.specs.declared.item.Item.TheVariants.{Word, Addr}
+use Rattle.pw_code.specs.declared.item.Item.TheVariants.{Addr}
 use Rattle.pw_code.specs.declared.object.FunCode.{FunCode}
 use Rattle.pw_code.specs.declared.object.Object.{Object}
 use Rattle.pw_code.specs.Objects.{is_initialised, is_uninitialised}

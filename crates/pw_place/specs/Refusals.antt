@@ -1,10 +1,9 @@
 -- Why objects make no module: the first fault of a link.
 use Rattle.std.specs.Prelude.{ℕ, Bool, ◌&&◌, not, if◌then◌else◌, List, [], ◌∷◌, map, length, find, sum_by, codes, bytes_eq, nat_eq, nat_lt, Option, Some, None, option_map, option_and_then}
-use Rattle.std.specs.Option.{option_or, is_some}
+use Rattle.std.specs.Option.{option_or}
 use Rattle.pw_base.specs.Limits.{module_units, module_names, module_elements, text_bytes}
 use Rattle.pw_base.specs.declared.kinds.Kind.{Kind}
 use Rattle.pw_base.specs.declared.kinds.Kind.TheVariants.{Program, Library}
-use Rattle.pw_tree.specs.declared.tunit.TVar.{TVar}
 use Rattle.pw_tree.specs.declared.tunit.Ext.{Ext}
 use Rattle.pw_tree.specs.WellTypedExpressions.{text_named}
 use Rattle.pw_tree.specs.WellTypedUnits.{room}

@@ -1,5 +1,5 @@
 -- The symbols of a module, and their numbers (gABI, "Symbol Table").
-use Rattle.std.specs.Prelude.{ℕ, ◌+◌, Bool, true, false, not, ◌&&◌, if◌then◌else◌, List, [], ◌∷◌, ◌++◌, map, length, take, filter, flat_map, find, sum_by, count_by, bytes_eq, codes, Option, Some, None}
+use Rattle.std.specs.Prelude.{ℕ, ◌+◌, true, false, not, ◌&&◌, if◌then◌else◌, List, [], ◌∷◌, ◌++◌, map, length, take, filter, flat_map, find, sum_by, count_by, bytes_eq, codes, Option, Some, None}
 use Rattle.std.specs.List.{enumerate_from}
 use Rattle.std.specs.Option.{option_map_or}
 use Rattle.pw_base.specs.declared.kinds.Kind.{Kind}

@@ -3,7 +3,6 @@ use Rattle.std.specs.Prelude.{ℕ, List, [], ◌∷◌, ◌++◌, map, flat_map,
 use Rattle.std.specs.List.{enumerate_from}
 use Rattle.pw_base.specs.declared.kinds.Kind.{Kind}
 use Rattle.pw_base.specs.declared.kinds.Kind.TheVariants.{Program, Library}
-use Rattle.pw_tree.specs.declared.ty.Ref.TheVariants.{Global}
 use Rattle.pw_code.specs.declared.object.FunCode.{FunCode}
 use Rattle.pw_code.specs.declared.object.Object.{Object}
 use Rattle.pw_module.specs.declared.symbol.Symbol.{Symbol}

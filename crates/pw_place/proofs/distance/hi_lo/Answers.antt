@@ -1,5 +1,5 @@
 -- The parts are computed without loss.
-use Rattle.std.proofs.Common.{◌≡◌, ap, ◌∙◌, pos, w64}
+use Rattle.std.proofs.Common.{ap, ◌∙◌, pos, w64}
 use Rattle.std.specs.Int.{int_rem_euclid}
 use mir.Val.{SFits}
 use Rattle.pw_place.proofs.Near.{sum_computed, upper_computed, lower_computed, natural}

@@ -1,0 +1,13 @@
+-- A function ends within the text, so its bytes are few.
+use Rattle.std.proofs.Common.{arith}
+use Rattle.pw_place.proofs.Extents.{function_end}
+use Rattle.pw_place.proofs.definitions.function_symbol.Goals as goal
+
+pub function_bytes-requires : goal.function_bytes-requires
+function_bytes-requires c =
+    let places = c.args.places.now in
+    omega (
+      arith,
+      function_end places.kind places.objects.now c.args.unit c.args.i c.args.f.now c.requires,
+      places.placed.limits.text,
+    )
