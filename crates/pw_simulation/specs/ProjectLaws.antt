@@ -12,7 +12,7 @@ use Rattle.pw_simulation.specs.Values.{AreCarried}
 use Rattle.pw_simulation.specs.Sees.{Sees}
 use Rattle.pw_simulation.specs.Bodies.{Body, IsLinked}
 use Rattle.pw_simulation.specs.Programs.{IsRunnable}
-use Rattle.pw_simulation.specs.Projects.{CanRun, KeepsEnough, keeps_all}
+use Rattle.pw_simulation.specs.Projects.{CanRun, KeepsEnough, HoldsKept, keeps_all}
 use Rattle.pw_simulation.specs.ImageWorld.{world_of}
 
 -- The world of a project that can be run, of which enough is kept, shows the project.
@@ -37,11 +37,14 @@ BodiesAreLinked =
 abbrev pub ProjectsAreRunnable : Type 0
 ProjectsAreRunnable = (project : Project) (keep : Keep) → CanRun project → KeepsEnough project keep → IsRunnable (world_of project keep)
 
--- The image of a project that can be run, of which enough is kept, is ready for a run in the project's world: the code is fetched
--- from it, slots and stack are there, and each element of each variable has its initial value.
-pub record StartsReady (project : Project) (keep : Keep) : Type 0 where
-  pub ready : IsReady (world_of project keep) (image project keep)
-  pub variables : AreCarried (world_of project keep) (initial_variables project) (image project keep)
+-- An image of a project is ready for a run in the project's world: the code of the entry and of kept functions is fetched from
+-- it, slots and stack are there, and each element of each variable has its initial value.
+pub record StartsReady (project : Project) (keep in_memory : Keep) : Type 0 where
+  pub ready : IsReady (world_of project keep) (image project in_memory)
+  pub variables : AreCarried (world_of project keep) (initial_variables project) (image project in_memory)
 
+-- The image of a project that can be run, of which enough is kept, is ready, whatever it has in memory beside what is kept.
 abbrev pub ImagesAreReady : Type 0
-ImagesAreReady = (project : Project) (keep : Keep) → CanRun project → KeepsEnough project keep → StartsReady project keep
+ImagesAreReady =
+    (project : Project) (keep in_memory : Keep) → CanRun project → KeepsEnough project keep → HoldsKept keep in_memory →
+    StartsReady project keep in_memory
