@@ -39,6 +39,7 @@ pub mod Elements
 pub mod Addresses
 pub mod ImageCode
 pub mod MoreKept
+pub mod StandApart
 pub mod Slots
 pub mod ImageSees
 pub mod Definitions

@@ -2,12 +2,17 @@
 
 ghost use Rattle.pw_simulation.specs.Encodable.{WellTypedCodeHasWords};
 ghost use Rattle.pw_simulation.specs.ImageRuns.{TheImageRunsAsMeant, TheImageBeginsAsMeant};
-ghost use Rattle.pw_simulation.specs.ProjectLaws.{ImagesAreSeen, KeptIsEnough, AllIsEnough, BodiesAreLinked, ProjectsAreRunnable, ImagesAreReady};
+ghost use Rattle.pw_simulation.specs.ProjectLaws.{ImagesAreSeen, FunctionsStandApart, KeptIsEnough, AllIsEnough, BodiesAreLinked, ProjectsAreRunnable, ImagesAreReady};
 
 /// The world of a project that can be run shows the project, as far as it is kept: each kept function stands at its place, and
 /// no two things have one address.
 pub fn images_are_seen()
     ensures { ImagesAreSeen }
+{}
+
+/// No address lies inside two functions of a project that can be run, nor inside a function and in the entry.
+pub fn functions_stand_apart()
+    ensures { FunctionsStandApart }
 {}
 
 /// It is enough to keep the functions that the roots lead to.
