@@ -1,5 +1,5 @@
 -- Addresses of a project that can be run: its functions, slots and elements stand in the spans of their modules, below the stack.
-use Rattle.std.proofs.Common.{◌≡◌, ℕ, suc, ◌+◌, ◌*◌, ◌<◌, ◌≤◌, true, List, length, Some, refl, sym, ◌∙◌, ap, subst, arith, not, bytes_eq}
+use Rattle.std.proofs.Common.{◌≡◌, ℕ, suc, ◌+◌, ◌-◌, ◌*◌, ◌/◌, ◌<◌, ◌≤◌, true, List, length, Some, refl, sym, ◌∙◌, ap, subst, arith, not, bytes_eq}
 use Rattle.std.specs.List.{list_any}
 use Rattle.pw_base.specs.Limits.{stack_start}
 use Rattle.pw_tree.specs.declared.tunit.TVar.{TVar}
@@ -10,7 +10,7 @@ use Rattle.pw_code.specs.FunctionCode.{function_words}
 use Rattle.pw_agree.specs.Placing.{units_of, base_of, text_of, data_of, words_of_module, function_address, slots_of, slot_address, elements_before, variable_address}
 use Rattle.pw_simulation.specs.Projects.{CanRun}
 use Rattle.pw_simulation.proofs.TwoLevels.{items_differ}
-use Rattle.pw_simulation.proofs.Extents.{unit_is, function_is, variable_is, function_item, address_is, function_ends, first_at_most, found_before}
+use Rattle.pw_simulation.proofs.Extents.{unit_is, function_is, variable_is, function_item, first_words, words_before_function, address_is, function_ends, first_at_most, found_before}
 use Rattle.pw_simulation.proofs.Elements.{definition_at, elements_in, variable_ends, one_definition, IsOneElement, elements_differ}
 
 -- ---- modules
@@ -43,38 +43,57 @@ function_module project d f h = let i = function_is project d f h in (unit_is pr
 pub some_words : (f : Function) → 5 ≤ function_words f
 some_words f = omega arith
 
-differ_in : (project : Project) (m u i v j : ℕ) (f g : Function) → function_at project (definition_at m u i) ≡ Some f → function_at project (definition_at m v j) ≡ Some g
-    → function_address project (definition_at m u i) ≡ function_address project (definition_at m v j) → definition_at m u i ≡ definition_at m v j
-differ_in project m u i v j f g hf hg h =
-    let some_f = some_words f in
-    let some_g = some_words g in
-    let r = items_differ (λ (unit : TypedUnit). unit.functions) function_words (units_of project m) u i v j 0 0 f g (function_item project (definition_at m u i) f (function_is project (definition_at m u i) f hf))
-    (function_item project (definition_at m v j) g (function_is project (definition_at m v j) g hg)) (omega arith) (omega arith)
-    (omega (arith, address_is project (definition_at m u i), address_is project (definition_at m v j))) in
+-- an address inside a function
+abbrev pub LiesIn : Project → Definition → Function → ℕ → Type 0
+LiesIn project d f at = (function_address project d ≤ at) × (at < function_address project d + 4 * function_words f)
+
+one_in : (project : Project) (m u i v j at : ℕ) (f g : Function) → function_at project (definition_at m u i) ≡ Some f → function_at project (definition_at m v j) ≡ Some g
+    → LiesIn project (definition_at m u i) f at → LiesIn project (definition_at m v j) g at → definition_at m u i ≡ definition_at m v j
+one_in project m u i v j at f g hf hg in_f in_g =
+    let from_f = in_f.0 in
+    let to_f = in_f.1 in
+    let from_g = in_g.0 in
+    let to_g = in_g.1 in
+    let start_f = address_is project (definition_at m u i) in
+    let start_g = address_is project (definition_at m v j) in
+    let number : ℕ = (at - text_of m) / 4 - first_words m in
+    let r = items_differ (λ (unit : TypedUnit). unit.functions) function_words (units_of project m) u i v j
+    (number - words_before_function project (definition_at m u i)) (number - words_before_function project (definition_at m v j)) f g (function_item project (definition_at m u i) f (function_is project (definition_at m u i) f hf))
+    (function_item project (definition_at m v j) g (function_is project (definition_at m v j) g hg)) (omega arith) (omega arith) (omega arith) in
     one_definition m u i m v j refl r.lists r.items
 
-differ_by : (project : Project) (m u i n v j : ℕ) (f g : Function) → m ≡ n → function_at project (definition_at m u i) ≡ Some f → function_at project (definition_at n v j) ≡ Some g
-    → function_address project (definition_at m u i) ≡ function_address project (definition_at n v j) → definition_at m u i ≡ definition_at n v j
-differ_by project m u i n v j f g e hf hg h =
-    differ_in project m u i v j f g hf (subst (λ k. function_at project (definition_at k v j) ≡ Some g) (sym e) hg) (h ∙ ap (λ k. function_address project (definition_at k v j)) (sym e))
+one_by : (project : Project) (m u i n v j at : ℕ) (f g : Function) → m ≡ n → function_at project (definition_at m u i) ≡ Some f → function_at project (definition_at n v j) ≡ Some g
+    → LiesIn project (definition_at m u i) f at → LiesIn project (definition_at n v j) g at → definition_at m u i ≡ definition_at n v j
+one_by project m u i n v j at f g e hf hg in_f in_g =
+    one_in project m u i v j at f g hf (subst (λ k. function_at project (definition_at k v j) ≡ Some g) (sym e) hg) in_f (subst (λ k. LiesIn project (definition_at k v j) g at) (sym e) in_g)
     ∙ ap (λ k. definition_at k v j) e
+
+-- an address lies inside one function alone
+pub one_function : (project : Project) → CanRun project → (d e : Definition) (f g : Function) (at : ℕ) → function_at project d ≡ Some f → function_at project e ≡ Some g
+    → LiesIn project d f at → LiesIn project e g at → d ≡ e
+one_function project run d e f g at hd he in_d in_e =
+    let room_d = has_room project run d.in_module (function_module project d f hd) in
+    let room_e = has_room project run e.in_module (function_module project e g he) in
+    let text_d = room_d.text in
+    let text_e = room_e.text in
+    let end_d = function_ends project d f hd in
+    let end_e = function_ends project e g he in
+    let start_d = address_is project d in
+    let start_e = address_is project e in
+    let from_d = in_d.0 in
+    let to_d = in_d.1 in
+    let from_e = in_e.0 in
+    let to_e = in_e.1 in
+    let same : d.in_module ≡ e.in_module = one_module d.in_module e.in_module at (omega arith) (omega arith) (omega arith) (omega arith) in
+    one_by project d.in_module d.in_unit d.number e.in_module e.in_unit e.number at f g same hd he in_d in_e
 
 -- functions that have one address are one
 pub functions_differ : (project : Project) → CanRun project → (d e : Definition) (f g : Function) → function_at project d ≡ Some f → function_at project e ≡ Some g
     → function_address project d ≡ function_address project e → d ≡ e
 functions_differ project run d e f g hd he h =
-    let room_d = has_room project run d.in_module (function_module project d f hd) in
-    let room_e = has_room project run e.in_module (function_module project e g he) in
-    let text_d = room_d.text in
-    let text_e = room_e.text in
     let some_f = some_words f in
     let some_g = some_words g in
-    let end_d = function_ends project d f hd in
-    let end_e = function_ends project e g he in
-    let start_d = address_is project d in
-    let start_e = address_is project e in
-    let same : d.in_module ≡ e.in_module = one_module d.in_module e.in_module (function_address project d) (omega arith) (omega arith) (omega arith) (omega arith) in
-    differ_by project d.in_module d.in_unit d.number e.in_module e.in_unit e.number f g same hd he h
+    one_function project run d e f g (function_address project d) hd he (omega arith, omega arith) (omega arith, omega arith)
 
 -- ---- slots
 

@@ -18,13 +18,14 @@ use Rattle.pw_agree.specs.Image.{text_image, data_image, slots_image, variables_
 use Rattle.pw_agree.specs.Placing.{units_of, function_address, slots_of, slot_address, entity_address, elements_of, variables_of_units}
 use Rattle.pw_simulation.specs.World.{InStack, entity_place}
 use Rattle.pw_simulation.specs.Memories.{Fetches, HasSome, IsReady}
-use Rattle.pw_simulation.specs.Projects.{CanRun}
+use Rattle.pw_simulation.specs.Projects.{CanRun, HoldsKept}
 use Rattle.pw_simulation.specs.ImageWorld.{text_instructions, module_of, code_of, world_of}
 use Rattle.pw_simulation.proofs.Joined.{get_left, length_both, got_below, got_of_map, length_of_map}
 use Rattle.pw_simulation.proofs.Extents.{function_ends, found_before}
 use Rattle.pw_simulation.proofs.Elements.{variable_ends}
 use Rattle.pw_simulation.proofs.Addresses.{has_room, function_module, variable_module}
 use Rattle.pw_simulation.proofs.ImageCode.{length_of_text, code_is}
+use Rattle.pw_simulation.proofs.MoreKept.{stays_in_text}
 use Rattle.pw_simulation.proofs.Slots.{same_bytes}
 use Rattle.pw_simulation.proofs.ImageSees.{code_module, slot_module}
 use Rattle.pw_simulation.proofs.Definitions.{IsReal, definition_is_real}
@@ -33,18 +34,20 @@ use Rattle.pw_simulation.proofs.ImageRegions.{text_fetched, data_there, stack_se
 
 -- ---- text
 
-fetches_code : (project : Project) (keep : Keep) → CanRun project → (at : ℕ) (i : Inst) → code_of project keep at ≡ Some i → Fetches (image project keep) at i
-fetches_code project keep run at i h =
+fetches_code : (project : Project) (keep in_memory : Keep) → CanRun project → HoldsKept keep in_memory → (at : ℕ) (i : Inst) → code_of project keep at ≡ Some i
+    → Fetches (image project in_memory) at i
+fetches_code project keep in_memory run holds at i h =
     let c = code_is project keep at i h in
     let m = module_of at in
     let there = code_module project keep run m c.number i c.there in
-    let s = spelled_at (text_instructions project keep m) (text_image project keep m) (text_spelled project keep run m there) c.number i c.there in
+    let got = stays_in_text project keep in_memory holds m c.number i c.there in
+    let s = spelled_at (text_instructions project in_memory m) (text_image project in_memory m) (text_spelled project in_memory run m there) c.number i got in
     let below = got_below (text_instructions project keep m) c.number (Some i) c.there in
     let fits = word_of_fits i s.1 in
     let word = s.0 in
     record {
       value = word_of i;
-      fetched = ap (Rattle.pw_mem.specs.Memory.fetch (image project keep)) c.place ∙ text_fetched project keep run m c.number there (omega (arith, length_of_text project keep m)) (omega arith) ∙ ap (λ n. Ok n) word;
+      fetched = ap (Rattle.pw_mem.specs.Memory.fetch (image project in_memory)) c.place ∙ text_fetched project in_memory run m c.number there (omega (arith, length_of_text project keep m)) (omega arith) ∙ ap (λ n. Ok n) word;
       reads = decoded-word_of i s.1;
     }
 
@@ -98,9 +101,9 @@ length_of_slots project m = length_of_map (slot_of project) (slots_of project m)
 abbrev pub others : Project → ℕ → ℕ
 others project m = elements_of (variables_of_units Rattle.pw_code.specs.Objects.is_uninitialised (units_of project m))
 
-slot_there : (project : Project) (keep : Keep) → CanRun project → (m : ℕ) (name : List ℕ) → list_any (λ other. bytes_eq other name) (slots_of project m) ≡ true
-    → doubleword (image project keep) (slot_address project m name) ≡ Some (entity_place (world_of project keep) (definition_of project name))
-slot_there project keep run m name has =
+slot_there : (project : Project) (keep in_memory : Keep) → CanRun project → (m : ℕ) (name : List ℕ) → list_any (λ other. bytes_eq other name) (slots_of project m) ≡ true
+    → doubleword (image project in_memory) (slot_address project m name) ≡ Some (entity_place (world_of project keep) (definition_of project name))
+slot_there project keep in_memory run m name has =
     let k : ℕ = prefix_len (λ other. not (bytes_eq other name)) (slots_of project m) in
     let found = first_there (λ other. bytes_eq other name) (slots_of project m) has in
     let same : found.0 ≡ name = same_bytes found.0 name found.2 in
@@ -112,21 +115,21 @@ slot_there project keep run m name has =
     let got : slice_get (data_image project m) k ≡ Some (slot_of project name) =
     get_left (slots ++ variables) (zeros (others project m)) k longer ∙ get_left slots variables k short ∙ got_of_map (slot_of project) (slots_of project m) k
     ∙ ap (option_map (slot_of project)) found.1 ∙ ap (λ n. Some (slot_of project n)) same in
-    data_there project keep run m k (slot_of project name) (slot_module project run m name has) got (meant_is_low project run name (definition_of project name) refl)
+    data_there project in_memory run m k (slot_of project name) (slot_module project run m name has) got (meant_is_low project run name (definition_of project name) refl)
     ∙ ap (λ n. Some n) (sym (place_is project keep (definition_of project name)))
 
 -- ---- the stack
 
-stack_there : (project : Project) (keep : Keep) → CanRun project → (at : ℕ) → InStack (world_of project keep) at → HasSome (image project keep) at
-stack_there project keep run at in_it =
+stack_there : (project : Project) (keep in_memory : Keep) → CanRun project → (at : ℕ) → InStack (world_of project keep) at → HasSome (image project in_memory) at
+stack_there project keep in_memory run at in_it =
     let aligned = in_it.even in
     let even : eqb (at % 8) 0 ≡ true = grind (arith, nat_tests) in
-    record { value = le (bytes_at stack_region at 8); is = rw (even, stack_seen project keep run at in_it.from in_it.to) refl }
+    record { value = le (bytes_at stack_region at 8); is = rw (even, stack_seen project in_memory run at in_it.from in_it.to) refl }
 
-pub image_is_ready : (project : Project) (keep : Keep) → CanRun project → IsReady (world_of project keep) (image project keep)
-image_is_ready project keep run = record {
+pub image_is_ready : (project : Project) (keep in_memory : Keep) → CanRun project → HoldsKept keep in_memory → IsReady (world_of project keep) (image project in_memory)
+image_is_ready project keep in_memory run holds = record {
   sealed = refl;
-  text = λ at i h. fetches_code project keep run at i h;
-  slots = λ m name has. slot_there project keep run m name has;
-  stack = λ at in_it. stack_there project keep run at in_it;
+  text = λ at i h. fetches_code project keep in_memory run holds at i h;
+  slots = λ m name has. slot_there project keep in_memory run m name has;
+  stack = λ at in_it. stack_there project keep in_memory run at in_it;
 }

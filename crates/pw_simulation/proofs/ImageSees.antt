@@ -132,6 +132,11 @@ small_entry : text_of 0 + 4 * size entry_code < 2 ^ 63
 unfolding size
 small_entry = lit< tt
 
+-- the entry ends before the second module
+pub small_entry_words : size entry_code ≤ 1000
+unfolding size
+small_entry_words = Rattle.std.proofs.Common.lit≤ tt
+
 entry_there : (project : Project) (keep : Keep) → CanRun project → HasAt (world_of project keep) 0 0 (text_of 0) entry_code
 entry_there project keep run =
     let w = world_of project keep in

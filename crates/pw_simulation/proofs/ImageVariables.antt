@@ -198,14 +198,15 @@ initial_by project keep run enough d x h i below false p =
 initial_of : (project : Project) (d : Definition) (i : ℕ) (x : TVar) → variable_at project d ≡ Some x → initial_variables project d i ≡ initial_value project d x i
 initial_of project d i x h = ap (λ o. option_map_or (λ (y : TVar). initial_value project d y i) o (value.number 0)) h
 
-pub variables_are_carried : (project : Project) (keep : Keep) → CanRun project → KeepsEnough project keep → AreCarried (world_of project keep) (initial_variables project) (image project keep)
-variables_are_carried project keep run enough d i x is =
+pub variables_are_carried : (project : Project) (keep in_memory : Keep) → CanRun project → KeepsEnough project keep
+    → AreCarried (world_of project keep) (initial_variables project) (image project in_memory)
+variables_are_carried project keep in_memory run enough d i x is =
     let at = element_at project d i x is.there is.below in
     let number = at.is in
     let r = initial_by project keep run enough d x is.there i is.below (is_initialised x) (placed project d x is.there (is_initialised x) refl) in
     let place : variable_address project d + 8 * i ≡ data_of d.in_module + 8 * number_of_element project d i = let a = at.address in omega arith in
     record {
       word = r.word;
-      is = ap (doubleword (image project keep)) place ∙ data_there project keep run d.in_module (number_of_element project d i) r.word (variable_module project d x is.there) r.got r.small;
+      is = ap (doubleword (image project in_memory)) place ∙ data_there project in_memory run d.in_module (number_of_element project d i) r.word (variable_module project d x is.there) r.got r.small;
       represents = subst (λ v. Represents (world_of project keep) (class_of x.ty) v r.word) (sym (initial_of project d i x is.there)) r.represents;
     }

@@ -38,6 +38,8 @@ pub mod Extents
 pub mod Elements
 pub mod Addresses
 pub mod ImageCode
+pub mod MoreKept
+pub mod StandApart
 pub mod Slots
 pub mod ImageSees
 pub mod Definitions

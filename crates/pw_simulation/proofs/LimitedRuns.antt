@@ -1,5 +1,5 @@
 -- A run that stops at its limit is the beginning of each longer run; and what of a sealed memory stays in every run.
-use Rattle.std.proofs.Common.{◌≡◌, ℕ, zero, suc, ◌+◌, ◌-◌, ◌<◌, ◌≤◌, List, [], ◌∷◌, ◌++◌, length, refl, ap, sym, ◌∙◌, arith, append_assoc, append-nil, Ok}
+use Rattle.std.proofs.Common.{◌≡◌, ◌≢◌, ℕ, zero, suc, ◌+◌, ◌-◌, ◌<◌, ◌≤◌, List, [], ◌∷◌, ◌++◌, length, refl, ap, sym, ◌∙◌, arith, append_assoc, append-nil, Ok}
 use Rattle.pw_base.specs.Bytes.{le_bytes}
 use Rattle.pw_mem.specs.Memory.{Mem, store}
 use Rattle.pw_mem.proofs.Writes.{stores_write, shapes_stay, sealed_text_stays}
@@ -8,7 +8,7 @@ use Rattle.pw_hart.specs.declared.ends.End.TheVariants.{Limit}
 use Rattle.pw_hart.specs.State.{MachineState, Next, Goes, Ends}
 use Rattle.pw_hart.specs.Run.{RunResult, run, step, fetching, then}
 use Rattle.pw_simulation.specs.Moments.{Path}
-use Rattle.pw_simulation.specs.AnyRuns.{HasTextOf, SealedTextStaysInRuns, IsBeginningOf, LimitedRunsGoOn}
+use Rattle.pw_simulation.specs.AnyRuns.{HasTextOf, SealedTextStaysInRuns, IsBeginningOf, LimitedRunsGoOn, EndedRunsStay}
 use Rattle.pw_simulation.proofs.Reach.{fetching_all, run_along}
 use Rattle.pw_simulation.proofs.AnyRun.{kept_run, step_ends}
 
@@ -86,6 +86,19 @@ fetched_next k n s below e =
 
 pub limited_runs_go_on : LimitedRunsGoOn
 limited_runs_go_on k n s below e = front_of_longer k n s below e
+
+-- ---- runs that ended
+
+ended_by : (k n : ℕ) → ((u : MachineState) → (run k u).end ≢ Limit → run n u ≡ run k u) → (at : ℕ) (next : Next) → (fetching at (then (run k) next)).end ≢ Limit
+    → fetching at (then (run n) next) ≡ fetching at (then (run k) next)
+ended_by k n again at (Goes u) ended = ap (fetching at) (again u ended)
+ended_by k n again at (Ends end u) ended = refl
+
+-- a run that ended stays as it is
+pub ended_runs_stay : EndedRunsStay
+ended_runs_stay zero n s below ended = absurd (ended refl)
+ended_runs_stay (suc k) zero s below ended = absurd (omega arith)
+ended_runs_stay (suc k) (suc n) s below ended = ended_by k n (λ u e. ended_runs_stay k n u (omega arith) e) s.pc (step s) ended
 
 -- ---- memory
 

@@ -1,5 +1,5 @@
 -- Runs of any length: what of the memory stays, and how a run that was cut short begins each longer one.
-use Rattle.std.specs.Prelude.{◌≡◌, ℕ, ◌+◌, ◌*◌, ◌<◌, ◌≤◌, true, List, ◌++◌, map}
+use Rattle.std.specs.Prelude.{◌≡◌, ◌≢◌, ℕ, ◌+◌, ◌*◌, ◌<◌, ◌≤◌, true, List, ◌++◌, map}
 use Rattle.std.specs.List.{AllByRecursion, filter}
 use Rattle.pw_tree.specs.Meaning.{Run, meaning}
 use Rattle.pw_mem.specs.Memory.{Mem}
@@ -13,7 +13,7 @@ use Rattle.pw_simulation.specs.Programs.{LiesInKeptCode, IsRunnable, IsStart}
 
 -- ---- memory
 
--- A memory has the regions of a sealed one, and the same text in them: only bytes that are no code may differ.
+-- A memory has the regions of another, and the same text in them, so that only bytes that are no code may differ, and it is sealed.
 pub record HasTextOf (old new : Mem) : Type 0 where
   pub shapes : map shape_of new.regions ≡ map shape_of old.regions
   pub text : filter (λ region. region.execute) new.regions ≡ filter (λ region. region.execute) old.regions
@@ -37,6 +37,10 @@ pub record IsBeginningOf (short long : RunResult) : Type 0 where
 -- A run that stops at its limit is the beginning of each longer run.
 abbrev pub LimitedRunsGoOn : Type 0
 LimitedRunsGoOn = (k n : ℕ) (s : MachineState) → k ≤ n → (run k s).end ≡ Limit → IsBeginningOf (run k s) (run n s)
+
+-- A run that ended before its limit is the same whatever longer limit it has.
+abbrev pub EndedRunsStay : Type 0
+EndedRunsStay = (k n : ℕ) (s : MachineState) → k ≤ n → (run k s).end ≢ Limit → run n s ≡ run k s
 
 -- A run that was cut short did a beginning of what the meaning comes to: the output so far is the front of the meaning's, the
 -- input that is left ends with what the meaning leaves, and what was fetched lies in kept code, as does the next instruction.

@@ -1,4 +1,4 @@
--- What a project needs to be run, and what has to be kept of it.
+-- What a project needs to be run, what has to be kept of it, and what has to be in memory.
 use Rattle.std.specs.Prelude.{◌≡◌, ℕ, ◌*◌, ◌<◌, ◌≤◌, true, List, [], length, sum_by, Some, codes}
 use Rattle.std.specs.Option.{is_some}
 use Rattle.pw_base.specs.Limits as limits
@@ -46,6 +46,11 @@ pub record KeepsEnough (project : Project) (keep : Keep) : Type 0 where
   pub main : (g : Definition) → Depends project entry g → keep g ≡ true
   pub pointed : (g : Definition) → IsPointedTo project g → keep g ≡ true
   pub named : (f g : Definition) → keep f ≡ true → Depends project (defined f) g → keep g ≡ true
+
+-- What is in memory has each function that is kept. A piece-wise run has in memory what it keeps; a whole one has all functions in
+-- memory, and yet fetches from those alone that are kept.
+abbrev pub HoldsKept : (keep in_memory : Keep) → Type 0
+HoldsKept keep in_memory = (d : Definition) → keep d ≡ true → in_memory d ≡ true
 
 -- All functions of a project.
 abbrev pub keeps_all : Project → Keep

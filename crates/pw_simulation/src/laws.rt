@@ -1,6 +1,6 @@
 //! The laws of a run, over definitions alone. Each is the contract of a function, which does nothing.
 
-ghost use Rattle.pw_simulation.specs.AnyRuns.{SealedTextStaysInRuns, LimitedRunsGoOn, LimitedRunsAreMeant};
+ghost use Rattle.pw_simulation.specs.AnyRuns.{SealedTextStaysInRuns, LimitedRunsGoOn, EndedRunsStay, LimitedRunsAreMeant};
 ghost use Rattle.pw_simulation.specs.Calls.{ExpressionsRun};
 ghost use Rattle.pw_simulation.specs.Laws.{AddressesAreBrought, LoadsAreCarriedOut, StoresAreCarriedOut, FaultsStop};
 ghost use Rattle.pw_simulation.specs.Programs.{CallsAreMeant, TheRunIsTheMeaning};
@@ -57,6 +57,11 @@ pub fn sealed_text_stays_in_runs()
 /// A run that stops at its limit is the beginning of each longer run.
 pub fn limited_runs_go_on()
     ensures { LimitedRunsGoOn }
+{}
+
+/// A run that ended before its limit is the same with each greater limit.
+pub fn ended_runs_stay()
+    ensures { EndedRunsStay }
 {}
 
 /// The machine does what each call of a kept function comes to.

@@ -2,12 +2,17 @@
 
 ghost use Rattle.pw_simulation.specs.Encodable.{WellTypedCodeHasWords};
 ghost use Rattle.pw_simulation.specs.ImageRuns.{TheImageRunsAsMeant, TheImageBeginsAsMeant};
-ghost use Rattle.pw_simulation.specs.ProjectLaws.{ImagesAreSeen, KeptIsEnough, AllIsEnough, BodiesAreLinked, ProjectsAreRunnable, ImagesAreReady};
+ghost use Rattle.pw_simulation.specs.ProjectLaws.{ImagesAreSeen, FunctionsStandApart, KeptIsEnough, AllIsEnough, BodiesAreLinked, ProjectsAreRunnable, ImagesAreReady};
 
 /// The world of a project that can be run shows the project, as far as it is kept: each kept function stands at its place, and
 /// no two things have one address.
 pub fn images_are_seen()
     ensures { ImagesAreSeen }
+{}
+
+/// No address lies inside two functions of a project that can be run, nor inside a function and in the entry.
+pub fn functions_stand_apart()
+    ensures { FunctionsStandApart }
 {}
 
 /// It is enough to keep the functions that the roots lead to.
@@ -37,19 +42,21 @@ pub fn well_typed_code_has_words()
     ensures { WellTypedCodeHasWords }
 {}
 
-/// The image of a project that can be run, of which enough is kept, is ready for a run: its code is fetched from it, slots hold the
-/// addresses of what their names mean, the stack is there, and each element of each variable has its initial value.
+/// The image of a project that can be run, of which enough is kept, is ready for a run, whatever it has in memory beside that: the
+/// code of the entry and of kept functions is fetched from it, slots hold the addresses of what their names mean, the stack is
+/// there, and each element of each variable has its initial value.
 pub fn images_are_ready()
     ensures { ImagesAreReady }
 {}
 
 /// The machine's run of the image of a project that can be run, of which enough is kept, is what the project means: its output, the
-/// input that it leaves, and its end, with every address that is fetched in the entry or in a kept function.
+/// input that it leaves, and its end, with every address that is fetched in the entry or in a kept function. That is so of a
+/// piece-wise run, with what is kept in memory, and of a whole one, with all functions in memory.
 pub fn the_image_runs_as_meant()
     ensures { TheImageRunsAsMeant }
 {}
 
-/// Where that run is cut short, it did a beginning of what the project means.
+/// Where that run is cut short, in either mode, it did a beginning of what the project means.
 pub fn the_image_begins_as_meant()
     ensures { TheImageBeginsAsMeant }
 {}

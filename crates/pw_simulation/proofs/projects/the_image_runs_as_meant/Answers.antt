@@ -7,6 +7,6 @@ use Rattle.pw_simulation.proofs.Meaning.{the_run_is_the_meaning}
 use Rattle.pw_simulation.proofs.projects.the_image_runs_as_meant.Goals as goal
 
 pub returns : goal.returns
-returns c = λ project keep input bound limit run enough bytes long.
-    the_run_is_the_meaning (world_of project keep) input bound limit (start_of project keep input bound) (image_sees project keep run enough)
-    (project_is_runnable project keep run enough) (starts project keep input bound run enough bytes) long
+returns c = λ project keep in_memory input bound limit run enough holds bytes long.
+    the_run_is_the_meaning (world_of project keep) input bound limit (start_of project in_memory input bound) (image_sees project keep run enough)
+    (project_is_runnable project keep run enough) (starts project keep in_memory input bound run enough holds bytes) long
