@@ -1,0 +1,6 @@
+-- The modules of the proofs of this crate.
+pub mod Lists
+pub mod Functions
+pub mod Slots
+pub mod Variables
+pub mod Targets

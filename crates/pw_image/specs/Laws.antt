@@ -1,0 +1,29 @@
+-- The laws of the image of one unit: what placing makes of its object is what the unit's project is in memory.
+use Rattle.std.specs.Prelude.{◌≡◌, ℕ, ◌+◌, List}
+use Rattle.pw_base.specs.declared.kinds.Kind.TheVariants.{Program}
+use Rattle.pw_tree.specs.declared.ty.Ref.{Ref}
+use Rattle.pw_tree.specs.Units.{TypedUnit}
+use Rattle.pw_code.specs.Objects.{number_in_order, ref_in_order}
+use Rattle.pw_place.specs.Places.{function_start, slot_names, variable_start, target}
+use Rattle.pw_agree.specs.Placing.{base_of, text_of, data_of, slots_of, function_address, variable_address, target_address}
+use Rattle.pw_image.specs.OneUnit.{project_of, objects_of, own_definition}
+
+-- A function's place in the text is its address.
+abbrev pub FunctionsStand : Type 0
+FunctionsStand = (name : List ℕ) (unit : TypedUnit) (i : ℕ) →
+    text_of 0 + function_start Program (objects_of name unit) 0 i ≡ function_address (project_of unit) (own_definition i)
+
+-- The names that have a slot are the same.
+abbrev pub SlotsStand : Type 0
+SlotsStand = (name : List ℕ) (unit : TypedUnit) → slot_names Program (objects_of name unit) ≡ slots_of (project_of unit) 0
+
+-- A variable's place in the data is its address; in the object it has another number.
+abbrev pub VariablesStand : Type 0
+VariablesStand = (name : List ℕ) (unit : TypedUnit) (i : ℕ) →
+    data_of 0 + variable_start Program (objects_of name unit) 0 (number_in_order unit.variables i)
+    ≡ variable_address (project_of unit) (own_definition i)
+
+-- What a reference reaches stands at its target's address.
+abbrev pub TargetsStand : Type 0
+TargetsStand = (name : List ℕ) (unit : TypedUnit) (to : Ref) →
+    base_of 0 + target Program (objects_of name unit) 0 (ref_in_order unit.variables to) ≡ target_address (project_of unit) 0 0 to

@@ -1,0 +1,23 @@
+//! Where the parts of one unit's object stand, and what they hold, is what the project of that unit says. Each law is the
+//! contract of a function, which does nothing.
+ghost use Rattle.pw_image.specs.Laws.{FunctionsStand, SlotsStand, VariablesStand, TargetsStand};
+
+/// Each function stands where the project's image has it.
+pub fn functions_stand()
+    ensures { FunctionsStand }
+{}
+
+/// The same names have slots, in the same order.
+pub fn slots_stand()
+    ensures { SlotsStand }
+{}
+
+/// Each variable stands where the project's image has it, though the object has another order of variables.
+pub fn variables_stand()
+    ensures { VariablesStand }
+{}
+
+/// What code reaches by a reference stands at the same address.
+pub fn targets_stand()
+    ensures { TargetsStand }
+{}
