@@ -4,3 +4,6 @@ pub mod Functions
 pub mod Slots
 pub mod Variables
 pub mod Targets
+pub mod Words
+pub mod Text
+pub mod Blanking

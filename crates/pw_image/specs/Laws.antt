@@ -5,8 +5,13 @@ use Rattle.pw_tree.specs.declared.ty.Ref.{Ref}
 use Rattle.pw_tree.specs.Units.{TypedUnit}
 use Rattle.pw_code.specs.Objects.{number_in_order, ref_in_order}
 use Rattle.pw_place.specs.Places.{function_start, slot_names, variable_start, target}
+use Rattle.pw_place.specs.Contents.{text}
+use Rattle.pw_place.specs.Tables.{function_records}
+use Rattle.pw_agree.specs.Kept.{Keep}
+use Rattle.pw_agree.specs.Image.{text_image}
 use Rattle.pw_agree.specs.Placing.{base_of, text_of, data_of, slots_of, function_address, variable_address, target_address}
 use Rattle.pw_image.specs.OneUnit.{project_of, objects_of, own_definition}
+use Rattle.pw_image.specs.Blanked.{keeps_all, kept_records, blanked}
 
 -- A function's place in the text is its address.
 abbrev pub FunctionsStand : Type 0
@@ -27,3 +32,14 @@ VariablesStand = (name : List ℕ) (unit : TypedUnit) (i : ℕ) →
 abbrev pub TargetsStand : Type 0
 TargetsStand = (name : List ℕ) (unit : TypedUnit) (to : Ref) →
     base_of 0 + target Program (objects_of name unit) 0 (ref_in_order unit.variables to) ≡ target_address (project_of unit) 0 0 to
+
+-- The words that placing puts into the text are those of the image in which every function is kept.
+abbrev pub TextIsImage : Type 0
+TextIsImage = (name : List ℕ) (unit : TypedUnit) →
+    text Program (objects_of name unit) ≡ text_image (project_of unit) keeps_all 0
+
+-- With zeros in place of the functions that are not kept, they are those of the image in which the others are.
+abbrev pub BlankedTextIsImage : Type 0
+BlankedTextIsImage = (name : List ℕ) (unit : TypedUnit) (keep : Keep) →
+    blanked (text Program (objects_of name unit)) (function_records Program (objects_of name unit)) (kept_records unit keep)
+    ≡ text_image (project_of unit) keep 0

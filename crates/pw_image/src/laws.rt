@@ -1,6 +1,6 @@
 //! Where the parts of one unit's object stand, and what they hold, is what the project of that unit says. Each law is the
 //! contract of a function, which does nothing.
-ghost use Rattle.pw_image.specs.Laws.{FunctionsStand, SlotsStand, VariablesStand, TargetsStand};
+ghost use Rattle.pw_image.specs.Laws.{FunctionsStand, SlotsStand, VariablesStand, TargetsStand, TextIsImage, BlankedTextIsImage};
 
 /// Each function stands where the project's image has it.
 pub fn functions_stand()
@@ -20,4 +20,14 @@ pub fn variables_stand()
 /// What code reaches by a reference stands at the same address.
 pub fn targets_stand()
     ensures { TargetsStand }
+{}
+
+/// The text that is placed is that of the image in which every function is kept.
+pub fn text_is_image()
+    ensures { TextIsImage }
+{}
+
+/// With zeros in place of the functions that are not kept, it is that of the image in which the others are.
+pub fn blanked_text_is_image()
+    ensures { BlankedTextIsImage }
 {}

@@ -3,4 +3,7 @@
 
 mod laws;
 
-pub use laws::{functions_stand, slots_stand, targets_stand, variables_stand};
+pub use laws::{
+    blanked_text_is_image, functions_stand, slots_stand, targets_stand, text_is_image,
+    variables_stand,
+};
