@@ -7,3 +7,6 @@ pub mod Targets
 pub mod Words
 pub mod Text
 pub mod Blanking
+pub mod Names
+pub mod SymbolAddresses
+pub mod Data

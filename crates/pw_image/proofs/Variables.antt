@@ -33,7 +33,7 @@ not_some_none : {A : Type 0} (o : Option A) → is_some o ≡ false → is_none 
 not_some_none None h = refl
 not_some_none (Some a) h = cc
 
-still_some : {A B : Type 0} (f : A → B) (o : Option A) → is_some o ≡ true → is_some (option_map f o) ≡ true
+pub still_some : {A B : Type 0} (f : A → B) (o : Option A) → is_some o ≡ true → is_some (option_map f o) ≡ true
 still_some f None h = cc
 still_some f (Some a) h = refl
 
@@ -74,6 +74,12 @@ module _ (xs : List TVar) where
       ap (sum_by variable_bytes) (filter-append is_initialised fulls uninitialised
       ∙ (λ i. all_pass is_initialised fulls fulls_have i ++ none_pass is_initialised uninitialised others_have_none i) ∙ append-nil fulls)
       ∙ sum_by_map variable_bytes filled variable_bytes (λ x. refl) initialised ∙ bytes_of_variables initialised
+
+  pub all_uninitialised : uninitialised_size (variables_in_order xs) ≡ 8 * elements_of uninitialised
+  all_uninitialised =
+      ap (sum_by variable_bytes) (filter-append is_uninitialised fulls uninitialised
+      ∙ (λ i. none_pass is_uninitialised fulls fulls_not_without i ++ all_pass is_uninitialised uninitialised others_without i))
+      ∙ bytes_of_variables uninitialised
 
   pub initialised_before : (k : ℕ) → k ≤ length initialised → initialised_size (take k (variables_in_order xs)) ≡ 8 * elements_of (take k initialised)
   initialised_before k h =
@@ -146,6 +152,29 @@ module _ (xs : List TVar) where
     where
       together : (b m n : ℕ) → b + 8 * m + 8 * n ≡ b + 8 * (m + n)
       together b m n = omega arith
+
+  -- A variable stands under its number among the object's, where a test finds it as before.
+  pub stands_in_order : (test : TVar → Bool) → ((x : TVar) → test (filled x) ≡ test x) → (i : ℕ) (x : TVar) → slice_get xs i ≡ Some x →
+      (y : TVar) × (slice_get (variables_in_order xs) (number_in_order xs i) ≡ Some y) × (test y ≡ test x)
+  stands_in_order test same i x h = by_test (is_initialised x) refl
+    where
+      by_test : (b : Bool) → is_initialised x ≡ b → (y : TVar) × (slice_get (variables_in_order xs) (number_in_order xs i) ≡ Some y) × (test y ≡ test x)
+      by_test true e =
+          let k : ℕ = length (filter is_initialised (take i xs)) in
+          let number : number_in_order xs i ≡ k = test_at (slice_get xs i) x true k (length initialised + length (filter is_uninitialised (take i xs))) h e in (
+            filled x,
+            ap (slice_get (variables_in_order xs)) number
+                ∙ slice_front fulls uninitialised k (filled x) (slice_get-map filled initialised k ∙ ap (option_map filled) (among_passed is_initialised xs i x h e)),
+            same x,
+          )
+      by_test false e =
+          let j : ℕ = length (filter is_uninitialised (take i xs)) in
+          let number : number_in_order xs i ≡ length initialised + j = test_at (slice_get xs i) x false (length (filter is_initialised (take i xs))) (length initialised + j) h e in (
+            x,
+            ap (slice_get (variables_in_order xs)) (number ∙ at_length j)
+                ∙ slice_behind fulls uninitialised j ∙ among_passed is_uninitialised xs i x h (not_some_none x.init e),
+            refl,
+          )
 
   -- No variable has this number.
   past : (bytes i : ℕ) → slice_get xs i ≡ None → length xs ≤ i → place_behind bytes (number_in_order xs i) ≡ bytes + 8 * elements_ahead i

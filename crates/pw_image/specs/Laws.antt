@@ -1,17 +1,21 @@
 -- The laws of the image of one unit: what placing makes of its object is what the unit's project is in memory.
-use Rattle.std.specs.Prelude.{◌≡◌, ℕ, ◌+◌, List}
+use Rattle.std.specs.Prelude.{◌≡◌, ℕ, ◌+◌, List, ◌++◌}
 use Rattle.pw_base.specs.declared.kinds.Kind.TheVariants.{Program}
 use Rattle.pw_tree.specs.declared.ty.Ref.{Ref}
 use Rattle.pw_tree.specs.Units.{TypedUnit}
+use Rattle.pw_tree.specs.WellTypedUnits.{IsWellTyped}
+use Rattle.pw_mem.specs.Memory as memory
 use Rattle.pw_code.specs.Objects.{number_in_order, ref_in_order}
 use Rattle.pw_place.specs.Places.{function_start, slot_names, variable_start, target}
-use Rattle.pw_place.specs.Contents.{text}
+use Rattle.pw_place.specs.Symbols.{symbols}
+use Rattle.pw_place.specs.Contents.{text, bytes, zeros, relocations}
 use Rattle.pw_place.specs.Tables.{function_records}
 use Rattle.pw_agree.specs.Kept.{Keep}
-use Rattle.pw_agree.specs.Image.{text_image}
+use Rattle.pw_agree.specs.Image.{text_image, data_image, doubleword_bytes}
 use Rattle.pw_agree.specs.Placing.{base_of, text_of, data_of, slots_of, function_address, variable_address, target_address}
 use Rattle.pw_image.specs.OneUnit.{project_of, objects_of, own_definition}
 use Rattle.pw_image.specs.Blanked.{keeps_all, kept_records, blanked}
+use Rattle.pw_image.specs.Relocated.{relocated}
 
 -- A function's place in the text is its address.
 abbrev pub FunctionsStand : Type 0
@@ -43,3 +47,10 @@ abbrev pub BlankedTextIsImage : Type 0
 BlankedTextIsImage = (name : List ℕ) (unit : TypedUnit) (keep : Keep) →
     blanked (text Program (objects_of name unit)) (function_records Program (objects_of name unit)) (kept_records unit keep)
     ≡ text_image (project_of unit) keep 0
+
+-- The data of a well-typed unit's object, with addresses in the places of its relocations, are those of the image.
+abbrev pub RelocatedDataAreImage : Type 0
+RelocatedDataAreImage = (name : List ℕ) (unit : TypedUnit) → IsWellTyped unit →
+    relocated (symbols Program (objects_of name unit)) (bytes Program (objects_of name unit) ++ memory.zeros (zeros (objects_of name unit)))
+    (relocations Program (objects_of name unit))
+    ≡ doubleword_bytes (data_image (project_of unit) 0)

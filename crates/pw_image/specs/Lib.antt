@@ -2,4 +2,5 @@
 -- that tie the outcome to the project's image.
 pub mod OneUnit
 pub mod Blanked
+pub mod Relocated
 pub mod Laws

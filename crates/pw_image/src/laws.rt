@@ -1,6 +1,6 @@
 //! Where the parts of one unit's object stand, and what they hold, is what the project of that unit says. Each law is the
 //! contract of a function, which does nothing.
-ghost use Rattle.pw_image.specs.Laws.{FunctionsStand, SlotsStand, VariablesStand, TargetsStand, TextIsImage, BlankedTextIsImage};
+ghost use Rattle.pw_image.specs.Laws.{FunctionsStand, SlotsStand, VariablesStand, TargetsStand, TextIsImage, BlankedTextIsImage, RelocatedDataAreImage};
 
 /// Each function stands where the project's image has it.
 pub fn functions_stand()
@@ -30,4 +30,9 @@ pub fn text_is_image()
 /// With zeros in place of the functions that are not kept, it is that of the image in which the others are.
 pub fn blanked_text_is_image()
     ensures { BlankedTextIsImage }
+{}
+
+/// With addresses in the places of the relocations, the data that are placed are those of the image.
+pub fn relocated_data_are_image()
+    ensures { RelocatedDataAreImage }
 {}
