@@ -10,3 +10,4 @@ pub mod Blanking
 pub mod Names
 pub mod SymbolAddresses
 pub mod Data
+pub mod Records

@@ -68,10 +68,10 @@ module _ (name : List ℕ) (unit : TypedUnit) (wanted : List ℕ) where
   abbrev variable_has : TVar → Bool
   variable_has x = x.global && bytes_eq x.name wanted
 
-  abbrev seek_function : ℕ → Function → Option Entity
+  abbrev pub seek_function : ℕ → Function → Option Entity
   seek_function i f = found f.global (bytes_eq f.name wanted) (function (own_definition i))
 
-  abbrev seek_variable : ℕ → TVar → Option Entity
+  abbrev pub seek_variable : ℕ → TVar → Option Entity
   seek_variable i x = found x.global (bytes_eq x.name wanted) (object (own_definition i))
 
   -- ---- functions
@@ -221,7 +221,7 @@ module _ (name : List ℕ) (unit : TypedUnit) (wanted : List ℕ) where
       (map (function_symbol Program (objects_of name unit) 0) (enumerate_from 0 (map (function_object unit.variables) unit.functions))
       ++ symbols_from 0 (variables_in_order unit.variables)) ++ []
 
-  abbrev meant : Option Entity
+  abbrev pub meant : Option Entity
   meant = option_or (first_found seek_function 0 unit.functions) (first_found seek_variable 0 unit.variables)
 
   value_of_name : IsDistinct bytes_eq (map (λ (x : TVar). x.name) unit.variables) → option_map_or kind_address (find has_name defined) 0 ≡ entity_address (project_of unit) meant
@@ -232,7 +232,7 @@ module _ (name : List ℕ) (unit : TypedUnit) (wanted : List ℕ) where
       ∙ combined (find has_name functions) (find has_name (symbols_from 0 (variables_in_order unit.variables)))
       (first_found seek_function 0 unit.functions) (first_found seek_variable 0 unit.variables) (among_functions 0 unit.functions) (among_variables d)
 
-  meant_is : definition_of (project_of unit) wanted ≡ meant
+  pub meant_is : definition_of (project_of unit) wanted ≡ meant
   meant_is = or_none (option_or meant None) ∙ or_none meant
 
   -- ---- a name that stands in no list

@@ -3,11 +3,13 @@ use Rattle.std.specs.Prelude.{◌≡◌, ℕ, ◌+◌, List, ◌++◌}
 use Rattle.pw_base.specs.declared.kinds.Kind.TheVariants.{Program}
 use Rattle.pw_tree.specs.declared.ty.Ref.{Ref}
 use Rattle.pw_tree.specs.Units.{TypedUnit}
+use Rattle.pw_tree.specs.Names.{resolved}
 use Rattle.pw_tree.specs.WellTypedUnits.{IsWellTyped}
 use Rattle.pw_mem.specs.Memory as memory
-use Rattle.pw_code.specs.Objects.{number_in_order, ref_in_order}
+use Rattle.pw_code.specs.Objects.{number_in_order, ref_in_order, object_of}
+use Rattle.pw_code.specs.Soundness.{IsFunctionRef}
 use Rattle.pw_place.specs.Places.{function_start, slot_names, variable_start, target}
-use Rattle.pw_place.specs.Symbols.{symbols}
+use Rattle.pw_place.specs.Symbols.{symbols, symbol_number}
 use Rattle.pw_place.specs.Contents.{text, bytes, zeros, relocations}
 use Rattle.pw_place.specs.Tables.{function_records}
 use Rattle.pw_agree.specs.Kept.{Keep}
@@ -16,6 +18,7 @@ use Rattle.pw_agree.specs.Placing.{base_of, text_of, data_of, slots_of, function
 use Rattle.pw_image.specs.OneUnit.{project_of, objects_of, own_definition}
 use Rattle.pw_image.specs.Blanked.{keeps_all, kept_records, blanked}
 use Rattle.pw_image.specs.Relocated.{relocated}
+use Rattle.pw_image.specs.Records.{record_of, record_meant}
 
 -- A function's place in the text is its address.
 abbrev pub FunctionsStand : Type 0
@@ -54,3 +57,9 @@ RelocatedDataAreImage = (name : List ℕ) (unit : TypedUnit) → IsWellTyped uni
     relocated (symbols Program (objects_of name unit)) (bytes Program (objects_of name unit) ++ memory.zeros (zeros (objects_of name unit)))
     (relocations Program (objects_of name unit))
     ≡ doubleword_bytes (data_image (project_of unit) 0)
+
+-- In a well-typed unit, the symbol of a reference to a function has the record of what the reference designates.
+abbrev pub ReferencesHaveRecords : Type 0
+ReferencesHaveRecords = (name : List ℕ) (unit : TypedUnit) (f : Ref) → IsWellTyped unit → IsFunctionRef (object_of name unit) f →
+    record_of (function_records Program (objects_of name unit)) (symbol_number Program (objects_of name unit) 0 f)
+    ≡ record_meant (resolved (project_of unit) 0 0 f)

@@ -3,4 +3,5 @@
 pub mod OneUnit
 pub mod Blanked
 pub mod Relocated
+pub mod Records
 pub mod Laws

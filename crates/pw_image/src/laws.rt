@@ -1,6 +1,6 @@
 //! Where the parts of one unit's object stand, and what they hold, is what the project of that unit says. Each law is the
 //! contract of a function, which does nothing.
-ghost use Rattle.pw_image.specs.Laws.{FunctionsStand, SlotsStand, VariablesStand, TargetsStand, TextIsImage, BlankedTextIsImage, RelocatedDataAreImage};
+ghost use Rattle.pw_image.specs.Laws.{FunctionsStand, SlotsStand, VariablesStand, TargetsStand, TextIsImage, BlankedTextIsImage, RelocatedDataAreImage, ReferencesHaveRecords};
 
 /// Each function stands where the project's image has it.
 pub fn functions_stand()
@@ -35,4 +35,9 @@ pub fn blanked_text_is_image()
 /// With addresses in the places of the relocations, the data that are placed are those of the image.
 pub fn relocated_data_are_image()
     ensures { RelocatedDataAreImage }
+{}
+
+/// The symbol of a reference to a function has the record of what the reference designates.
+pub fn references_have_records()
+    ensures { ReferencesHaveRecords }
 {}
