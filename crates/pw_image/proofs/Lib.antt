@@ -11,3 +11,4 @@ pub mod Names
 pub mod SymbolAddresses
 pub mod Data
 pub mod Records
+pub mod Nodes

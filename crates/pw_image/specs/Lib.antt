@@ -4,4 +4,5 @@ pub mod OneUnit
 pub mod Blanked
 pub mod Relocated
 pub mod Records
+pub mod Nodes
 pub mod Laws

@@ -1,6 +1,7 @@
 //! Where the parts of one unit's object stand, and what they hold, is what the project of that unit says. Each law is the
 //! contract of a function, which does nothing.
 ghost use Rattle.pw_image.specs.Laws.{FunctionsStand, SlotsStand, VariablesStand, TargetsStand, TextIsImage, BlankedTextIsImage, RelocatedDataAreImage, ReferencesHaveRecords};
+ghost use Rattle.pw_image.specs.Nodes.{KeptAlike, LevelsAlike, ParentsAlike};
 
 /// Each function stands where the project's image has it.
 pub fn functions_stand()
@@ -40,4 +41,19 @@ pub fn relocated_data_are_image()
 /// The symbol of a reference to a function has the record of what the reference designates.
 pub fn references_have_records()
     ensures { ReferencesHaveRecords }
+{}
+
+/// A graph that shows a project keeps the same functions.
+pub fn kept_alike()
+    ensures { KeptAlike }
+{}
+
+/// Each function has the same level in it.
+pub fn levels_alike()
+    ensures { LevelsAlike }
+{}
+
+/// Each function has the same parent in it.
+pub fn parents_alike()
+    ensures { ParentsAlike }
 {}
