@@ -12,3 +12,5 @@ pub mod SymbolAddresses
 pub mod Data
 pub mod Records
 pub mod Nodes
+pub mod BodyNames
+pub mod Dependencies

@@ -159,7 +159,7 @@ module _ (name : List ℕ) (unit : TypedUnit) where
   no_record true false d rest h = h
   no_record false b d rest h = h
 
-  variables_without : (wanted : List ℕ) (i : ℕ) (xs : List TVar) → record_meant (first_found (seek_variable name unit wanted) i xs) ≡ None
+  pub variables_without : (wanted : List ℕ) (i : ℕ) (xs : List TVar) → record_meant (first_found (seek_variable name unit wanted) i xs) ≡ None
   variables_without wanted i [] = refl
   variables_without wanted i (x ∷ xs) =
       no_record x.global (bytes_eq x.name wanted) i (first_found (seek_variable name unit wanted) (i + 1) xs) (variables_without wanted (i + 1) xs)

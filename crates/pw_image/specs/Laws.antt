@@ -1,12 +1,13 @@
 -- The laws of the image of one unit: what placing makes of its object is what the unit's project is in memory.
-use Rattle.std.specs.Prelude.{◌≡◌, ℕ, ◌+◌, List, ◌++◌}
+use Rattle.std.specs.Prelude.{◌≡◌, ◌↔◌, Contains, Some, slice_get, ℕ, ◌+◌, List, ◌++◌}
 use Rattle.pw_base.specs.declared.kinds.Kind.TheVariants.{Program}
 use Rattle.pw_tree.specs.declared.ty.Ref.{Ref}
-use Rattle.pw_tree.specs.Units.{TypedUnit}
-use Rattle.pw_tree.specs.Names.{resolved}
+use Rattle.pw_tree.specs.Units.{Function, TypedUnit}
+use Rattle.pw_tree.specs.Names.{Definition, function, resolved}
+use Rattle.pw_tree.specs.Depends.{names_of_all}
 use Rattle.pw_tree.specs.WellTypedUnits.{IsWellTyped}
 use Rattle.pw_mem.specs.Memory as memory
-use Rattle.pw_code.specs.Objects.{number_in_order, ref_in_order, object_of}
+use Rattle.pw_code.specs.Objects.{number_in_order, ref_in_order, dependencies, object_of}
 use Rattle.pw_code.specs.Soundness.{IsFunctionRef}
 use Rattle.pw_place.specs.Places.{function_start, slot_names, variable_start, target}
 use Rattle.pw_place.specs.Symbols.{symbols, symbol_number}
@@ -63,3 +64,8 @@ abbrev pub ReferencesHaveRecords : Type 0
 ReferencesHaveRecords = (name : List ℕ) (unit : TypedUnit) (f : Ref) → IsWellTyped unit → IsFunctionRef (object_of name unit) f →
     record_of (function_records Program (objects_of name unit)) (symbol_number Program (objects_of name unit) 0 f)
     ≡ record_meant (resolved (project_of unit) 0 0 f)
+
+-- Of what a well-typed body names, the functions are the function's dependencies.
+abbrev pub DependenciesAreNames : Type 0
+DependenciesAreNames = (unit : TypedUnit) (i : ℕ) (f : Function) (r : Ref) (g : Definition) → IsWellTyped unit → slice_get unit.functions i ≡ Some f →
+    resolved (project_of unit) 0 0 r ≡ Some (function g) → Contains (names_of_all f.body) r ↔ Contains (dependencies f) r

@@ -1,6 +1,6 @@
 //! Where the parts of one unit's object stand, and what they hold, is what the project of that unit says. Each law is the
 //! contract of a function, which does nothing.
-ghost use Rattle.pw_image.specs.Laws.{FunctionsStand, SlotsStand, VariablesStand, TargetsStand, TextIsImage, BlankedTextIsImage, RelocatedDataAreImage, ReferencesHaveRecords};
+ghost use Rattle.pw_image.specs.Laws.{FunctionsStand, SlotsStand, VariablesStand, TargetsStand, TextIsImage, BlankedTextIsImage, RelocatedDataAreImage, ReferencesHaveRecords, DependenciesAreNames};
 ghost use Rattle.pw_image.specs.Nodes.{KeptAlike, LevelsAlike, ParentsAlike};
 
 /// Each function stands where the project's image has it.
@@ -56,4 +56,9 @@ pub fn levels_alike()
 /// Each function has the same parent in it.
 pub fn parents_alike()
     ensures { ParentsAlike }
+{}
+
+/// Of what a well-typed body names, the functions are the function's dependencies.
+pub fn dependencies_are_names()
+    ensures { DependenciesAreNames }
 {}
