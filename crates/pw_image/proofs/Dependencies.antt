@@ -97,7 +97,7 @@ no_variable unit well g (Global wanted) size c h means =
 no_variable unit well g (LocalFun i) size c h means = absurd h.variable.names
 no_variable unit well g (LocalVar i) size c h means = cc
 
-at_place : {X : Type 0} (P : X → Type 0) (xs : List X) (i : ℕ) (x : X) → AllByRecursion P xs → slice_get xs i ≡ Some x → P x
+pub at_place : {X : Type 0} (P : X → Type 0) (xs : List X) (i : ℕ) (x : X) → AllByRecursion P xs → slice_get xs i ≡ Some x → P x
 at_place P [] i x h e = cc
 at_place P (y ∷ ys) zero x h e = let same : y ≡ x = cc in subst P same h.0
 at_place P (y ∷ ys) (suc i) x h e = at_place P ys i x h.1 e

@@ -14,3 +14,4 @@ pub mod Records
 pub mod Nodes
 pub mod BodyNames
 pub mod Dependencies
+pub mod Edges

@@ -56,7 +56,7 @@ module _ (name : List ℕ) (unit : TypedUnit) where
   abbrev codes : List FunCode
   codes = map (function_object unit.variables) unit.functions
 
-  abbrev outside : List ℕ → ℕ
+  abbrev pub outside : List ℕ → ℕ
   outside wanted = external_number Program (objects_of name unit) wanted
 
   abbrev inside : ℕ → ℕ
@@ -245,8 +245,10 @@ after_entry name unit symbol h o there =
     ap (λ b. if b then Some 0 else record_from 1 (records_from name unit 0 (codes name unit) ++ []) symbol) (not_entry symbol h)
     ∙ ap (λ l. record_from 1 l symbol) (append-nil (records_from name unit 0 (codes name unit))) ∙ there
 
-pub references_have_records : ReferencesHaveRecords
-references_have_records name unit (Global wanted) well known =
+-- whatever the name designates
+pub name_has_record : (name : List ℕ) (unit : TypedUnit) (wanted : List ℕ) → IsWellTyped unit →
+    record_of (function_records Program (objects_of name unit)) (outside name unit wanted) ≡ record_meant (definition_of (project_of unit) wanted)
+name_has_record name unit wanted well =
     let far = outside_from name unit wanted in
     after_entry name unit (outside name unit wanted) (omega arith)
     (record_meant (definition_of (project_of unit) wanted))
@@ -254,6 +256,9 @@ references_have_records name unit (Global wanted) well known =
     ∙ either name unit (first_found (seek_function name unit wanted) 0 unit.functions) (first_found (seek_variable name unit wanted) 0 unit.variables)
     (variables_without name unit wanted 0 unit.variables)
     ∙ ap record_meant (sym (meant_is name unit wanted)))
+
+pub references_have_records : ReferencesHaveRecords
+references_have_records name unit (Global wanted) well known = name_has_record name unit wanted well
 references_have_records name unit (LocalFun i) well known =
     after_entry name unit (inside name unit i) (from_two (static_functions (take i (codes name unit)))) (Some (suc i))
     (static_record name unit i (slice_get (codes name unit) i) refl known)

@@ -1,5 +1,6 @@
 -- The records of functions by number: which one a symbol has, and which one what a name designates.
-use Rattle.std.specs.Prelude.{ℕ, suc, ◌+◌, if◌then◌else◌, List, [], ◌∷◌, Option, Some, None, nat_eq}
+use Rattle.std.specs.Prelude.{ℕ, suc, ◌+◌, if◌then◌else◌, List, [], ◌∷◌, Option, Some, None, nat_eq, map}
+use Rattle.std.specs.List.{filter_map}
 use Rattle.pw_module.specs.declared.dep_table.FunRec.{FunRec}
 use Rattle.pw_tree.specs.Names.{Entity, function, object}
 
@@ -16,3 +17,7 @@ abbrev pub record_meant : Option Entity → Option ℕ
 record_meant None = None
 record_meant (Some (function d)) = Some (suc d.number)
 record_meant (Some (object d)) = None
+
+-- For each record, the numbers of the records of the functions on which its function depends.
+abbrev pub edges_of : List FunRec → List (List ℕ)
+edges_of records = map (λ r. filter_map (record_of records) r.deps) records

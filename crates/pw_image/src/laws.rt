@@ -1,7 +1,7 @@
 //! Where the parts of one unit's object stand, and what they hold, is what the project of that unit says. Each law is the
 //! contract of a function, which does nothing.
 ghost use Rattle.pw_image.specs.Laws.{FunctionsStand, SlotsStand, VariablesStand, TargetsStand, TextIsImage, BlankedTextIsImage, RelocatedDataAreImage, ReferencesHaveRecords, DependenciesAreNames};
-ghost use Rattle.pw_image.specs.Nodes.{KeptAlike, LevelsAlike, ParentsAlike};
+ghost use Rattle.pw_image.specs.Nodes.{KeptAlike, LevelsAlike, ParentsAlike, EdgesAreLeads};
 
 /// Each function stands where the project's image has it.
 pub fn functions_stand()
@@ -61,4 +61,9 @@ pub fn parents_alike()
 /// Of what a well-typed body names, the functions are the function's dependencies.
 pub fn dependencies_are_names()
     ensures { DependenciesAreNames }
+{}
+
+/// The edges between the records of an object's functions are what those functions lead to.
+pub fn edges_are_leads()
+    ensures { EdgesAreLeads }
 {}
