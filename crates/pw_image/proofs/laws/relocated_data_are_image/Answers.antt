@@ -1,0 +1,5 @@
+use Rattle.pw_image.proofs.Data.{relocated_data_are_image}
+use Rattle.pw_image.proofs.laws.relocated_data_are_image.Goals as goal
+
+pub returns : goal.returns
+returns c = relocated_data_are_image

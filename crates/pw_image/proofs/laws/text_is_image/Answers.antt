@@ -1,0 +1,5 @@
+use Rattle.pw_image.proofs.Text.{text_is_image}
+use Rattle.pw_image.proofs.laws.text_is_image.Goals as goal
+
+pub returns : goal.returns
+returns c = text_is_image
