@@ -91,8 +91,9 @@ module _ (g : Graph) (project : Project) (shows : ShowsProject g project) where
   not_before : (p q : ℕ) → (NodeIsBefore (node_of q) (node_of p) → ⊥) → p ≤ q
   not_before p q h = let none : q < p → ⊥ = λ less. h (before q p less) in grind (arith, none)
 
-  parent_there : (n k p : ℕ) → closure.IsParent g n k p → kept.IsParent project (node_of n) k (node_of p)
-  parent_there n k p h = record {
+  parent_there : (n k p : ℕ) → closure.IsLevel g n (suc k) → closure.IsParent g n k p → kept.IsParent project (node_of n) k (node_of p)
+  parent_there n k p own h = record {
+    own = level_there n (suc k) own;
     level = level_there p k h.level;
     leads = shows.edges p n h.edge;
     first = first_there;
@@ -120,4 +121,4 @@ pub levels_alike : LevelsAlike
 levels_alike g project shows n k = (level_there g project shows n k, level_back g project shows n k)
 
 pub parents_alike : ParentsAlike
-parents_alike g project shows n k p = (parent_there g project shows n k p, parent_back g project shows n k p)
+parents_alike g project shows n k p own = (parent_there g project shows n k p own, parent_back g project shows n k p)

@@ -34,9 +34,9 @@ abbrev pub LevelsAlike : Type 0
 LevelsAlike = (g : Graph) (project : Project) → ShowsProject g project → (n k : ℕ) →
     closure.IsLevel g n k ↔ kept.IsLevel project (node_of n) k
 
--- and the same parents.
+-- and, above level 0, the same parents.
 abbrev pub ParentsAlike : Type 0
-ParentsAlike = (g : Graph) (project : Project) → ShowsProject g project → (n k p : ℕ) →
+ParentsAlike = (g : Graph) (project : Project) → ShowsProject g project → (n k p : ℕ) → closure.IsLevel g n (suc k) →
     closure.IsParent g n k p ↔ kept.IsParent project (node_of n) k (node_of p)
 
 -- The edges between the records of a well-typed unit's object are what its functions lead to.
