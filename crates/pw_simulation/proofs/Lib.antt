@@ -65,3 +65,5 @@ pub mod ImageReady
 pub mod ImageVariables
 pub mod Meaning
 pub mod ImageRuns
+pub mod AlikeMemories
+pub mod AlikeRuns

@@ -42,6 +42,13 @@ LimitedRunsGoOn = (k n : ℕ) (s : MachineState) → k ≤ n → (run k s).end �
 abbrev pub EndedRunsStay : Type 0
 EndedRunsStay = (k n : ℕ) (s : MachineState) → k ≤ n → (run k s).end ≢ Limit → run n s ≡ run k s
 
+-- Two runs fetched from the same addresses, put the same output, left the same input, and ended in the same way.
+pub record RunAlike (one other : RunResult) : Type 0 where
+  pub end : other.end ≡ one.end
+  pub fetched : other.fetched ≡ one.fetched
+  pub output : other.state.output ≡ one.state.output
+  pub input : other.state.input ≡ one.state.input
+
 -- A run that was cut short did a beginning of what the meaning comes to: the output so far is the front of the meaning's, the
 -- input that is left ends with what the meaning leaves, and what was fetched lies in kept code, as does the next instruction.
 pub record BeginsAsMeant (w : World) (means : Run) (o : RunResult) : Type 0 where

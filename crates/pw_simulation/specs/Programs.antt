@@ -58,15 +58,17 @@ pub record HasStack (w : World) : Type 0 where
   pub even : w.stack_high % 16 ≡ 0
   pub room : HasCallRoom w w.stack_high limits.calls
 
--- An address inside the entry's code, or inside that of a kept function.
+-- An address inside the entry's code.
 abbrev pub LiesInEntry : World → ℕ → Type 0
 LiesInEntry w at = (w.entry_place ≤ at) × (at < w.entry_place + 4 * size entry_code)
 
+-- An address inside the code of a kept function.
 pub record LiesInKeptFunction (w : World) (at : ℕ) : Type 0 where
   pub d : Definition
   pub kept : w.keep d ≡ true
   pub inside : IsInside w d at
 
+-- An address inside the entry's code, or inside that of a kept function.
 abbrev pub LiesInKeptCode : World → ℕ → Type 0
 LiesInKeptCode w at = LiesInEntry w at ⊎ LiesInKeptFunction w at
 

@@ -32,6 +32,7 @@ pub record IsKeptFunction (w : World) (d : Definition) (f : Function) : Type 0 w
   pub there : function_at w.project d ≡ Some f
   pub kept : w.keep d ≡ true
 
+-- A world shows a project: its parts stand where the code and the memory of a run need them, and nothing meets anything else.
 pub record Sees (w : World) : Type 0 where
   pub apart : IsApart w
   pub closed : IsClosed w

@@ -106,6 +106,7 @@ world = record {
   slot_place = slot_address project;
   stack_low = stack_start;
   stack_high = stack_start + stack_bytes;
+  -- the entry has 6, `f` has 15 and `main` has 65
   words = 86;
 }
 
