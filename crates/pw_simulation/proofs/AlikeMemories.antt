@@ -1,19 +1,18 @@
 -- Memories that differ in their text alone: what a load or a store of one gives that cannot read its text, another gives too.
-use Rattle.std.proofs.Common.{◌≡◌, ℕ, ◌+◌, ◌*◌, ◌%◌, Bool, true, false, not, ◌&&◌, cond, eqb, List, [], ◌∷◌, length, map, Option, Some, None, Result, Ok, Err, ◌⊎◌, inl, inr, refl, sym, ◌∙◌, ap, subst}
+use Rattle.std.proofs.Common.{◌≡◌, ℕ, ◌+◌, ◌*◌, ◌%◌, Bool, true, false, not, ◌&&◌, cond, eqb, List, [], ◌∷◌, length, map, Option, Some, None, Ok, Err, ◌⊎◌, inl, inr, refl, sym, ◌∙◌, ap}
 use Rattle.std.specs.Prelude.{option_map}
 use Rattle.pw_base.specs.Bytes.{le_bytes}
-use Rattle.pw_base.proofs.Bytes.{length-le_bytes}
 use Rattle.pw_isa.specs.declared.instruction.Inst.{Inst}
 use Rattle.pw_tree.specs.Names.{Definition}
 use Rattle.pw_tree.specs.States.{Value}
-use Rattle.pw_mem.specs.declared.errors.Access.TheVariants.{Misaligned, Unmapped, Denied}
+use Rattle.pw_mem.specs.declared.errors.Access.TheVariants.{Misaligned, Denied}
 use Rattle.pw_mem.specs.Regions.{MappedRegion, holds, region_at, bytes_at, with_bytes, written}
 use Rattle.pw_mem.specs.Memory.{Mem, with_regions, may_store, number_in, mem_with, load, store, fetch}
 use Rattle.pw_mem.specs.Words.{doubleword, doubleword_in}
 use Rattle.pw_mem.proofs.Bytes.{length-with_bytes}
 use Rattle.pw_mem.proofs.Writes.{stores_write, shapes_stay, sealed_instructions_stay}
 use Rattle.pw_simulation.specs.World.{World}
-use Rattle.pw_simulation.specs.Memories.{Fetches, HasSome, IsReady}
+use Rattle.pw_simulation.specs.Memories.{Fetches, IsReady}
 use Rattle.pw_simulation.specs.Values.{AreCarried}
 
 -- ---- regions

@@ -8,7 +8,7 @@ use Rattle.pw_base.specs.Bytes.{le_bytes}
 use Rattle.pw_isa.specs.declared.instruction.Inst.{Inst}
 use Rattle.pw_isa.specs.declared.instruction.Inst.TheVariants.{Jal, Jalr, Beq, Bne, Blt, Bge, Bltu, Bgeu, Lb, Lh, Lw, Ld, Lbu, Lhu, Lwu, Sb, Sh, Sw, Sd, Ecall, Ebreak}
 use Rattle.pw_mem.specs.Regions.{written}
-use Rattle.pw_mem.specs.Memory.{Mem, with_regions, load, store, fetch}
+use Rattle.pw_mem.specs.Memory.{Mem, with_regions, load, store}
 use Rattle.pw_mem.specs.declared.errors.Access.{Access}
 use Rattle.pw_mem.specs.declared.errors.Access.TheVariants.{Misaligned, Unmapped, Denied}
 use Rattle.pw_mem.proofs.Writes.{stores_write}
@@ -18,7 +18,7 @@ use Rattle.pw_hart.specs.Bits.{bits64, sign_extend64, zero_extend}
 use Rattle.pw_hart.specs.Integer.{add, is_less_signed}
 use Rattle.pw_hart.specs.State.{MachineState, Next, Goes, Ends, get, set, following}
 use Rattle.pw_hart.specs.Exec.{exec, takes_step, jumps, goes_back, branches_on, branches_if, effective, loaded, loads_from, stored, stores_to, takes_input, calls_environment, is_fault_kind}
-use Rattle.pw_hart.specs.Run.{RunResult, run, step, fetching, then}
+use Rattle.pw_hart.specs.Run.{run, step, fetching, then}
 use Rattle.pw_simulation.specs.Moments.{IsCode}
 use Rattle.pw_simulation.specs.AnyRuns.{RunAlike}
 use Rattle.pw_simulation.proofs.AlikeMemories.{AreLike, HasCode, load_same, store_same, written_alike, code_stays}

@@ -1,5 +1,5 @@
 -- The functions of a project that can be run stand apart, and apart from the entry.
-use Rattle.std.proofs.Common.{◌≡◌, ℕ, zero, suc, ◌+◌, ◌*◌, ◌≤◌, arith}
+use Rattle.std.proofs.Common.{ℕ, zero, suc, ◌+◌, ◌*◌, ◌≤◌, arith}
 use Rattle.pw_tree.specs.Names.{Project, Definition}
 use Rattle.pw_code.specs.Items.{size}
 use Rattle.pw_code.specs.FunctionCode.{entry_code}
@@ -7,10 +7,9 @@ use Rattle.pw_agree.specs.Kept.{Keep}
 use Rattle.pw_agree.specs.Placing.{text_of, function_address}
 use Rattle.pw_simulation.specs.Moments.{IsInside}
 use Rattle.pw_simulation.specs.Programs.{LiesInEntry}
-use Rattle.pw_simulation.specs.Projects.{CanRun}
 use Rattle.pw_simulation.specs.ImageWorld.{world_of}
 use Rattle.pw_simulation.specs.ProjectLaws.{FunctionsStandApart}
-use Rattle.pw_simulation.proofs.Extents.{words_before_function, address_is}
+use Rattle.pw_simulation.proofs.Extents.{address_is}
 use Rattle.pw_simulation.proofs.Elements.{definition_at}
 use Rattle.pw_simulation.proofs.Addresses.{one_function}
 use Rattle.pw_simulation.proofs.ImageSees.{small_entry_words}
