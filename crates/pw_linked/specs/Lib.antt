@@ -1,0 +1,3 @@
+-- When modules are linked, and the laws of linked modules.
+pub mod Linking
+pub mod Laws

@@ -1,0 +1,7 @@
+//! Modules that are linked: what makes a list of modules a project that can be run. These are laws alone; nothing here runs.
+#![tactic(auto)]
+
+mod laws;
+
+
+pub use laws::linked_modules_can_run;
