@@ -3,3 +3,4 @@ pub mod Pigeons
 pub mod LoadedModules
 pub mod SlotNames
 pub mod CanRun
+pub mod Runs

@@ -3,5 +3,4 @@
 
 mod laws;
 
-
-pub use laws::linked_modules_can_run;
+pub use laws::{linked_modules_can_run, linked_modules_run_as_meant};
