@@ -4,3 +4,4 @@ pub mod LoadedModules
 pub mod SlotNames
 pub mod CanRun
 pub mod Runs
+pub mod Witness

@@ -3,4 +3,4 @@
 
 mod laws;
 
-pub use laws::{linked_modules_can_run, linked_modules_run_as_meant};
+pub use laws::{a_program_is_linked, linked_modules_can_run, linked_modules_run_as_meant};
