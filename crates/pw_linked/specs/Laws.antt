@@ -1,0 +1,33 @@
+-- The laws of linked modules.
+use Rattle.std.specs.Prelude.{ℕ, ◌+◌, ◌*◌, ◌≤◌, List}
+use Rattle.pw_tree.specs.Meaning.{meaning}
+use Rattle.pw_hart.specs.Run.{run}
+use Rattle.pw_agree.specs.Kept.{Keep, FindsKept}
+use Rattle.pw_agree.specs.LoadOrder.{ProjectModule, loaded_project}
+use Rattle.pw_simulation.specs.Programs.{RunsAsMeant}
+use Rattle.pw_simulation.specs.Projects.{CanRun, keeps_all}
+use Rattle.pw_simulation.specs.ImageWorld.{words_of_project, world_of}
+use Rattle.pw_simulation.specs.ImageRuns.{start_of, IsInput}
+use Rattle.pw_linked.specs.Linking.{AreLinked}
+
+-- Linked modules are a project that can be run.
+abbrev pub LinkedModulesCanRun : Type 0
+LinkedModulesCanRun = (modules : List ProjectModule) → AreLinked modules → CanRun (loaded_project modules)
+
+-- The machine's run of an image is what the modules' project means.
+abbrev pub ImageRunsAsMeant : List ProjectModule → Keep → (input : List ℕ) → (bound limit : ℕ) → Type 0
+ImageRunsAsMeant modules keep input bound limit =
+    RunsAsMeant (world_of (loaded_project modules) keep) (meaning (loaded_project modules) input bound) bound
+    (run limit (start_of (loaded_project modules) keep input bound))
+
+-- What the machine does with linked modules, on an input and with a bound, when its run may be so long.
+pub record RunEitherWay (modules : List ProjectModule) (input : List ℕ) (bound limit : ℕ) : Type 0 where
+  -- where the functions are kept that the roots lead to,
+  pub kept : (keep : Keep) → FindsKept (loaded_project modules) keep → ImageRunsAsMeant modules keep input bound limit
+  -- and where all are
+  pub whole : ImageRunsAsMeant modules (keeps_all (loaded_project modules)) input bound limit
+
+abbrev pub LinkedModulesRunAsMeant : Type 0
+LinkedModulesRunAsMeant =
+    (modules : List ProjectModule) (input : List ℕ) (bound limit : ℕ) → AreLinked modules → IsInput input →
+    (bound + 1) * words_of_project (loaded_project modules) ≤ limit → RunEitherWay modules input bound limit

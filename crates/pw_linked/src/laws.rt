@@ -1,0 +1,20 @@
+//! The laws of modules that are linked, over definitions alone. Each is the contract of a function, which does nothing.
+
+ghost use Rattle.pw_linked.specs.Laws.{LinkedModulesCanRun, LinkedModulesRunAsMeant};
+ghost use Rattle.pw_linked.specs.Witness.{ProgramIsLinked};
+
+/// Modules whose units are well typed, within the limits, without a binding fault and with a `main` are a project that can be run.
+pub fn linked_modules_can_run()
+    ensures { LinkedModulesCanRun }
+{}
+
+/// The machine's run of the image of linked modules, with the functions kept that the roots lead to, or with all, is what their
+/// project means.
+pub fn linked_modules_run_as_meant()
+    ensures { LinkedModulesRunAsMeant }
+{}
+
+/// A program that calls a function of its library is linked: the laws of linked modules are not empty.
+pub fn a_program_is_linked()
+    ensures { ProgramIsLinked }
+{}
