@@ -1,23 +1,23 @@
 -- Linked modules are a project that can be run.
-use Rattle.std.proofs.Common.{◌≡◌, ℕ, ◌+◌, ◌*◌, ◌<◌, ◌≤◌, List, [], ◌∷◌, length, Option, Some, None, refl, sym, ◌∙◌, ap, subst, arith, codes}
-use Rattle.std.specs.Prelude.{slice_get, option_map}
+use Rattle.std.proofs.Common.{◌≡◌, ℕ, ◌<◌, List, [], length, Option, Some, None, refl, arith, codes}
+use Rattle.std.specs.Prelude.{option_map}
 use Rattle.pw_tree.specs.declared.ty.Ty.TheVariants.{Long}
 use Rattle.pw_tree.specs.declared.ty.Sig.{Sig}
 use Rattle.pw_tree.specs.Types.{AreValueTypes}
 use Rattle.pw_tree.specs.TypeTexts.{text_of_function}
 use Rattle.pw_tree.specs.Units.{Function, TypedUnit}
-use Rattle.pw_tree.specs.Names.{Project, Definition, unit_at, function_at}
+use Rattle.pw_tree.specs.Names.{function_at}
 use Rattle.pw_tree.specs.WellTypedUnits.{IsWellTypedFunction, IsWellTyped}
 use Rattle.pw_tree.specs.WellTypedExpressions.{IsSignature}
 use Rattle.pw_agree.specs.LoadOrder.{ProjectModule, loaded_project}
 use Rattle.pw_agree.specs.Placing.{units_of}
-use Rattle.pw_agree.proofs.Members.{IsIn, each_in}
+use Rattle.pw_agree.proofs.Members.{each_in}
 use Rattle.pw_simulation.specs.Projects.{IsWithinLimits, DefinesMain, CanRun}
-use Rattle.pw_simulation.proofs.Extents.{IsFunctionAt, function_is}
+use Rattle.pw_simulation.proofs.Extents.{function_is}
 use Rattle.pw_simulation.proofs.Slots.{got_in}
 use Rattle.pw_simulation.proofs.ImageSees.{units_there}
 use Rattle.pw_simulation.proofs.TypeTexts.{function_text_says}
-use Rattle.pw_linked.specs.Linking.{IsWithinModuleLimits, AreLinked, HasMainFunction}
+use Rattle.pw_linked.specs.Linking.{AreLinked}
 use Rattle.pw_linked.proofs.LoadedModules.{loaded_are_few, loaded_unit_is_typed, loaded_module_is_typed}
 use Rattle.pw_linked.proofs.SlotNames.{slots_are_few}
 

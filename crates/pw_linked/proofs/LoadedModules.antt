@@ -1,5 +1,5 @@
 -- The loaded project: its modules are among those that are there, so there are no more of them, and their units are well typed.
-use Rattle.std.proofs.Common.{◌≡◌, ℕ, zero, suc, ◌+◌, ◌<◌, ◌≤◌, Bool, true, false, cond, List, [], ◌∷◌, ◌++◌, length, map, flat_map, Option, Some, None, ◌⊎◌, not, nat_eq, inl, inr, refl, sym, ◌∙◌, ap, subst, arith, bytes_eq}
+use Rattle.std.proofs.Common.{◌≡◌, ℕ, zero, suc, ◌+◌, ◌<◌, ◌≤◌, Bool, true, false, cond, List, [], ◌∷◌, length, map, flat_map, Option, Some, None, ◌⊎◌, not, nat_eq, inl, inr, refl, ap, arith, bytes_eq}
 use Rattle.std.specs.Prelude.{slice_get}
 use Rattle.std.specs.List.{AllByRecursion}
 use Rattle.std.specs.Option.{option_map_or}
@@ -10,7 +10,7 @@ use Rattle.pw_module.specs.LoadOrder.{Needing, number_from, number_of, needed, p
 use Rattle.pw_agree.specs.LoadOrder.{ProjectModule, needing_of, project_order, loaded_project}
 use Rattle.pw_agree.specs.Placing.{units_of}
 use Rattle.pw_agree.proofs.Members.{IsIn, each_in}
-use Rattle.pw_simulation.proofs.Joined.{got_below, length_both, length_of_map}
+use Rattle.pw_simulation.proofs.Joined.{length_both, length_of_map}
 use Rattle.pw_simulation.proofs.Extents.{unit_is}
 use Rattle.pw_simulation.proofs.Slots.{got_in}
 use Rattle.pw_simulation.proofs.NamesInBodies.{all_both}

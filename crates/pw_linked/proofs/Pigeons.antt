@@ -1,5 +1,5 @@
 -- A list of different elements is no longer than one that has them all.
-use Rattle.std.proofs.Common.{◌≡◌, ◌≢◌, ℕ, zero, suc, ◌+◌, ◌<◌, ◌≤◌, Bool, true, false, not, cond, List, [], ◌∷◌, ◌++◌, length, filter, inl, inr, refl, sym, ◌∙◌, ap, subst, arith, bytes_eq, nat_eq, eqb}
+use Rattle.std.proofs.Common.{◌≡◌, ℕ, suc, ◌≤◌, Bool, true, false, not, cond, List, [], ◌∷◌, length, filter, inl, inr, refl, sym, ◌∙◌, ap, subst, arith, bytes_eq, nat_eq}
 use Rattle.std.proofs.lemmas.Bool.Decides.{nat_tests}
 use Rattle.pw_module.specs.LoadOrder.{each_number_once}
 use Rattle.pw_agree.specs.Placing.{each_name_once}
@@ -65,9 +65,10 @@ not_itself false e h = cc
 pub names_differ : (names : List (List ℕ)) → AreDifferent (each_name_once names)
 unfolding each_name_once
 names_differ [] = tt
-names_differ (n ∷ ns) =
-    ((λ h. not_itself (bytes_eq n n) (bytes_themselves n) (in_filtered (λ other. not (bytes_eq n other)) (each_name_once ns) n h).1),
-    different_filtered (λ other. not (bytes_eq n other)) (each_name_once ns) (names_differ ns))
+names_differ (n ∷ ns) = (
+  (λ h. not_itself (bytes_eq n n) (bytes_themselves n) (in_filtered (λ other. not (bytes_eq n other)) (each_name_once ns) n h).1),
+  different_filtered (λ other. not (bytes_eq n other)) (each_name_once ns) (names_differ ns),
+)
 
 pub in_names : (names : List (List ℕ)) (name : List ℕ) → IsIn (each_name_once names) name → IsIn names name
 unfolding each_name_once
@@ -81,6 +82,7 @@ number_itself n = grind (arith, nat_tests)
 pub numbers_differ : (numbers : List ℕ) → AreDifferent (each_number_once numbers)
 unfolding each_number_once
 numbers_differ [] = tt
-numbers_differ (n ∷ ns) =
-    ((λ h. not_itself (nat_eq n n) (number_itself n) (in_filtered (λ other. not (nat_eq n other)) (each_number_once ns) n h).1),
-    different_filtered (λ other. not (nat_eq n other)) (each_number_once ns) (numbers_differ ns))
+numbers_differ (n ∷ ns) = (
+  (λ h. not_itself (nat_eq n n) (number_itself n) (in_filtered (λ other. not (nat_eq n other)) (each_number_once ns) n h).1),
+  different_filtered (λ other. not (nat_eq n other)) (each_number_once ns) (numbers_differ ns),
+)

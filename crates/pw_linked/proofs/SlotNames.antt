@@ -1,5 +1,5 @@
 -- The slots of a module are for external names of its own.
-use Rattle.std.proofs.Common.{◌≡◌, ℕ, zero, suc, ◌+◌, ◌<◌, ◌≤◌, List, [], ◌∷◌, ◌++◌, length, map, flat_map, Option, Some, None, ◌⊎◌, inl, inr, refl, sym, ◌∙◌, ap, subst, arith}
+use Rattle.std.proofs.Common.{◌≡◌, ℕ, ◌≤◌, List, [], ◌∷◌, ◌++◌, length, map, flat_map, Some, ◌⊎◌, inl, inr, refl, ap, subst}
 use Rattle.std.specs.List.{AllByRecursion}
 use Rattle.pw_tree.specs.declared.ty.Ref.TheVariants.{Global, LocalFun, LocalVar}
 use Rattle.pw_tree.specs.declared.tunit.TVar.{TVar}
@@ -14,7 +14,7 @@ use Rattle.pw_code.specs.FunctionCode.{function_code}
 use Rattle.pw_code.specs.Objects.{item_in_order, function_object, object_of}
 use Rattle.pw_code.specs.Soundness.{IsSoundItem, IsSoundFunction}
 use Rattle.pw_gen.proofs.SoundObject.{sound_object}
-use Rattle.pw_agree.specs.Placing.{units_of, code_before_functions, external_names, each_name_once, slots_of}
+use Rattle.pw_agree.specs.Placing.{units_of, code_before_functions, external_names, slots_of}
 use Rattle.pw_agree.proofs.Members.{IsIn, each_in, in_left, in_right, in_flat_map}
 use Rattle.pw_simulation.proofs.Slots.{in_once}
 use Rattle.pw_simulation.proofs.Links.{entry_is_in}

@@ -1,17 +1,16 @@
 -- The small program of two modules is linked.
-use Rattle.std.proofs.Common.{◌≡◌, ℕ, zero, suc, ◌+◌, ◌*◌, ◌<◌, ◌≤◌, true, false, List, [], ◌∷◌, length, Option, Some, None, refl, sym, ◌∙◌, ap, subst, arith, inl, inr, lit<, lit≤, codes, bytes_eq}
+use Rattle.std.proofs.Common.{◌≡◌, ℕ, zero, suc, true, false, List, [], ◌∷◌, Some, refl, sym, ◌∙◌, ap, subst, arith, inl, inr, lit≤, codes, bytes_eq}
 use Rattle.std.specs.Prelude.{slice_get}
 use Rattle.std.specs.List.{IsDistinct}
 use Rattle.pw_tree.specs.declared.ty.Ty.TheVariants.{Long}
-use Rattle.pw_tree.specs.declared.ty.Ref.{Ref}
 use Rattle.pw_tree.specs.declared.ty.Ref.TheVariants.{Global}
 use Rattle.pw_tree.specs.declared.tunit.Ext.{Ext}
 use Rattle.pw_tree.specs.Types.{AreValueTypes}
 use Rattle.pw_tree.specs.Held.{held, held_by}
 use Rattle.pw_tree.specs.Units.{TypedUnit}
-use Rattle.pw_tree.specs.Names.{Project, Definition, Entity, function, definition_of, unit_at, text_at}
+use Rattle.pw_tree.specs.Names.{Project, Entity, function, definition_of, unit_at, text_at}
 use Rattle.pw_tree.specs.Binding.{IsUnbound, Differs, names_used}
-use Rattle.pw_tree.specs.WellTypedExpressions.{Throughout, ThroughoutAll, AreNumbers, ArgumentsFit, expressions_in}
+use Rattle.pw_tree.specs.WellTypedExpressions.{Throughout, AreNumbers, ArgumentsFit, expressions_in}
 use Rattle.pw_tree.specs.WellTypedStatements.{Everywhere, StatementReads, LeavesLoops, phrases_in}
 use Rattle.pw_tree.specs.WellTypedUnits.{below, IsWellTyped}
 use Rattle.pw_module.specs.LoadOrder.{path_ends, ends_of_paths, each_number_once}

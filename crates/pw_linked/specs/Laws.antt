@@ -14,20 +14,22 @@ use Rattle.pw_linked.specs.Linking.{AreLinked}
 abbrev pub LinkedModulesCanRun : Type 0
 LinkedModulesCanRun = (modules : List ProjectModule) → AreLinked modules → CanRun (loaded_project modules)
 
--- The machine's run of an image is what the modules' project means.
-abbrev pub ImageRunsAsMeant : List ProjectModule → Keep → (input : List ℕ) → (bound limit : ℕ) → Type 0
-ImageRunsAsMeant modules keep input bound limit =
+-- The machine's run of an image is what the modules' project means, where these functions are kept and those are in memory.
+abbrev pub ImageRunsAsMeant : List ProjectModule → (keep in_memory : Keep) → (input : List ℕ) → (bound limit : ℕ) → Type 0
+ImageRunsAsMeant modules keep in_memory input bound limit =
     RunsAsMeant (world_of (loaded_project modules) keep) (meaning (loaded_project modules) input bound) bound
-    (run limit (start_of (loaded_project modules) keep input bound))
+    (run limit (start_of (loaded_project modules) in_memory input bound))
 
--- What the machine does with linked modules, on an input and with a bound, when its run may be so long.
-pub record RunEitherWay (modules : List ProjectModule) (input : List ℕ) (bound limit : ℕ) : Type 0 where
-  -- where the functions are kept that the roots lead to,
-  pub kept : (keep : Keep) → FindsKept (loaded_project modules) keep → ImageRunsAsMeant modules keep input bound limit
-  -- and where all are
-  pub whole : ImageRunsAsMeant modules (keeps_all (loaded_project modules)) input bound limit
+-- What the machine does with linked modules of which these functions are kept, on an input and with a bound, in either mode:
+pub record RunEitherWay (modules : List ProjectModule) (keep : Keep) (input : List ℕ) (bound limit : ℕ) : Type 0 where
+  -- with the kept functions alone in memory,
+  pub kept : ImageRunsAsMeant modules keep keep input bound limit
+  -- and with all functions in memory
+  pub whole : ImageRunsAsMeant modules keep (keeps_all (loaded_project modules)) input bound limit
 
+-- Where those functions are kept that the roots lead to, and the run may be so long, each mode's run is what the project means.
 abbrev pub LinkedModulesRunAsMeant : Type 0
 LinkedModulesRunAsMeant =
-    (modules : List ProjectModule) (input : List ℕ) (bound limit : ℕ) → AreLinked modules → IsInput input →
-    (bound + 1) * words_of_project (loaded_project modules) ≤ limit → RunEitherWay modules input bound limit
+    (modules : List ProjectModule) (keep : Keep) (input : List ℕ) (bound limit : ℕ) → AreLinked modules →
+    FindsKept (loaded_project modules) keep → IsInput input →
+    (bound + 1) * words_of_project (loaded_project modules) ≤ limit → RunEitherWay modules keep input bound limit

@@ -8,8 +8,8 @@ pub fn linked_modules_can_run()
     ensures { LinkedModulesCanRun }
 {}
 
-/// The machine's run of the image of linked modules, with the functions kept that the roots lead to, or with all, is what their
-/// project means.
+/// The machine's run of the image of linked modules is what their project means, with the functions alone in memory that the
+/// roots lead to, or with all; in either mode each address that is fetched lies in the entry or in such a function.
 pub fn linked_modules_run_as_meant()
     ensures { LinkedModulesRunAsMeant }
 {}
