@@ -91,10 +91,10 @@ own_only unit (LocalFun i) g h =
 own_only unit (LocalVar i) g h = cc
 
 -- a record that a reference has is of the function that it designates
-record Designates (unit : TypedUnit) (r : Ref) (n : ℕ) : Type 0 where
-  i : ℕ
-  number : n ≡ suc i
-  means : resolved (project_of unit) 0 0 r ≡ Some (function (own_definition i))
+pub record Designates (unit : TypedUnit) (r : Ref) (n : ℕ) : Type 0 where
+  pub i : ℕ
+  pub number : n ≡ suc i
+  pub means : resolved (project_of unit) 0 0 r ≡ Some (function (own_definition i))
 
 designates : (unit : TypedUnit) (r : Ref) (n : ℕ) (o : Option Entity) → resolved (project_of unit) 0 0 r ≡ o → record_meant o ≡ Some n → Designates unit r n
 designates unit r n None e h = cc
@@ -104,34 +104,34 @@ designates unit r n (Some (function g)) e h =
     record { i = g.number; number = at; means = e ∙ ap (λ d. Some (function d)) (own_only unit r g e) }
 
 module _ (name : List ℕ) (unit : TypedUnit) (well : IsWellTyped unit) where
-  abbrev records : List FunRec
+  abbrev pub records : List FunRec
   records = function_records Program (objects_of name unit)
 
-  abbrev symbol_of : Ref → ℕ
+  abbrev pub symbol_of : Ref → ℕ
   symbol_of r = symbol_number Program (objects_of name unit) 0 r
 
-  abbrev HasRecord : Ref → Type 0
+  abbrev pub HasRecord : Ref → Type 0
   HasRecord r = record_of records (symbol_of r) ≡ record_meant (resolved (project_of unit) 0 0 r)
 
-  abbrev row_of : List Ref → List ℕ
+  abbrev pub row_of : List Ref → List ℕ
   row_of refs = filter_map (record_of records) (map symbol_of refs)
 
-  row_there : (refs : List Ref) → ((r : Ref) → IsIn refs r → HasRecord r) → (n : ℕ) → IsIn (row_of refs) n → (r : Ref) × IsIn refs r × Designates unit r n
+  pub row_there : (refs : List Ref) → ((r : Ref) → IsIn refs r → HasRecord r) → (n : ℕ) → IsIn (row_of refs) n → (r : Ref) × IsIn refs r × Designates unit r n
   row_there refs have n k =
       let s = from_some (record_of records) (map symbol_of refs) n k in
       let r = from_map symbol_of refs s.0 s.1 in
       let is : record_meant (resolved (project_of unit) 0 0 r.0) ≡ Some n = sym (have r.0 r.1) ∙ ap (record_of records) r.2 ∙ s.2 in
       (r.0, r.1, designates unit r.0 n (resolved (project_of unit) 0 0 r.0) refl is)
 
-  row_back : (refs : List Ref) → ((r : Ref) → IsIn refs r → HasRecord r) → (i : ℕ) (r : Ref) → IsIn refs r →
+  pub row_back : (refs : List Ref) → ((r : Ref) → IsIn refs r → HasRecord r) → (i : ℕ) (r : Ref) → IsIn refs r →
       resolved (project_of unit) 0 0 r ≡ Some (function (own_definition i)) → IsIn (row_of refs) (suc i)
   row_back refs have i r k means =
       to_some (record_of records) (map symbol_of refs) (suc i) (symbol_of r) (to_map symbol_of refs r k) (have r k ∙ ap record_meant means)
 
-  designates_this : (r : Ref) (j : ℕ) → Designates unit r (suc j) → resolved (project_of unit) 0 0 r ≡ Some (function (own_definition j))
+  pub designates_this : (r : Ref) (j : ℕ) → Designates unit r (suc j) → resolved (project_of unit) 0 0 r ≡ Some (function (own_definition j))
   designates_this r j d = let same : d.i ≡ j = let e = d.number in cc in d.means ∙ ap (λ k. Some (function (own_definition k))) same
 
-  no_entry : (r : Ref) → Designates unit r 0 → ⊥
+  pub no_entry : (r : Ref) → Designates unit r 0 → ⊥
   no_entry r d = let e = d.number in cc
 
   -- ---- the entry

@@ -15,3 +15,4 @@ pub mod Nodes
 pub mod BodyNames
 pub mod Dependencies
 pub mod Edges
+pub mod Roots

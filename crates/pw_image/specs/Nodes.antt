@@ -9,9 +9,9 @@ use Rattle.pw_close.specs.declared.graph.Graph.{Graph}
 use Rattle.pw_close.specs.Graphs as graphs
 use Rattle.pw_close.specs.Closure as closure
 use Rattle.pw_agree.specs.Kept as kept
-use Rattle.pw_place.specs.Tables.{function_records}
+use Rattle.pw_place.specs.Tables.{function_records, table}
 use Rattle.pw_image.specs.OneUnit.{project_of, objects_of, own_definition}
-use Rattle.pw_image.specs.Records.{edges_of}
+use Rattle.pw_image.specs.Records.{edges_of, roots_of}
 
 -- The function of a number: the entry, then the unit's functions in order.
 abbrev pub node_of : ℕ → Node
@@ -44,3 +44,9 @@ abbrev pub EdgesAreLeads : Type 0
 EdgesAreLeads = (name : List ℕ) (unit : TypedUnit) (m : ℕ) (row : List ℕ) → IsWellTyped unit →
     slice_get (edges_of (function_records Program (objects_of name unit))) m ≡ Some row →
     (n : ℕ) → Contains row n ↔ kept.Leads (project_of unit) (node_of m) (node_of n)
+
+-- The roots among the records are those of the project.
+abbrev pub RootsAreRoots : Type 0
+RootsAreRoots = (name : List ℕ) (unit : TypedUnit) → IsWellTyped unit → (n : ℕ) →
+    Contains (roots_of (function_records Program (objects_of name unit)) (table Program (objects_of name unit)).roots) n
+    ↔ kept.IsRoot (project_of unit) (node_of n)

@@ -2,6 +2,7 @@
 use Rattle.std.specs.Prelude.{ℕ, suc, ◌+◌, if◌then◌else◌, List, [], ◌∷◌, Option, Some, None, nat_eq, map}
 use Rattle.std.specs.List.{filter_map}
 use Rattle.pw_module.specs.declared.dep_table.FunRec.{FunRec}
+use Rattle.pw_module.specs.declared.dep_table.RootRec.{RootRec}
 use Rattle.pw_tree.specs.Names.{Entity, function, object}
 
 -- The number of the record of a symbol, where it has one; the first of these records has the number n.
@@ -21,3 +22,7 @@ record_meant (Some (object d)) = None
 -- For each record, the numbers of the records of the functions on which its function depends.
 abbrev pub edges_of : List FunRec → List (List ℕ)
 edges_of records = map (λ r. filter_map (record_of records) r.deps) records
+
+-- The numbers of the records of the roots: the entry's, and those of the functions that variables point to.
+abbrev pub roots_of : List FunRec → List RootRec → List ℕ
+roots_of records roots = 0 ∷ filter_map (record_of records) (map (λ r. r.fun) roots)

@@ -1,7 +1,7 @@
 //! Where the parts of one unit's object stand, and what they hold, is what the project of that unit says. Each law is the
 //! contract of a function, which does nothing.
 ghost use Rattle.pw_image.specs.Laws.{FunctionsStand, SlotsStand, VariablesStand, TargetsStand, TextIsImage, BlankedTextIsImage, RelocatedDataAreImage, ReferencesHaveRecords, DependenciesAreNames};
-ghost use Rattle.pw_image.specs.Nodes.{KeptAlike, LevelsAlike, ParentsAlike, EdgesAreLeads};
+ghost use Rattle.pw_image.specs.Nodes.{KeptAlike, LevelsAlike, ParentsAlike, EdgesAreLeads, RootsAreRoots};
 
 /// Each function stands where the project's image has it.
 pub fn functions_stand()
@@ -66,4 +66,9 @@ pub fn dependencies_are_names()
 /// The edges between the records of an object's functions are what those functions lead to.
 pub fn edges_are_leads()
     ensures { EdgesAreLeads }
+{}
+
+/// The roots among the records are those of the project.
+pub fn roots_are_roots()
+    ensures { RootsAreRoots }
 {}
