@@ -214,10 +214,12 @@ module _ (name : List ℕ) (unit : TypedUnit) (well : IsWellTyped unit) where
       let value : IsIn (values_of (filled x)) (Fun r) =
       subst (λ (o : Option (List Init)). IsIn (unwrap_or (option_map (fill x) o) []) (Fun r)) (sym h.initialised)
       (in_left h.values more (Fun r) (contained_is_in h.values (Fun r) h.named)) in
-      let here = in_flat_map named_by (values_of (filled x)) (Fun r) r value (inl refl) in
-      (r, in_flat_map named_by_variable ordered (filled x) r listed here,
-      subst (λ m. resolved (project_of unit) m 0 r ≡ Some (function (own_definition j))) place.0
-      (subst (λ u. resolved (project_of unit) h.at.in_module u r ≡ Some (function (own_definition j))) place.1 h.means))
+      let here = in_flat_map named_by (values_of (filled x)) (Fun r) r value (inl refl) in (
+        r,
+        in_flat_map named_by_variable ordered (filled x) r listed here,
+        subst (λ m. resolved (project_of unit) m 0 r ≡ Some (function (own_definition j))) place.0
+            (subst (λ u. resolved (project_of unit) h.at.in_module u r ≡ Some (function (own_definition j))) place.1 h.means),
+      )
 
   abbrev listed_pointers : List Pointer
   listed_pointers = flat_map (pointers_in_variable Program (objects_of name unit) 0) (enumerate_from 0 ordered)
@@ -243,6 +245,7 @@ module _ (name : List ℕ) (unit : TypedUnit) (well : IsWellTyped unit) where
 
 pub roots_are_roots : RootsAreRoots
 roots_are_roots name unit well zero = (λ h. tt, λ h. in_is_contained (all_roots name unit well) 0 (inl refl))
-roots_are_roots name unit well (suc j) =
-    (λ h. there name unit well j (contained_is_in (all_roots name unit well) (suc j) h),
-        λ h. in_is_contained (all_roots name unit well) (suc j) (here_again name unit well j h))
+roots_are_roots name unit well (suc j) = (
+  λ h. there name unit well j (contained_is_in (all_roots name unit well) (suc j) h),
+  λ h. in_is_contained (all_roots name unit well) (suc j) (here_again name unit well j h),
+)

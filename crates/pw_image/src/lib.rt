@@ -4,7 +4,7 @@
 mod laws;
 
 pub use laws::{
-    blanked_text_is_image, dependencies_are_names, edges_are_leads, roots_are_roots, functions_stand, kept_alike,
-    levels_alike, parents_alike, references_have_records, relocated_data_are_image, slots_stand,
-    targets_stand, text_is_image, variables_stand,
+    blanked_text_is_image, dependencies_are_names, edges_are_leads, functions_stand, kept_alike,
+    levels_alike, parents_alike, references_have_records, relocated_data_are_image,
+    roots_are_roots, slots_stand, targets_stand, text_is_image, variables_stand,
 };
