@@ -101,7 +101,8 @@ numbers_ok found nil all ret e = cc
 numbers_ok found (cons s ss) all ret e =
     adds_first found s ss all ret (written_by s) refl (λ n. numbers_ok (found ++ n ∷ []) ss all ret) e
 
-pub numbers_there : (found : List ℕ) (ss : TypedStatements) (outs : List ℕ) (ret : ℕ) → Writes ss outs ret → numbers found ss ≡ Some (found ++ outs, ret)
+pub numbers_there : (found : List ℕ) (ss : TypedStatements) (outs : List ℕ) (ret : ℕ) → Writes ss outs ret →
+    numbers found ss ≡ Some (found ++ outs, ret)
 unfolding numbers
 numbers_there found nil [] ret k = absurd k
 numbers_there found nil (n ∷ outs) ret k = absurd k

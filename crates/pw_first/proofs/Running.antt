@@ -16,23 +16,28 @@ use Rattle.pw_first.proofs.Finding.{alone, Main, main_found}
 
 -- ---- expressions and statements
 
-constant_gives : (x : Context) (e : TypedExpression) (n : ℕ) (locals : Locals) (st : State) → IsConstant e n → eval x e locals st ≡ gives (number n) st
+constant_gives : (x : Context) (e : TypedExpression) (n : ℕ) (locals : Locals) (st : State) → IsConstant e n →
+    eval x e locals st ≡ gives (number n) st
 constant_gives x (constant at value) n locals st k = ap (λ m. gives (number m) st) k.0
 constant_gives x _ n locals st k = absurd k
 
-output_gives : (x : Context) (e : TypedExpression) (n : ℕ) (locals : Locals) (st : State) → IsOutput e n → eval x e locals st ≡ gives (number 0) (with_output n st)
+output_gives : (x : Context) (e : TypedExpression) (n : ℕ) (locals : Locals) (st : State) → IsOutput e n →
+    eval x e locals st ≡ gives (number 0) (with_output n st)
 output_gives x (output at e) n locals st k = rw (constant_gives x e n locals st k) refl
 output_gives x _ n locals st k = absurd k
 
-written_runs : (x : Context) (s : TypedStatement) (n : ℕ) (locals : Locals) (st : State) → IsWrittenBy s n → exec x s locals st ≡ gives (normal locals) (with_output n st)
+written_runs : (x : Context) (s : TypedStatement) (n : ℕ) (locals : Locals) (st : State) → IsWrittenBy s n →
+    exec x s locals st ≡ gives (normal locals) (with_output n st)
 written_runs x (evaluate e) n locals st k = rw (output_gives x e n locals st k) refl
 written_runs x _ n locals st k = absurd k
 
-returned_runs : (x : Context) (s : TypedStatement) (n : ℕ) (locals : Locals) (st : State) → IsReturned s n → exec x s locals st ≡ gives (returned (Some (number n))) st
+returned_runs : (x : Context) (s : TypedStatement) (n : ℕ) (locals : Locals) (st : State) → IsReturned s n →
+    exec x s locals st ≡ gives (returned (Some (number n))) st
 returned_runs x (returns (Some e)) n locals st k = rw (constant_gives x e n locals st k) refl
 returned_runs x _ n locals st k = absurd k
 
-last_runs : (x : Context) (ss : TypedStatements) (n : ℕ) (locals : Locals) (st : State) → IsLast ss n → exec_all x ss locals st ≡ gives (returned (Some (number n))) st
+last_runs : (x : Context) (ss : TypedStatements) (n : ℕ) (locals : Locals) (st : State) → IsLast ss n →
+    exec_all x ss locals st ≡ gives (returned (Some (number n))) st
 last_runs x (cons s nil) n locals st k = rw (returned_runs x s n locals st k) refl
 last_runs x _ n locals st k = absurd k
 

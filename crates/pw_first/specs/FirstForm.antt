@@ -7,11 +7,11 @@ use Rattle.pw_tree.specs.Units.{Function, TypedUnit}
 use Rattle.pw_tree.specs.declared.ty.Ty.TheVariants.{Long}
 use Rattle.pw_first.specs.declared.writer.Writer.{Writer}
 
--- the largest number that is written or returned, and the last line that a function's name may stand in: an immediate of 12
--- bits holds each
+-- the largest number that is written or returned: an immediate of 12 bits holds it
 abbrev pub largest_number : ℕ
 largest_number = 2047
 
+-- the last line that a function's name may stand in: an immediate of 12 bits holds it
 abbrev pub last_line : ℕ
 last_line = 2047
 

@@ -34,20 +34,23 @@ abbrev pub returned_last : TypedStatements → Option ℕ
 returned_last (cons s nil) = returned_by s
 returned_last _ = None
 
--- what numbers a body writes behind those that were found, and the one that it returns then
+-- what follows a statement: the next one where it writes a number, else the end of the body
 abbrev pub numbers_from : Option ℕ → (ℕ → Option (List ℕ × ℕ)) → Option (List ℕ × ℕ) → Option (List ℕ × ℕ)
 numbers_from (Some number) next last = next number
 numbers_from None next last = last
 
+-- what numbers a body writes after those that were found, and the one that it returns then
 unfoldable pub numbers : List ℕ → TypedStatements → Option (List ℕ × ℕ)
 numbers outs nil = None
 numbers outs (cons s ss) =
     numbers_from (written_by s) (λ number. numbers (outs ++ number ∷ []) ss) (option_map (λ ret. (outs, ret)) (returned_last (cons s ss)))
 
+-- whether the type is long
 abbrev pub is_long : Ty → Bool
 is_long Long = true
 is_long _ = false
 
+-- whether the list is empty
 abbrev pub is_empty : {A : Type 0} → List A → Bool
 is_empty [] = true
 is_empty _ = false
@@ -63,7 +66,7 @@ writer f =
     then option_map (λ found. record { name = f.name; line = f.line; outs = found.0; ret = found.1 }) (numbers [] f.body)
     else None
 
--- the writers that functions are, behind those that were found
+-- the writers that functions are, after those that were found
 unfoldable pub all_writers : List Writer → List Function → Option (List Writer)
 all_writers found [] = Some found
 all_writers found (f ∷ fs) = option_and_then (λ w. all_writers (found ++ w ∷ []) fs) (writer f)

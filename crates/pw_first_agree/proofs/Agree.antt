@@ -39,7 +39,8 @@ write_all-input : (ds : List ℕ) (st : Source) → (write_all ds st).input ≡ 
 write_all-input [] st = refl
 write_all-input (d ∷ ds) st = write_all-input ds (write d st)
 
-lies_by : (funs : List Writer) (main : Writer) → main_writer funs ≡ Some main → (at : ℕ) → IsAmong text_start 6 at ⊎ IsAmong (main_address funs) (function_size main) at → LiesInKeptCode funs at
+lies_by : (funs : List Writer) (main : Writer) → main_writer funs ≡ Some main → (at : ℕ) →
+    IsAmong text_start 6 at ⊎ IsAmong (main_address funs) (function_size main) at → LiesInKeptCode funs at
 lies_by funs main has at (inl a) = inl a
 lies_by funs main has at (inr a) = inr (record { number = number funs main has; function = main; there = main_there funs main has; kept = main_kept funs main has; within = a })
 
@@ -47,7 +48,8 @@ lies_by funs main has at (inr a) = inr (record { number = number funs main has; 
 lies : (funs : List Writer) (main : Writer) → main_writer funs ≡ Some main → (at : ℕ) → IsCode (code_of funs main) at → LiesInKeptCode funs at
 lies funs main has at h = lies_by funs main has at (kept_where funs main at (in_code funs main at h.inst h.there).kept)
 
-all_lie : (funs : List Writer) (main : Writer) → main_writer funs ≡ Some main → (ps : List ℕ) → AllByRecursion (IsCode (code_of funs main)) ps → AllByRecursion (LiesInKeptCode funs) ps
+all_lie : (funs : List Writer) (main : Writer) → main_writer funs ≡ Some main → (ps : List ℕ) →
+    AllByRecursion (IsCode (code_of funs main)) ps → AllByRecursion (LiesInKeptCode funs) ps
 all_lie funs main has [] h = tt
 all_lie funs main has (p ∷ ps) h = (lies funs main has p h.0, all_lie funs main has ps h.1)
 
@@ -80,7 +82,9 @@ module _ (funs : List Writer) (main : Writer) (has : main_writer funs ≡ Some m
   numbers : HasSmallNumbers main
   numbers = all_at HasSmallNumbers funs (number funs main has) main (recursion_from_All HasSmallNumbers funs can.small) (main_there funs main has)
 
-  begins : (left : ℕ) (input so_far : List ℕ) → Begins (world_of funs main) (stack_start + stack_len) left (begun left input so_far) (start funs (suc left) input so_far)
+  begins : (left : ℕ) (input so_far : List ℕ) →
+      Begins (world_of funs main) (stack_start + stack_len) left (begun left input so_far)
+      (start funs (suc left) input so_far)
   begins left input so_far = record {
     ready = image_ready funs main has can;
     stack = refl;
@@ -97,12 +101,15 @@ module _ (funs : List Writer) (main : Writer) (has : main_writer funs ≡ Some m
       multiple : (n : ℕ) → (text_start + 4 * n) % 4 ≡ 0
       multiple n = omega arith
 
-  ends : (left : ℕ) (input so_far : List ℕ) → Exits (world_of funs main) (10 + 3 * length main.outs + 5) (15 + 3 * length main.outs + 5) main.ret (record (write_all main.outs (record (main_called left (begun left input so_far)) { calls = 999 })) { calls = 1000 }) (start funs (suc left) input so_far)
+  ends : (left : ℕ) (input so_far : List ℕ) →
+      Exits (world_of funs main) (10 + 3 * length main.outs + 5)
+      (15 + 3 * length main.outs + 5) main.ret (record (write_all main.outs (record (main_called left (begun left input so_far)) { calls = 999 })) { calls = 1000 }) (start funs (suc left) input so_far)
   ends left input so_far =
       program_runs (world_of funs main) (world_apart funs main has can) (stack_start + stack_len) (frame funs main) main (begun left input so_far) (start funs (suc left) input so_far) left
       numbers (begins left input so_far) even (address_small funs main has can) (main_placed funs main has can (sound_function main numbers))
 
-  runs : (left limit : ℕ) (input so_far : List ℕ) → 16 + 3 * length main.outs ≤ limit → RunsAsMeant funs main input so_far (run limit (start funs (suc left) input so_far))
+  runs : (left limit : ℕ) (input so_far : List ℕ) → 16 + 3 * length main.outs ≤ limit →
+      RunsAsMeant funs main input so_far (run limit (start funs (suc left) input so_far))
   runs left limit input so_far enough =
       let s : MachineState = start funs (suc left) input so_far in
       let x = ends left input so_far in

@@ -36,7 +36,8 @@ module _
     by_test true one other h k = h
     by_test false one other h k = k
 
-    kept_takes : (counted : Bool) (left target : ℕ) (x : ℕ → ℕ) (s : MachineState) → P s.mem s.input s.output → Kept (takes_step counted left target x s)
+    kept_takes : (counted : Bool) (left target : ℕ) (x : ℕ → ℕ) (s : MachineState) → P s.mem s.input s.output →
+        Kept (takes_step counted left target x s)
     kept_takes false left target x s h = h
     kept_takes true zero target x s h = (h, spends)
     kept_takes true (suc left) target x s h = h
@@ -48,7 +49,8 @@ module _
     kept_if true imm s h = let target = add s.pc (bits64 imm) in kept_jumps (goes_back target s) target s.x s h
     kept_if false imm s h = h
 
-    kept_branches : (test : ℕ → ℕ → Bool) (rs1 rs2 : ℕ) (imm : ℤ) (s : MachineState) → P s.mem s.input s.output → Kept (branches_on test rs1 rs2 imm s)
+    kept_branches : (test : ℕ → ℕ → Bool) (rs1 rs2 : ℕ) (imm : ℤ) (s : MachineState) → P s.mem s.input s.output →
+        Kept (branches_on test rs1 rs2 imm s)
     kept_branches test rs1 rs2 imm s h = kept_if (test (get s.x rs1) (get s.x rs2)) imm s h
 
     kept_loaded : (extend : ℕ → ℕ) (rd at : ℕ) (s : MachineState) (r : Result ℕ Access) → P s.mem s.input s.output → Kept (loaded extend rd at s r)
@@ -57,10 +59,12 @@ module _
     kept_loaded extend rd at s (Err Unmapped) h = (h, traps 5 s.pc at)
     kept_loaded extend rd at s (Err Denied) h = (h, traps 5 s.pc at)
 
-    kept_loads : (extend : ℕ → ℕ) (width rd rs1 : ℕ) (imm : ℤ) (s : MachineState) → P s.mem s.input s.output → Kept (loads_from extend width rd rs1 imm s)
+    kept_loads : (extend : ℕ → ℕ) (width rd rs1 : ℕ) (imm : ℤ) (s : MachineState) → P s.mem s.input s.output →
+        Kept (loads_from extend width rd rs1 imm s)
     kept_loads extend width rd rs1 imm s h = kept_loaded extend rd (effective rs1 imm s) s (load s.mem (effective rs1 imm s) width) h
 
-    kept_stored : (at width value : ℕ) (s : MachineState) (r : Result Mem Access) → store s.mem at width value ≡ r → P s.mem s.input s.output → Kept (stored at s r)
+    kept_stored : (at width value : ℕ) (s : MachineState) (r : Result Mem Access) → store s.mem at width value ≡ r →
+        P s.mem s.input s.output → Kept (stored at s r)
     kept_stored at width value s (Ok n) e h = by_store s.mem n s.input s.output at width value h e
     kept_stored at width value s (Err Misaligned) e h = (h, traps 6 s.pc at)
     kept_stored at width value s (Err Unmapped) e h = (h, traps 7 s.pc at)
@@ -122,7 +126,9 @@ module _
     pub step_ends : (s u : MachineState) (end : End) → P s.mem s.input s.output → step s ≡ Ends end u → E end
     step_ends s u end h e = (subst Kept e (kept_step s h)).1
 
-    kept_then : (rest : MachineState → RunResult) (next : Next) → ((u : MachineState) → P u.mem u.input u.output → P (rest u).state.mem (rest u).state.input (rest u).state.output) → Kept next → P (then rest next).state.mem (then rest next).state.input (then rest next).state.output
+    kept_then : (rest : MachineState → RunResult) (next : Next) →
+        ((u : MachineState) → P u.mem u.input u.output → P (rest u).state.mem (rest u).state.input (rest u).state.output) →
+        Kept next → P (then rest next).state.mem (then rest next).state.input (then rest next).state.output
     kept_then rest (Goes u) goes h = goes u h
     kept_then rest (Ends end u) goes h = h.0
 

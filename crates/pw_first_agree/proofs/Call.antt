@@ -80,7 +80,8 @@ write_all-calls [] st = refl
 write_all-calls (d ∷ ds) st = write_all-calls ds (write d st)
 
 module _ (w : World) (apart : IsApart w) (sp : ℕ) (frame : HasFrame w sp) where
-  opens : (st : Source) (s : MachineState) (c line : ℕ) → At w sp st s → st.calls ≡ suc c → s.x 1 < 2 ^ 64 → HasAt w.code w.slot s.pc (checks_depth line ++ opens_frame) → Opened w (λ a. sp ≤ a) sp c st s
+  opens : (st : Source) (s : MachineState) (c line : ℕ) → At w sp st s → st.calls ≡ suc c → s.x 1 < 2 ^ 64 →
+      HasAt w.code w.slot s.pc (checks_depth line ++ opens_frame) → Opened w (λ a. sp ≤ a) sp c st s
   opens st s c line a calls fits code =
       let alive = a.alive in
       let top = apart.stack_low in
@@ -116,7 +117,9 @@ module _ (w : World) (apart : IsApart w) (sp : ℕ) (frame : HasFrame w sp) wher
       }
 
   -- the frame is left, the call given back, and the run goes on at the saved address
-  closes : (K : ℕ → Type 0) (st : Source) (s : MachineState) (c v to : ℕ) → At w (sp - 16) st s → st.calls ≡ c → suc c ≤ 1000 → s.x 10 ≡ v → Words.doubleword s.mem (sp - 16) ≡ Some to → to % 4 ≡ 0 → to < 2 ^ 64 → HasAt w.code w.slot s.pc closes_frame → Gives w K sp 4 4 to v (record st { calls = suc c }) s
+  closes : (K : ℕ → Type 0) (st : Source) (s : MachineState) (c v to : ℕ) → At w (sp - 16) st s → st.calls ≡ c →
+      suc c ≤ 1000 → s.x 10 ≡ v → Words.doubleword s.mem (sp - 16) ≡ Some to → to % 4 ≡ 0 → to < 2 ^ 64 →
+      HasAt w.code w.slot s.pc closes_frame → Gives w K sp 4 4 to v (record st { calls = suc c }) s
   closes K st s c v to a calls alive value saved even fits code =
       let top = apart.stack_low in
       let frame_to = frame.in_it.to in
@@ -146,7 +149,8 @@ module _ (w : World) (apart : IsApart w) (sp : ℕ) (frame : HasFrame w sp) wher
       }
 
   -- no call is left
-  faults : (st : Source) (s : MachineState) (line : ℕ) → line ≤ 2047 → At w sp st s → st.calls ≡ 0 → HasAt w.code w.slot s.pc (checks_depth line) → Halts w 4 (Depth line) st s
+  faults : (st : Source) (s : MachineState) (line : ℕ) → line ≤ 2047 → At w sp st s → st.calls ≡ 0 →
+      HasAt w.code w.slot s.pc (checks_depth line) → Halts w 4 (Depth line) st s
   faults st s line fits a calls code =
       let nine : s.x 9 ≡ 0 = a.calls ∙ calls in
       let s1 : MachineState = record s { pc = s.pc + 4 } in
@@ -171,7 +175,10 @@ module _ (w : World) (apart : IsApart w) (sp : ℕ) (frame : HasFrame w sp) wher
       }
 
   -- a function with a call left
-  call_runs_on : (f : Writer) (st : Source) (s : MachineState) (c : ℕ) → HasSmallNumbers f → At w sp st s → st.calls ≡ suc c → s.x 1 % 4 ≡ 0 → s.x 1 < 2 ^ 64 → HasAt w.code w.slot s.pc (function_items f) → Gives w (λ a. sp ≤ a) sp (10 + 3 * length f.outs) (15 + 3 * length f.outs) (s.x 1) f.ret (record (write_all f.outs (record st { calls = c })) { calls = suc c }) s
+  call_runs_on : (f : Writer) (st : Source) (s : MachineState) (c : ℕ) → HasSmallNumbers f → At w sp st s →
+      st.calls ≡ suc c → s.x 1 % 4 ≡ 0 → s.x 1 < 2 ^ 64 → HasAt w.code w.slot s.pc (function_items f) →
+      Gives w (λ a. sp ≤ a) sp (10 + 3 * length f.outs) (15 + 3 * length f.outs)
+      (s.x 1) f.ret (record (write_all f.outs (record st { calls = c })) { calls = suc c }) s
   call_runs_on f st s c numbers a calls even fits code =
       let K : ℕ → Type 0 = λ b. sp ≤ b in
       let Kb : ℕ → Type 0 = λ b. sp - 16 ≤ b in
@@ -216,7 +223,9 @@ module _ (w : World) (apart : IsApart w) (sp : ℕ) (frame : HasFrame w sp) wher
       }
 
   -- what a call does, with calls left or with none
-  call_runs_by : (f : Writer) (st : Source) (s : MachineState) (c : ℕ) → HasSmallNumbers f → At w sp st s → st.calls ≡ c → s.x 1 % 4 ≡ 0 → s.x 1 < 2 ^ 64 → HasAt w.code w.slot s.pc (function_items f) → Meets w (λ a. sp ≤ a) sp (10 + 3 * length f.outs) (15 + 3 * length f.outs) (s.x 1) (called f c st) s
+  call_runs_by : (f : Writer) (st : Source) (s : MachineState) (c : ℕ) → HasSmallNumbers f → At w sp st s → st.calls ≡ c →
+      s.x 1 % 4 ≡ 0 → s.x 1 < 2 ^ 64 → HasAt w.code w.slot s.pc (function_items f) →
+      Meets w (λ a. sp ≤ a) sp (10 + 3 * length f.outs) (15 + 3 * length f.outs) (s.x 1) (called f c st) s
   call_runs_by f st s zero numbers a calls even fits code =
       let h = faults st s f.line numbers.line a calls (has_front w.code w.slot s.pc (checks_depth f.line) (opens_frame ++ (flat_map output f.outs ++ (returns f.ret ++ (falls_off ++ closes_frame)))) code) in
       record {
@@ -234,5 +243,7 @@ module _ (w : World) (apart : IsApart w) (sp : ℕ) (frame : HasFrame w sp) wher
   call_runs_by f st s (suc c) numbers a calls even fits code = call_runs_on f st s c numbers a calls even fits code
 
   -- The machine does what the source's call of a function gives, from every state that agrees.
-  pub call_runs : (f : Writer) (st : Source) (s : MachineState) → HasSmallNumbers f → At w sp st s → s.x 1 % 4 ≡ 0 → s.x 1 < 2 ^ 64 → HasAt w.code w.slot s.pc (function_items f) → Meets w (λ a. sp ≤ a) sp (10 + 3 * length f.outs) (15 + 3 * length f.outs) (s.x 1) (call_of f st) s
+  pub call_runs : (f : Writer) (st : Source) (s : MachineState) → HasSmallNumbers f → At w sp st s → s.x 1 % 4 ≡ 0 →
+      s.x 1 < 2 ^ 64 → HasAt w.code w.slot s.pc (function_items f) →
+      Meets w (λ a. sp ≤ a) sp (10 + 3 * length f.outs) (15 + 3 * length f.outs) (s.x 1) (call_of f st) s
   call_runs f st s numbers a even fits code = call_runs_by f st s st.calls numbers a refl even fits code

@@ -1,4 +1,4 @@
--- A run that stops at its limit is the front of each longer run: what it put and what it fetched come first.
+-- A run that stops at its limit is a prefix of each longer run: what it put and what it fetched come first.
 use Rattle.std.proofs.Common.{◌≡◌, ℕ, zero, suc, ◌+◌, ◌-◌, ◌≤◌, List, [], ◌∷◌, ◌++◌, length, refl, ap, sym, ◌∙◌, arith, append_assoc, append-nil}
 use Rattle.pw_hart.specs.declared.ends.End.{End}
 use Rattle.pw_hart.specs.declared.ends.End.TheVariants.{Limit}
@@ -14,14 +14,14 @@ no_step_is_the_limit s u end =
     step_ends (λ m input output. Unit {0}) (λ m n input output at width value h e. tt) (λ m byte rest output h. tt) (λ m input output byte h. tt)
     (λ end. end ≡ Limit → ⊥) (λ value e. cc) (λ kind line pc e. cc) (λ e. cc) (λ cause pc value e. cc) s u end tt
 
--- a run only puts bytes behind its output
+-- a run only puts bytes after its output
 pub output_grows : (n : ℕ) (s : MachineState) → (more : List ℕ) × ((run n s).state.output ≡ s.output ++ more)
 output_grows n s =
     kept_run (λ m input output. (more : List ℕ) × (output ≡ s.output ++ more)) (λ m k input output at width value h e. h) (λ m byte rest output h. h)
     (λ m input output byte h. (h.0 ++ byte ∷ [], ap (λ o. o ++ byte ∷ []) h.1 ∙ append_assoc s.output h.0 (byte ∷ [])))
     (λ end. Unit {0}) (λ value. tt) (λ kind line pc. tt) tt (λ cause pc value. tt) n s ([], sym (append-nil s.output))
 
--- a run only takes bytes from the front of its input
+-- a run only takes bytes from the start of its input
 pub input_shrinks : (n : ℕ) (s : MachineState) → (taken : List ℕ) × (s.input ≡ taken ++ (run n s).state.input)
 input_shrinks n s =
     kept_run (λ m input output. (taken : List ℕ) × (s.input ≡ taken ++ input)) (λ m k input output at width value h e. h)
@@ -36,7 +36,8 @@ pub record StopsAtLimit (k : ℕ) (s : MachineState) (o : RunResult) : Type 0 wh
 pub limit_path : (k : ℕ) (s : MachineState) → (run k s).end ≡ Limit → StopsAtLimit k s (run k s)
 limit_path zero s e = record { path = refl; as_many = refl }
 limit_path (suc k) s e = by_step (limit_path k) (step s) refl e where
-  by_step : ((u : MachineState) → (run k u).end ≡ Limit → StopsAtLimit k u (run k u)) → (next : Next) → step s ≡ next → (fetching s.pc (then (run k) next)).end ≡ Limit → StopsAtLimit (suc k) s (fetching s.pc (then (run k) next))
+  by_step : ((u : MachineState) → (run k u).end ≡ Limit → StopsAtLimit k u (run k u)) → (next : Next) → step s ≡ next →
+      (fetching s.pc (then (run k) next)).end ≡ Limit → StopsAtLimit (suc k) s (fetching s.pc (then (run k) next))
   by_step again (Goes u) goes e =
       let rest : StopsAtLimit k u (run k u) = again u e in
       record { path = (refl, (u, (goes, rest.path))); as_many = ap (λ n. suc n) rest.as_many }
@@ -47,7 +48,7 @@ fetched_along : (ps : List ℕ) (o : RunResult) → ((fetching_all ps o).fetched
 fetched_along [] o = (refl, refl)
 fetched_along (p ∷ ps) o = (ap (λ qs. p ∷ qs) (fetched_along ps o).0, (fetched_along ps o).1)
 
--- a run that stops at its limit is the front of a longer one
+-- a run that stops at its limit is a prefix of a longer one
 pub front_of_longer : (k n : ℕ) (s : MachineState) → k ≤ n → (run k s).end ≡ Limit → IsFrontOf (run k s) (run n s)
 front_of_longer k n s below e =
     let stops : StopsAtLimit k s (run k s) = limit_path k s e in

@@ -79,8 +79,10 @@ module _ (w : World) (apart : IsApart w) (sp : ℕ) (frame : HasFrame w sp) wher
         returns = omega arith;
       }
 
-  -- the entry behind the call
-  exits : (m more main left v : ℕ) (st st' : Source) (s : MachineState) → Begins w sp left st s → (c : Called main left st s) → Gives w (λ a. sp ≤ a) sp m more (s.pc + 16) v st' c.end → Exits w (m + 5) (more + 5) v st' s
+  -- the entry after the call
+  exits : (m more main left v : ℕ) (st st' : Source) (s : MachineState) → Begins w sp left st s →
+      (c : Called main left st s) → Gives w (λ a. sp ≤ a) sp m more (s.pc + 16) v st' c.end →
+      Exits w (m + 5) (more + 5) v st' s
   exits m more main left v st st' s b c g =
       let l = g.lands in
       let code = b.code in
@@ -102,7 +104,8 @@ module _ (w : World) (apart : IsApart w) (sp : ℕ) (frame : HasFrame w sp) wher
       }
 
   -- whatever the call gives
-  ended : (m more main left : ℕ) (st : Source) (s : MachineState) (r : Res) → Begins w sp left st s → (c : Called main left st s) → Meets w (λ a. sp ≤ a) sp m more (s.pc + 16) r c.end → Ended w (m + 5) (more + 5) r s
+  ended : (m more main left : ℕ) (st : Source) (s : MachineState) (r : Res) → Begins w sp left st s →
+      (c : Called main left st s) → Meets w (λ a. sp ≤ a) sp m more (s.pc + 16) r c.end → Ended w (m + 5) (more + 5) r s
   ended m more main left st s (Val v st') b c g = exits m more main left v st st' s b c g
   ended m more main left st s (Stopped why st') b c h = record {
     last = h.last;

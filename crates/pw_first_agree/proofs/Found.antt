@@ -16,7 +16,8 @@ pub find_passes : {X : Type 0} (p : X → Bool) (xs : List X) (x : X) → find p
 find_passes p [] x h = cc
 find_passes p (y ∷ xs) x h = found_by p y xs x (find_passes p xs x) (p y) refl h
   where
-    found_by : {X : Type 0} (p : X → Bool) (y : X) (xs : List X) (x : X) → (find p xs ≡ Some x → p x ≡ true) → (t : Bool) → p y ≡ t → cond t (Some y) (find p xs) ≡ Some x → p x ≡ true
+    found_by : {X : Type 0} (p : X → Bool) (y : X) (xs : List X) (x : X) → (find p xs ≡ Some x → p x ≡ true) → (t : Bool) →
+        p y ≡ t → cond t (Some y) (find p xs) ≡ Some x → p x ≡ true
     found_by p y xs x rest true e h = let same : y ≡ x = cc in subst (λ z. p z ≡ true) same e
     found_by p y xs x rest false e h = rest h
 
@@ -65,7 +66,8 @@ module _ (funs : List Writer) (main : Writer) (has : main_writer funs ≡ Some m
       ∙ sym (append_assoc (entry_words text_start data_start) (flat_map image_words before) (words (function_items main) ++ flat_map image_words behind))
 
   -- word `j` of `main` in the text
-  pub main_word : (j : ℕ) → j < length (words (function_items main)) → slice_index (text_words funs) (all_words before + j) ≡ slice_index (words (function_items main)) j
+  pub main_word : (j : ℕ) → j < length (words (function_items main)) →
+      slice_index (text_words funs) (all_words before + j) ≡ slice_index (words (function_items main)) j
   main_word j h =
       ap (λ ws. slice_index ws (all_words before + j)) text_cut
       ∙ ap (λ n. slice_index (front ++ (words (function_items main) ++ flat_map image_words behind)) (n + j)) (sym length-front)

@@ -22,7 +22,8 @@ pub record At (w : World) (sp : ℕ) (st : Source) (s : MachineState) : Type 0 w
   pub output : s.output ≡ st.output
 
 -- other registers and another pc change nothing of that
-pub moved_at : (w : World) (sp : ℕ) (st : Source) (s : MachineState) (x : ℕ → ℕ) (pc : ℕ) → At w sp st s → x 2 ≡ s.x 2 → x 9 ≡ s.x 9 → At w sp st (record s { x = x; pc = pc })
+pub moved_at : (w : World) (sp : ℕ) (st : Source) (s : MachineState) (x : ℕ → ℕ) (pc : ℕ) → At w sp st s → x 2 ≡ s.x 2 →
+    x 9 ≡ s.x 9 → At w sp st (record s { x = x; pc = pc })
 moved_at w sp st s x pc a same2 same9 =
     record { ready = a.ready; stack = same2 ∙ a.stack; calls = same9 ∙ a.calls; alive = a.alive; steps = a.steps; input = a.input; output = a.output }
 
@@ -35,7 +36,8 @@ pub record Lands (w : World) (K : ℕ → Type 0) (sp n own to : ℕ) (st : Sour
   pub keeps : Keeps K s.mem end.mem
 
 -- one stretch after another, maybe in another frame
-abbrev pub lands_then : (w : World) (K : ℕ → Type 0) (sp sp' n m own more mid to : ℕ) (st st' : Source) (s : MachineState) → (l : Lands w K sp n own mid st s) → Lands w K sp' m more to st' l.end → Lands w K sp' (n + m) (own + more) to st' s
+abbrev pub lands_then : (w : World) (K : ℕ → Type 0) (sp sp' n m own more mid to : ℕ) (st st' : Source) (s : MachineState) →
+    (l : Lands w K sp n own mid st s) → Lands w K sp' m more to st' l.end → Lands w K sp' (n + m) (own + more) to st' s
 lands_then w K sp sp' n m own more mid to st st' s l k = record {
   end = k.end;
   reaches = reaches_then w.code w.reach n m own more s l.end k.end l.reaches k.reaches;
@@ -45,12 +47,14 @@ lands_then w K sp sp' n m own more mid to st st' s l k = record {
 }
 
 -- fewer words are promised
-abbrev pub lands_less : (w : World) (K K' : ℕ → Type 0) (sp n own to : ℕ) (st : Source) (s : MachineState) → ((a : ℕ) → K' a → K a) → Lands w K sp n own to st s → Lands w K' sp n own to st s
+abbrev pub lands_less : (w : World) (K K' : ℕ → Type 0) (sp n own to : ℕ) (st : Source) (s : MachineState) →
+    ((a : ℕ) → K' a → K a) → Lands w K sp n own to st s → Lands w K' sp n own to st s
 lands_less w K K' sp n own to st s less l =
     record { end = l.end; reaches = l.reaches; pc = l.pc; at = l.at; keeps = λ a h. l.keeps a (less a h) }
 
 -- the same numbers in other words
-pub lands_as : (w : World) (K : ℕ → Type 0) (sp n n' own own' to to' : ℕ) (st : Source) (s : MachineState) → n ≡ n' → own ≡ own' → to ≡ to' → Lands w K sp n own to st s → Lands w K sp n' own' to' st s
+pub lands_as : (w : World) (K : ℕ → Type 0) (sp n n' own own' to to' : ℕ) (st : Source) (s : MachineState) → n ≡ n' →
+    own ≡ own' → to ≡ to' → Lands w K sp n own to st s → Lands w K sp n' own' to' st s
 lands_as w K sp n n' own own' to to' st s en eo et l =
     subst (λ a. Lands w K sp a own' to' st s) en (subst (λ b. Lands w K sp n b to' st s) eo (subst (λ c. Lands w K sp n own c st s) et l))
 

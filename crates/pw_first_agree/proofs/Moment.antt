@@ -43,7 +43,8 @@ has_front code slot at [] ys h = tt
 has_front code slot at (word i ∷ xs) ys h = (h.0, has_front code slot (at + 4) xs ys h.1)
 has_front code slot at (address rd name ∷ xs) ys h = (h.0, has_front code slot (at + 8) xs ys h.1)
 
-pub has_back : (code : ℕ → Option Inst) (slot : List ℕ → ℕ) (at : ℕ) (xs ys : List Item) → HasAt code slot at (xs ++ ys) → HasAt code slot (at + 4 * size xs) ys
+pub has_back : (code : ℕ → Option Inst) (slot : List ℕ → ℕ) (at : ℕ) (xs ys : List Item) → HasAt code slot at (xs ++ ys) →
+    HasAt code slot (at + 4 * size xs) ys
 has_back code slot at [] ys h = let e : at + 4 * 0 ≡ at = omega arith in subst (λ p. HasAt code slot p ys) (sym e) h
 has_back code slot at (word i ∷ xs) ys h =
     let e : at + 4 + 4 * size xs ≡ at + 4 * (1 + size xs) = omega arith in
@@ -90,7 +91,8 @@ pub record InStack (w : World) (at : ℕ) : Type 0 where
 fetches_same : (m n : Mem) (at : ℕ) (i : Inst) → fetch n at ≡ fetch m at → Fetches m at i → Fetches n at i
 fetches_same m n at i e h = record { value = h.value; fetched = e ∙ h.fetched; reads = h.reads }
 
-stack_after : (m : Mem) (a v x at : ℕ) → x < 2 ^ 64 → Words.doubleword m a ≡ Some v → HasSomeWord m at → (t : Bool) → eqb a at ≡ t → HasSomeWord (Words.put_doubleword m a x) at
+stack_after : (m : Mem) (a v x at : ℕ) → x < 2 ^ 64 → Words.doubleword m a ≡ Some v → HasSomeWord m at → (t : Bool) →
+    eqb a at ≡ t → HasSomeWord (Words.put_doubleword m a x) at
 stack_after m a v x at small h was true e = let same : a ≡ at = grind (arith, nat_tests) in record { value = x; is = subst (λ b. Words.doubleword (Words.put_doubleword m a x) b ≡ Some x) same (word-put_same m a v x small h) }
 stack_after m a v x at small h was false e = let apart : a ≢ at = grind (arith, nat_tests) in record { value = was.value; is = word-put_other m a at v x h apart ∙ was.is }
 
@@ -108,5 +110,6 @@ ready_put w apart m a x r in_it small =
     }
 
 -- and the words at other addresses
-pub keeps_put : (w : World) (m : Mem) (a x : ℕ) (K : ℕ → Type 0) → Ready w m → InStack w a → ((at : ℕ) → K at → a ≢ at) → Keeps K m (Words.put_doubleword m a x)
+pub keeps_put : (w : World) (m : Mem) (a x : ℕ) (K : ℕ → Type 0) → Ready w m → InStack w a → ((at : ℕ) → K at → a ≢ at) →
+    Keeps K m (Words.put_doubleword m a x)
 keeps_put w m a x K r in_it apart at k = let was = r.stack a in_it.from in_it.to in_it.even in word-put_other m a at was.value x was.is (apart at k)

@@ -58,7 +58,8 @@ fetches_by : (m : Mem) (at : ℕ) (i : Inst) (r : Result ℕ Access) → fetch m
 fetches_by m at i (Ok w) e h = record { value = w; fetched = e; reads = h }
 fetches_by m at i (Err a) e h = cc
 
-in_code_by : (funs : List Writer) (main : Writer) (at : ℕ) (i : Inst) (t : Bool) → is_in_kept funs main at ≡ t → cond t (instruction_of (fetch (image funs) at)) None ≡ Some i → InCode funs main at i
+in_code_by : (funs : List Writer) (main : Writer) (at : ℕ) (i : Inst) (t : Bool) → is_in_kept funs main at ≡ t →
+    cond t (instruction_of (fetch (image funs) at)) None ≡ Some i → InCode funs main at i
 in_code_by funs main at i true e h = record { kept = e; fetches = fetches_by (image funs) at i (fetch (image funs) at) refl h }
 in_code_by funs main at i false e h = cc
 
@@ -82,15 +83,17 @@ kept_range : (t b : Bool) → t && b ≡ true → b ≡ true
 kept_range true b h = h
 kept_range false b h = cc
 
-where_by : (place count at : ℕ) → (is_among text_start 6 at ≡ true) ⊎ (is_among place count at ≡ true) → IsAmong text_start 6 at ⊎ IsAmong place count at
+where_by : (place count at : ℕ) → (is_among text_start 6 at ≡ true) ⊎ (is_among place count at ≡ true) →
+    IsAmong text_start 6 at ⊎ IsAmong place count at
 where_by place count at (inl e) = inl (among_says text_start 6 at e)
 where_by place count at (inr e) = inr (among_says place count at e)
 
 -- an address of kept code is one of the entry's or of `main`'s
-pub kept_where : (funs : List Writer) (main : Writer) (at : ℕ) → is_in_kept funs main at ≡ true → IsAmong text_start 6 at ⊎ IsAmong (main_address funs) (function_size main) at
+pub kept_where : (funs : List Writer) (main : Writer) (at : ℕ) → is_in_kept funs main at ≡ true →
+    IsAmong text_start 6 at ⊎ IsAmong (main_address funs) (function_size main) at
 kept_where funs main at h = where_by (main_address funs) (function_size main) at (either (is_among text_start 6 at) (is_among (main_address funs) (function_size main) at) (kept_range (nat_eq (at % 4) 0) _ h))
 
--- a region does not hold what is behind it
+-- a region does not hold what is after it
 pub misses : (start len at n : ℕ) → start + len ≤ at → 0 < n → (nat_le start at && nat_le (at + n) (start + len)) ≡ false
 misses start len at n h some = grind (arith, nat_tests)
 
@@ -114,7 +117,9 @@ are_sound-append (word i ∷ xs) ys h k = (h.0, are_sound-append xs ys h.1 k)
 are_sound-append (address _ _ ∷ xs) ys h k = absurd h
 
 -- items whose words stand at a place of a code are there
-pub placed : (code : ℕ → Option Inst) (slot : List ℕ → ℕ) (at place : ℕ) (items : List Item) → AreSound items → ((j : ℕ) (i : Inst) → j < size items → slice_index (words_at (λ _. 0) place items) j ≡ word_of i → Sound i → code (at + 4 * j) ≡ Some i) → HasAt code slot at items
+pub placed : (code : ℕ → Option Inst) (slot : List ℕ → ℕ) (at place : ℕ) (items : List Item) → AreSound items →
+    ((j : ℕ) (i : Inst) → j < size items → slice_index (words_at (λ _. 0) place items) j ≡ word_of i → Sound i → code (at + 4 * j) ≡ Some i) →
+    HasAt code slot at items
 placed code slot at place [] s h = tt
 placed code slot at place (word i ∷ items) s h =
     let here : at + 4 * 0 ≡ at = omega arith in (
@@ -161,7 +166,8 @@ module _ (funs : List Writer) (main : Writer) (has : main_writer funs ≡ Some m
       fits at len n room h = omega arith
 
   -- a word of the text that is an instruction's and lies in kept code is that instruction of the code
-  pub code_at : (k : ℕ) (i : Inst) → k < all_words funs → slice_index (text_words funs) k ≡ word_of i → Sound i → is_in_kept funs main (text_start + 4 * k) ≡ true → code_of funs main (text_start + 4 * k) ≡ Some i
+  pub code_at : (k : ℕ) (i : Inst) → k < all_words funs → slice_index (text_words funs) k ≡ word_of i → Sound i →
+      is_in_kept funs main (text_start + 4 * k) ≡ true → code_of funs main (text_start + 4 * k) ≡ Some i
   code_at k i in_it is sound kept =
       let seen = text_seen (text_start + 4 * k) (above k) (inside k (all_words funs) in_it) in
       let short : slice_index (text_words funs) k < 2 ^ 32 = rw is sound.short in
@@ -180,7 +186,8 @@ module _ (funs : List Writer) (main : Writer) (has : main_writer funs ≡ Some m
   main_is_kept : (j : ℕ) → j < function_size main → is_in_kept funs main (text_start + 4 * (all_words (before funs main has) + j)) ≡ true
   main_is_kept j h = kept_at (all_words (before funs main has)) (function_size main) j h
     where
-      kept_at : (front size j : ℕ) → j < size → nat_eq ((text_start + 4 * (front + j)) % 4) 0 && (is_among text_start 6 (text_start + 4 * (front + j)) || is_among (text_start + 4 * front) size (text_start + 4 * (front + j))) ≡ true
+      kept_at : (front size j : ℕ) → j < size →
+          nat_eq ((text_start + 4 * (front + j)) % 4) 0 && (is_among text_start 6 (text_start + 4 * (front + j)) || is_among (text_start + 4 * front) size (text_start + 4 * (front + j))) ≡ true
       kept_at front size j h = grind (arith, nat_tests)
 
   -- the code of `main` stands at its address

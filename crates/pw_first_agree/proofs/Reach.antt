@@ -27,7 +27,8 @@ run_along s t (p ∷ ps) n h =
     rw (e, h.1.1.0, run_along h.1.0 t ps n h.1.1.1, h.0) refl
 
 -- a run that is long enough ends where its path does
-pub run_to_end : (s t u : MachineState) (ps : List ℕ) (e : End) (n : ℕ) → Path s ps t → step t ≡ Ends e u → length ps + 1 ≤ n → run n s ≡ record { end = e; state = u; fetched = ps ++ (t.pc ∷ []) }
+pub run_to_end : (s t u : MachineState) (ps : List ℕ) (e : End) (n : ℕ) → Path s ps t → step t ≡ Ends e u →
+    length ps + 1 ≤ n → run n s ≡ record { end = e; state = u; fetched = ps ++ (t.pc ∷ []) }
 run_to_end s t u ps e n h ends enough =
     let rest : ℕ = n - length ps - 1 in
     let split : n ≡ length ps + suc rest = omega arith in
@@ -79,7 +80,8 @@ module _ (code : ℕ → Option Inst) (W : ℕ) where
   }
 
   -- one stretch after another
-  pub reaches_then : (n m own more : ℕ) (s t u : MachineState) → Reaches code W n own s t → Reaches code W m more t u → Reaches code W (n + m) (own + more) s u
+  pub reaches_then : (n m own more : ℕ) (s t u : MachineState) → Reaches code W n own s t → Reaches code W m more t u →
+      Reaches code W (n + m) (own + more) s u
   reaches_then n m own more s t u h k = record {
     ps = h.ps ++ k.ps;
     path = path_append s t u h.ps k.ps h.path k.path;

@@ -27,7 +27,8 @@ small d h = omega arith
 
 module _ (w : World) (apart : IsApart w) (K : ℕ → Type 0) (sp : ℕ) where
   -- `__out ( D ) ;`
-  pub output_runs : (st : Source) (s : MachineState) (d : ℕ) → d ≤ 2047 → At w sp st s → HasAt w.code w.slot s.pc (output d) → Lands w K sp 3 3 (s.pc + 12) (write d st) s
+  pub output_runs : (st : Source) (s : MachineState) (d : ℕ) → d ≤ 2047 → At w sp st s →
+      HasAt w.code w.slot s.pc (output d) → Lands w K sp 3 3 (s.pc + 12) (write d st) s
   output_runs st s d fits a code =
       let s1 : MachineState = record s { x = set s.x 10 d; pc = s.pc + 4 } in
       let go1 : Moves w s s1 = moves_on w apart s (Addi 10 0 (pos d)) (set s.x 10 d) a.ready code.0 (ap (λ v. goes_on (set s.x 10 v) s) (small d fits)) in
@@ -45,7 +46,9 @@ module _ (w : World) (apart : IsApart w) (K : ℕ → Type 0) (sp : ℕ) where
       }
 
   -- outputs, in order
-  pub outputs_run : (st : Source) (s : MachineState) (ds : List ℕ) → AllByRecursion (λ d. d ≤ 2047) ds → At w sp st s → HasAt w.code w.slot s.pc (flat_map output ds) → Lands w K sp (3 * length ds) (3 * length ds) (s.pc + 12 * length ds) (write_all ds st) s
+  pub outputs_run : (st : Source) (s : MachineState) (ds : List ℕ) → AllByRecursion (λ d. d ≤ 2047) ds → At w sp st s →
+      HasAt w.code w.slot s.pc (flat_map output ds) →
+      Lands w K sp (3 * length ds) (3 * length ds) (s.pc + 12 * length ds) (write_all ds st) s
   outputs_run st s [] fits a code = record {
     end = s;
     reaches = reaches_here w.code w.reach s;
@@ -63,7 +66,8 @@ module _ (w : World) (apart : IsApart w) (K : ℕ → Type 0) (sp : ℕ) where
       (lands_then w K sp sp 3 (3 * length ds) 3 (3 * length ds) (s.pc + 12) (first.end.pc + 12 * length ds) (write d st) (write_all ds (write d st)) s first rest)
 
   -- `return D ;`
-  pub return_runs : (st : Source) (s : MachineState) (d : ℕ) → d ≤ 2047 → At w sp st s → HasAt w.code w.slot s.pc (returns d) → Gives w K sp 2 2 (s.pc + 12) d st s
+  pub return_runs : (st : Source) (s : MachineState) (d : ℕ) → d ≤ 2047 → At w sp st s →
+      HasAt w.code w.slot s.pc (returns d) → Gives w K sp 2 2 (s.pc + 12) d st s
   return_runs st s d fits a code =
       let s1 : MachineState = record s { x = set s.x 10 d; pc = s.pc + 4 } in
       let go1 : Moves w s s1 = moves_on w apart s (Addi 10 0 (pos d)) (set s.x 10 d) a.ready code.0 (ap (λ v. goes_on (set s.x 10 v) s) (small d fits)) in

@@ -24,7 +24,8 @@ module _ (funs : List Writer) (at width value : ℕ) (d st : List ℕ) (d_size :
   abbrev regions : List MappedRegion
   regions = text_region funs ∷ data_region d ∷ stack_region st ∷ []
 
-  in_data : holds at (length new) (text_region funs) ≡ false → holds at (length new) (data_region d) ≡ true → KeepsText funs (record { regions = written regions at new; sealed = true })
+  in_data : holds at (length new) (text_region funs) ≡ false → holds at (length new) (data_region d) ≡ true →
+      KeepsText funs (record { regions = written regions at new; sealed = true })
   in_data past here = record {
     data_bytes = (with_bytes (data_region d) at new).bytes;
     stack = st;
@@ -33,7 +34,9 @@ module _ (funs : List Writer) (at width value : ℕ) (d st : List ℕ) (d_size :
     stack_size = st_size;
   }
 
-  in_stack : holds at (length new) (text_region funs) ≡ false → holds at (length new) (data_region d) ≡ false → holds at (length new) (stack_region st) ≡ true → KeepsText funs (record { regions = written regions at new; sealed = true })
+  in_stack : holds at (length new) (text_region funs) ≡ false → holds at (length new) (data_region d) ≡ false →
+      holds at (length new) (stack_region st) ≡ true →
+      KeepsText funs (record { regions = written regions at new; sealed = true })
   in_stack past over here = record {
     data_bytes = d;
     stack = (with_bytes (stack_region st) at new).bytes;
@@ -45,7 +48,9 @@ module _ (funs : List Writer) (at width value : ℕ) (d st : List ℕ) (d_size :
   as_new : (r : MappedRegion) (b : Bool) → holds at width r ≡ b → holds at (length new) r ≡ b
   as_new r b h = ap (λ n. holds at n r) (length-le_bytes width value) ∙ h
 
-  store_by : (even text in_d in_st : Bool) → eqb (at % width) 0 ≡ even → holds at width (text_region funs) ≡ text → holds at width (data_region d) ≡ in_d → holds at width (stack_region st) ≡ in_st → Leaves funs (store (image_with funs d st) at width value)
+  store_by : (even text in_d in_st : Bool) → eqb (at % width) 0 ≡ even → holds at width (text_region funs) ≡ text →
+      holds at width (data_region d) ≡ in_d → holds at width (stack_region st) ≡ in_st →
+      Leaves funs (store (image_with funs d st) at width value)
   store_by false text in_d in_st e t u v = rw e tt
   store_by true true in_d in_st e t u v = rw (e, t) tt
   store_by true false true in_st e t u v = rw (e, t, u) (in_data (as_new (text_region funs) false t) (as_new (data_region d) true u))

@@ -16,7 +16,8 @@ use Rattle.pw_first_agree.proofs.Sizes.{length-zeros}
 use Rattle.pw_first_agree.proofs.Moment.{IsApart, Ready, HasSomeWord, HasAt}
 use Rattle.pw_first_agree.proofs.Placed.{world_of, code_of, in_code, kept_where, kept_even, misses, held, text_size, main_end, entry_end, code_at}
 
-kept_below : (place count top at : ℕ) → place + 4 * count ≤ top → text_start + 4 * 6 ≤ top → IsAmong text_start 6 at ⊎ IsAmong place count at → at < top
+kept_below : (place count top at : ℕ) → place + 4 * count ≤ top → text_start + 4 * 6 ≤ top →
+    IsAmong text_start 6 at ⊎ IsAmong place count at → at < top
 kept_below place count top at h k (inl a) = let to = a.to in omega arith
 kept_below place count top at h k (inr a) = let to = a.to in omega arith
 
@@ -44,7 +45,7 @@ module _ (funs : List Writer) (main : Writer) (has : main_writer funs ≡ Some m
     stack_even = refl;
   }
 
-  -- behind the text is no text
+  -- after the text is no text
   text_misses : (at n : ℕ) → data_start ≤ at → 0 < n → holds at n (text_region funs) ≡ false
   text_misses at n from some = misses text_start (length (all_text funs)) at n (behind (text_start + length (all_text funs)) at (text_size funs main has can) from) some
     where
@@ -63,7 +64,8 @@ module _ (funs : List Writer) (main : Writer) (has : main_writer funs ≡ Some m
   slot_word : Words.doubleword (image funs) data_start ≡ Some (main_address funs)
   slot_word = ap (λ r. Words.doubleword_in true r data_start) slot_seen ∙ ap Some (le-le_bytes 8 (main_address funs) address_small)
 
-  stack_seen : (at : ℕ) → stack_start ≤ at → at + 8 ≤ stack_start + stack_len → region_at (image funs).regions at 8 ≡ Some (stack_region (zeros stack_len))
+  stack_seen : (at : ℕ) → stack_start ≤ at → at + 8 ≤ stack_start + stack_len →
+      region_at (image funs).regions at 8 ≡ Some (stack_region (zeros stack_len))
   stack_seen at from to =
       let past_text = text_misses at 8 (above at from) (lit< tt) in
       let past_data : holds at 8 (data_region (le_bytes 8 (main_address funs))) ≡ false = misses data_start 8 at 8 (over at from) (lit< tt) in

@@ -48,7 +48,7 @@ TextStays =
     (funs : List Writer) (input before : List ℕ) (bound limit : ℕ)
     → KeepsText funs (run limit (start funs bound input before)).state.mem
 
--- what one outcome put, took and fetched is the front of what another did
+-- what one outcome put, took and fetched is a prefix of what another did
 pub record IsFrontOf (short long : RunResult) : Type 0 where
   pub more_output : List ℕ
   pub output : long.state.output ≡ short.state.output ++ more_output
@@ -57,6 +57,6 @@ pub record IsFrontOf (short long : RunResult) : Type 0 where
   pub more_fetched : List ℕ
   pub fetched : long.fetched ≡ short.fetched ++ more_fetched
 
--- A run that stops at its limit is the front of each longer run.
+-- A run that stops at its limit is a prefix of each longer run.
 abbrev pub RunsGoOn : Type 0
 RunsGoOn = (k n : ℕ) (s : MachineState) → k ≤ n → (run k s).end ≡ Limit → IsFrontOf (run k s) (run n s)

@@ -18,7 +18,7 @@ pub fn text_stays()
     ensures { TextStays }
 {}
 
-/// A run that stops at its limit is the front of each longer run: what it put and what it fetched come first.
+/// A run that stops at its limit is a prefix of each longer run: what it put and what it fetched come first.
 pub fn runs_go_on()
     ensures { RunsGoOn }
 {}

@@ -6,7 +6,7 @@ use Rattle.std.proofs.lemmas.Grind.{flat_map-append}
 use Rattle.pw_base.specs.declared.no_memory.NoMemory.{NoMemory}
 use Rattle.pw_first_code.specs.Appends.{Appends, AppendsFront}
 
--- a front of the first words is one of more words
+-- a prefix of the first words is one of more words
 pub front_of_more : (a b old new : List ℕ) → AppendsFront a old new → AppendsFront (a ++ b) old new
 front_of_more a b old new h = record {
   front = h.front;
@@ -15,7 +15,7 @@ front_of_more a b old new h = record {
   appended = h.appended;
 }
 
--- a front of the words behind others that were appended
+-- a prefix of the words after others that were appended
 pub front_behind : (a b old mid new : List ℕ) → mid ≡ old ++ a → AppendsFront b mid new → AppendsFront (a ++ b) old new
 front_behind a b old mid new e h = record {
   front = a ++ h.front;
@@ -24,12 +24,12 @@ front_behind a b old mid new e h = record {
   appended = h.appended ∙ ap (λ ws. ws ++ h.front) e ∙ append_assoc old a h.front;
 }
 
--- both are appended, or a front of both
+-- both are appended, or a prefix of both
 pub appends_both : (a b old mid new : List ℕ) (r : Result (Unit {0}) NoMemory) → mid ≡ old ++ a → Appends b mid new r → Appends (a ++ b) old new r
 appends_both a b old mid new (Ok _) e h = h ∙ ap (λ ws. ws ++ b) e ∙ append_assoc old a b
 appends_both a b old mid new (Err _) e h = front_behind a b old mid new e h
 
--- the words of a front of a list, behind the old ones, are a front of the words of the list
+-- the words of a prefix of a list, after the old ones, are a prefix of the words of the list
 pub map_front : {A : Type 0} (f : A → ℕ) (xs : List A) (i : ℕ) (old new : List ℕ) → new ≡ old ++ map f (take i xs) → AppendsFront (map f xs) old new
 map_front f xs i old new e = record {
   front = map f (take i xs);
@@ -38,8 +38,10 @@ map_front f xs i old new e = record {
   appended = e;
 }
 
--- the pieces of a front of a list, and a front of the next piece, are a front of the pieces of the list
-pub pieces_front : {A : Type 0} (f : A → List ℕ) (xs before behind : List A) (x : A) (old mid new : List ℕ) → xs ≡ before ++ (x ∷ behind) → mid ≡ old ++ flat_map f before → AppendsFront (f x) mid new → AppendsFront (flat_map f xs) old new
+-- the pieces of a prefix of a list, and a prefix of the next piece, are a prefix of the pieces of the list
+pub pieces_front : {A : Type 0} (f : A → List ℕ) (xs before behind : List A) (x : A) (old mid new : List ℕ) →
+    xs ≡ before ++ (x ∷ behind) → mid ≡ old ++ flat_map f before → AppendsFront (f x) mid new →
+    AppendsFront (flat_map f xs) old new
 pieces_front f xs before behind x old mid new split e h = record {
   front = flat_map f before ++ h.front;
   more = h.more ++ flat_map f behind;

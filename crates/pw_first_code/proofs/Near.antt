@@ -40,5 +40,6 @@ pub fits_hi : (d : ℤ) → IsNear d → FitsField (2 ^ 19) (hi d)
 fits_hi d near = fits_between (2 ^ 19) (hi d) (hi_to d near) (omega (arith, ints, hi_from d near))
 
 -- the lower part, as 64 bits compute it from the upper one
-pub lo_computed : (d z : ℤ) → IsNear d → z ≡ hi d → to_z w32 (of_z w32 (to_z w64 (of_z w64 (to_z w64 (of_z w64 d) -ℤ to_z w64 (of_z w64 (pos 4096 *ℤ to_z w64 (of_z w64 z))))))) ≡ lo d
+pub lo_computed : (d z : ℤ) → IsNear d → z ≡ hi d →
+    to_z w32 (of_z w32 (to_z w64 (of_z w64 (to_z w64 (of_z w64 d) -ℤ to_z w64 (of_z w64 (pos 4096 *ℤ to_z w64 (of_z w64 z))))))) ≡ lo d
 lo_computed d z near e = omega (arith, ints, near.low, near.high, lo_from d, lo_to d, hi_from d near, hi_to d near)

@@ -16,10 +16,11 @@ size [] = 0
 size (word _ ∷ items) = 1 + size items
 size (address _ _ ∷ items) = 2 + size items
 
--- a distance as a part of 20 bits in units of 4096 and a rest from -2048 to 2047 (psABI, R_RISCV_PCREL_HI20 and _LO12_I)
+-- the part of a distance in units of 4096, of 20 bits (psABI, R_RISCV_PCREL_HI20)
 abbrev pub hi : ℤ → ℤ
 hi distance = int_shr (distance +ℤ pos 0x800) 12
 
+-- what is left of a distance, from -2048 to 2047 (psABI, R_RISCV_PCREL_LO12_I)
 abbrev pub lo : ℤ → ℤ
 lo distance = distance -ℤ (pos 4096 *ℤ hi distance)
 

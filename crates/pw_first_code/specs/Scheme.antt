@@ -23,10 +23,11 @@ opens_frame = word (Addi s1 s1 (negsuc 0)) ∷ word (Addi sp sp (negsuc 15)) ∷
 abbrev pub output : ℕ → List Item
 output value = word (Addi a0 x0 (pos value)) ∷ word (Addi a7 x0 (pos output_call)) ∷ word Ecall ∷ []
 
--- `return D ;` goes past the value of a function that falls off its end
+-- the value of a function that falls off its end
 abbrev pub falls_off : List Item
 falls_off = word (Addi a0 x0 (pos 0)) ∷ []
 
+-- `return D ;`, which goes past that value
 abbrev pub returns : ℕ → List Item
 returns value = word (Addi a0 x0 (pos value)) ∷ word (Jal x0 (pos (4 + 4 * size falls_off))) ∷ []
 
@@ -50,13 +51,15 @@ entry_items =
 abbrev pub words : List Item → List ℕ
 words items = words_at (λ _. 0) 0 items
 
--- a function's words before its outputs, those of an output, and those behind the outputs
+-- a function's words before its outputs
 abbrev pub head_words : (line : ℕ) → List ℕ
 head_words line = words (checks_depth line ++ opens_frame)
 
+-- the words of an output
 abbrev pub output_words : (value : ℕ) → List ℕ
 output_words value = words (output value)
 
+-- a function's words after its outputs
 abbrev pub tail_words : (value : ℕ) → List ℕ
 tail_words value = words (returns value ++ (falls_off ++ closes_frame))
 

@@ -11,8 +11,8 @@ use pw_isa::Inst;
 use pw_isa::environment_calls::EXIT;
 use pw_isa::registers::{A7, RA, S1, T0, ZERO};
 
-/// Appends the six words of the entry, which stands at `place`, where the slot of `main` is at `slot`; where memory is
-/// refused, a front of them. Both are addresses in bytes.
+/// Appends the six words of the entry, which stands at `place`, where the slot of `main` is at `slot`; where memory runs
+/// out, a prefix of them. Both are addresses in bytes.
 pub fn put_entry(place: u32, slot: u32, to: &mut Vec<u32>) -> Result<(), NoMemory>
     requires { IsNear (distance (place + 4) slot) }
     ensures { Appends (entry_words place slot) to.old.items to.new.items result }

@@ -138,7 +138,7 @@ fn put_tail(value: u16, to: &mut Vec<u32>) -> Result<(), NoMemory>
     put(&tail, to)
 }
 
-/// Appends the words of a function; where memory is refused, a front of them.
+/// Appends the words of a function; where memory runs out, a prefix of them.
 pub fn put_function(fun: &Writer, to: &mut Vec<u32>) -> Result<(), NoMemory>
     requires { HasSmallNumbers fun.now }
     ensures { Appends (words (function_items fun.now)) to.old.items to.new.items result }

@@ -1,4 +1,4 @@
-//! Instructions put as words behind others.
+//! Instructions put as words after others.
 ghost use Rattle.std.specs.Prelude.{map, All};
 ghost use Rattle.pw_isa.specs.Encoding.{word_of, IsEncodable};
 ghost use Rattle.pw_first_code.specs.Appends.{Appends};
@@ -6,7 +6,7 @@ ghost use Rattle.pw_first_code.specs.Appends.{Appends};
 use pw_base::NoMemory;
 use pw_isa::{Inst, encode};
 
-/// Appends the words of these instructions; a front of them where memory is refused.
+/// Appends the words of these instructions; a prefix of them where memory runs out.
 pub fn put(insts: &[Inst], to: &mut Vec<u32>) -> Result<(), NoMemory>
     requires { All IsEncodable insts.now }
     ensures { Appends (map word_of insts.now) to.old.items to.new.items result }

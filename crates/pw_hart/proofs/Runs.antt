@@ -102,7 +102,8 @@ module _ (old : ExecutionState) (used_up : Bool) (mid : ExecutionState) (used_up
       (sym (s.uses.does rest output can))
       (ended_after old used_up mid used_up' (Ends end) s rest output _ mid end (ended_here end rest (output ++ s.uses.put)))
     where
-      ended_here : (end : End) (input output : List ℕ) → Ended mid input output (record { end = end; state = state_of mid.hart mid.memory.mem input output; fetched = [] }) mid end
+      ended_here : (end : End) (input output : List ℕ) →
+          Ended mid input output (record { end = end; state = state_of mid.hart mid.memory.mem input output; fetched = [] }) mid end
       ended_here end input output = record {
         taken = [];
         put = [];

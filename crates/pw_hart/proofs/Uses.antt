@@ -29,7 +29,8 @@ uses_nothing f p hart mem hart' mem' next does = record {
 }
 
 -- an instruction uses what one uses that does the same
-pub Uses-same : (f g : MachineState → Next) (p : Ports) (hart : Hart) (mem : Mem) (q : Ports) (hart' : Hart) (mem' : Mem) (next : MachineState → Next) →
+pub Uses-same : (f g : MachineState → Next) (p : Ports) (hart : Hart) (mem : Mem) (q : Ports) (hart' : Hart) (mem' : Mem)
+    (next : MachineState → Next) →
     ((input output : List ℕ) → f (state_of hart mem input output) ≡ g (state_of hart mem input output)) →
     Uses g p hart mem q hart' mem' next → Uses f p hart mem q hart' mem' next
 Uses-same f g p hart mem q hart' mem' next same uses = record {
@@ -43,7 +44,8 @@ Uses-same f g p hart mem q hart' mem' next same uses = record {
 }
 
 -- with no input left, the call of input gives all ones
-takes_none : (hart hart' : Hart) → ((mem : Mem) (input output : List ℕ) → writes 10 all_ones (state_of hart mem input output) ≡ Goes (state_of hart' mem input output)) →
+takes_none : (hart hart' : Hart) →
+    ((mem : Mem) (input output : List ℕ) → writes 10 all_ones (state_of hart mem input output) ≡ Goes (state_of hart' mem input output)) →
     (mem : Mem) (rest output : List ℕ) → rest ≡ [] →
     takes_input rest (state_of hart mem rest output) ≡ Goes (state_of hart' mem rest (output ++ []))
 takes_none hart hart' writes mem [] output none =
@@ -51,7 +53,8 @@ takes_none hart hart' writes mem [] output none =
 takes_none hart hart' writes mem (byte ∷ rest) output none = absurd (cc none)
 
 -- an input that came to its end before stays there
-pub uses_end : (input : SourceState) (hart hart' : Hart) → ((mem : Mem) (input output : List ℕ) → writes 10 all_ones (state_of hart mem input output) ≡ Goes (state_of hart' mem input output)) →
+pub uses_end : (input : SourceState) (hart hart' : Hart) →
+    ((mem : Mem) (input output : List ℕ) → writes 10 all_ones (state_of hart mem input output) ≡ Goes (state_of hart' mem input output)) →
     (mem : Mem) (out : SinkState) → Uses (λ s. takes_input s.input s) (record { input = input; used_up = true; out = out }) hart mem
     (record { input = input; used_up = true; out = out }) hart' mem Goes
 uses_end input hart hart' writes mem out = record {
@@ -65,7 +68,8 @@ uses_end input hart hart' writes mem out = record {
 }
 
 -- an input comes to its end
-pub uses_up : (input : SourceState) (hart hart' : Hart) → IsUsedUp input → ((mem : Mem) (input output : List ℕ) → writes 10 all_ones (state_of hart mem input output) ≡ Goes (state_of hart' mem input output)) →
+pub uses_up : (input : SourceState) (hart hart' : Hart) → IsUsedUp input →
+    ((mem : Mem) (input output : List ℕ) → writes 10 all_ones (state_of hart mem input output) ≡ Goes (state_of hart' mem input output)) →
     (mem : Mem) (out : SinkState) → Uses (λ s. takes_input s.input s) (record { input = input; used_up = false; out = out }) hart mem
     (record { input = input; used_up = true; out = out }) hart' mem Goes
 uses_up input hart hart' ended writes mem out = record {

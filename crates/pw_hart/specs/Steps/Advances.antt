@@ -36,7 +36,8 @@ pub record CanBeLeft (input : SourceState) (used_up : Bool) (bytes : List ℕ) :
 
 -- what an instruction does with bytes that were taken from the input and appended to the output, whatever is left in the
 -- input after them and was put before
-pub record Uses (instruction : MachineState → Next) (old : Ports) (hart : Hart) (mem : Mem) (new : Ports) (hart' : Hart) (mem' : Mem) (next : MachineState → Next) : Type 0 where
+pub record Uses (instruction : MachineState → Next) (old : Ports) (hart : Hart) (mem : Mem) (new : Ports)
+    (hart' : Hart) (mem' : Mem) (next : MachineState → Next) : Type 0 where
   pub taken : List ℕ
   pub put : List ℕ
   pub input : new.input ≡ after taken old.input

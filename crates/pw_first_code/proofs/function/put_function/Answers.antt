@@ -1,4 +1,4 @@
--- The words of a function are those of its three parts, and a part that is refused leaves a front of them.
+-- The words of a function are those of its three parts, and a part that is refused leaves a prefix of them.
 use Rattle.std.proofs.Common.{◌≡◌, flat_map, ◌++◌, subst}
 use Rattle.pw_first_code.specs.Appends.{AppendsFront}
 use Rattle.std.proofs.lemmas.Result.{err_from_is_err_and}

@@ -1,4 +1,4 @@
--- An output that is refused leaves a front of the words.
+-- An output that is refused leaves a prefix of the words.
 use Rattle.std.proofs.Common.{take, drop, get_or, suc, ◌<◌, length}
 use Rattle.std.proofs.Math.Seq.{split_at}
 use Rattle.std.proofs.lemmas.Result.{err_from_is_err_and}
