@@ -65,5 +65,6 @@ pub mod ImageReady
 pub mod ImageVariables
 pub mod Meaning
 pub mod ImageRuns
+pub mod AlikeImages
 pub mod AlikeMemories
 pub mod AlikeRuns

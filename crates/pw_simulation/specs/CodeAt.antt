@@ -5,7 +5,7 @@ use Rattle.pw_tree.specs.declared.ty.Ref.{Ref}
 use Rattle.pw_tree.specs.declared.ty.Ref.TheVariants.{Global, LocalFun, LocalVar}
 use Rattle.pw_hart.specs.Bits.{bits64}
 use Rattle.pw_hart.specs.Integer.{add}
-use Rattle.pw_hart.specs.Exec.{upper}
+use Rattle.pw_hart.specs.Exec.{upper as upper_bits}
 use Rattle.pw_code.specs.Items.{CodePart, instruction, address}
 use Rattle.pw_agree.specs.Image.{with_lower}
 use Rattle.pw_simulation.specs.World.{World, target_place}
@@ -22,7 +22,7 @@ pub record Brings (w : World) (m u at rd : ℕ) (to : Ref) : Type 0 where
   pub lower_part : ℤ
   pub first : w.code at ≡ Some (Auipc rd upper_part)
   pub second : w.code (at + 4) ≡ Some (with_lower rd to lower_part)
-  pub there : add (add at (upper upper_part)) (bits64 lower_part) ≡ target_place w m u to
+  pub there : add (add at (upper_bits upper_part)) (bits64 lower_part) ≡ target_place w m u to
   pub slot : HasSlot w m to
 
 -- Code of a unit stands at a place.

@@ -12,7 +12,7 @@ use Rattle.pw_agree.specs.Kept.{Keep}
 use Rattle.pw_agree.specs.Placing.{text_of}
 use Rattle.pw_agree.specs.Image.{image}
 use Rattle.pw_simulation.specs.Programs.{RunsAsMeant}
-use Rattle.pw_simulation.specs.AnyRuns.{BeginsAsMeant}
+use Rattle.pw_simulation.specs.AnyRuns.{RunAlike, BeginsAsMeant}
 use Rattle.pw_simulation.specs.Projects.{CanRun, KeepsEnough, HoldsKept}
 use Rattle.pw_simulation.specs.ImageWorld.{words_of_project, world_of}
 
@@ -39,6 +39,14 @@ TheImageRunsAsMeant =
     (project : Project) (keep in_memory : Keep) (input : List ℕ) (bound limit : ℕ) → CanRun project → KeepsEnough project keep →
     HoldsKept keep in_memory → IsInput input → (bound + 1) * words_of_project project ≤ limit →
     RunsAsMeant (world_of project keep) (meaning project input bound) bound (run limit (start_of project in_memory input bound))
+
+-- Both modes do the same, down to each address that is fetched: two images that have at least what is kept in memory, as a
+-- piece-wise and a whole one have, run alike.
+abbrev pub ImagesRunAlike : Type 0
+ImagesRunAlike =
+    (project : Project) (keep in_memory other : Keep) (input : List ℕ) (bound limit : ℕ) → CanRun project → KeepsEnough project keep →
+    HoldsKept keep in_memory → HoldsKept keep other → IsInput input → (bound + 1) * words_of_project project ≤ limit →
+    RunAlike (run limit (start_of project in_memory input bound)) (run limit (start_of project other input bound))
 
 -- A run that is cut short before that is a beginning of what the project means, in either mode.
 abbrev pub TheImageBeginsAsMeant : Type 0

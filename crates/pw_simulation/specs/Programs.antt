@@ -45,7 +45,7 @@ pub record IsRunnableFunction (w : World) (d : Definition) (f : Function) : Type
       AllByRecursion (IsLinked w (body_of d unit typed.classes f stack_pointer calls_left)) (names_of_all f.body)
 
 -- The name `main` means a function without parameters that gives a number.
-pub record HasMain (w : World) : Type 0 where
+pub record MeansMain (w : World) : Type 0 where
   pub d : Definition
   pub found : definition_of w.project (codes "main") ≡ Some (function d)
   pub function_is : Function
@@ -75,7 +75,7 @@ LiesInKeptCode w at = LiesInEntry w at ⊎ LiesInKeptFunction w at
 -- A world in which a project can be run.
 pub record IsRunnable (w : World) : Type 0 where
   pub functions : (d : Definition) (f : Function) → IsKeptFunction w d f → IsRunnableFunction w d f
-  pub main : HasMain w
+  pub main : MeansMain w
   pub stack : HasStack w
   -- the world's code is that of the entry and of kept functions alone
   pub nothing_else : (at : ℕ) → IsCode w.code at → LiesInKeptCode w at

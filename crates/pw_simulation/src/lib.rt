@@ -11,7 +11,7 @@ pub use laws::{
     sealed_text_stays_in_runs, statements_run, stores_are_carried_out, the_run_is_the_meaning,
 };
 pub use projects::{
-    all_is_enough, bodies_are_linked, functions_stand_apart, images_are_ready, images_are_seen, kept_is_enough,
+    all_is_enough, bodies_are_linked, functions_stand_apart, images_are_ready, images_are_seen, images_run_alike, kept_is_enough,
     projects_are_runnable, the_image_begins_as_meant, the_image_runs_as_meant,
     well_typed_code_has_words,
 };
