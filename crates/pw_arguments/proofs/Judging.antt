@@ -9,13 +9,16 @@ use Rattle.pw_arguments.specs.Arguments.{bytes_of}
 use Rattle.pw_arguments.specs.Words.{AreWords}
 
 -- the bytes of arguments before one, of it, and of those after it
-pub bytes_at : (arguments : List (Vec ℕ Global)) (i : ℕ) (a : Vec ℕ Global) → i < length arguments → a ≡ get_or arguments i a → bytes_of arguments ≡ bytes_of (take i arguments) ++ (a.items ∷ bytes_of (drop (i + 1) arguments))
+pub bytes_at : (arguments : List (Vec ℕ Global)) (i : ℕ) (a : Vec ℕ Global) → i < length arguments →
+    a ≡ get_or arguments i a →
+    bytes_of arguments ≡ bytes_of (take i arguments) ++ (a.items ∷ bytes_of (drop (i + 1) arguments))
 bytes_at arguments i a inside is =
     ap bytes_of (sym (take-append-drop i arguments)) ∙ map-append (λ v. v.items) (take i arguments) (drop i arguments)
     ∙ ap (λ rest. bytes_of (take i arguments) ++ bytes_of rest) (drop_more arguments i a inside ∙ ap (λ v. v ∷ drop (i + 1) arguments) (sym is))
 
 -- the bytes of one argument more
-pub bytes_more : (arguments : List (Vec ℕ Global)) (i : ℕ) (a : Vec ℕ Global) → i < length arguments → a ≡ get_or arguments i a → bytes_of (take (i + 1) arguments) ≡ bytes_of (take i arguments) ++ a.items ∷ []
+pub bytes_more : (arguments : List (Vec ℕ Global)) (i : ℕ) (a : Vec ℕ Global) → i < length arguments →
+    a ≡ get_or arguments i a → bytes_of (take (i + 1) arguments) ≡ bytes_of (take i arguments) ++ a.items ∷ []
 bytes_more arguments i a inside is =
     ap bytes_of (take_more arguments i a inside ∙ ap (λ v. take i arguments ++ v ∷ []) (sym is))
     ∙ map-append (λ v. v.items) (take i arguments) (a ∷ [])
@@ -38,7 +41,9 @@ pub record AreJudged (limit bytes : ℕ) (first : List (List ℕ)) : Type 0 wher
 pub judged_none : (limit : ℕ) → 0 < limit → AreJudged limit 0 []
 judged_none limit some = record { counted = refl; short = some; texts = All-nil IsUtf8 }
 
-pub judged_one : (limit bytes size : ℕ) (first more : List (List ℕ)) (argument : List ℕ) → more ≡ first ++ argument ∷ [] → size ≡ bytes + length argument → AreJudged limit bytes first → size < limit → IsUtf8 argument → AreJudged limit size more
+pub judged_one : (limit bytes size : ℕ) (first more : List (List ℕ)) (argument : List ℕ) → more ≡ first ++ argument ∷ [] →
+    size ≡ bytes + length argument → AreJudged limit bytes first → size < limit → IsUtf8 argument →
+    AreJudged limit size more
 judged_one limit bytes size first more argument is size_is judged short text = record {
   counted = omega (arith, size_is, judged.counted, sum_by-append length first (argument ∷ []), sum_by-cons length argument [], ap (sum_by length) is);
   short = short;
@@ -46,16 +51,20 @@ judged_one limit bytes size first more argument is size_is judged short text = r
 }
 
 -- too many bytes before the end are too many
-pub too_long : (limit bytes : ℕ) (all before after : List (List ℕ)) (argument : List ℕ) → all ≡ before ++ (argument ∷ after) → AreJudged limit bytes before → limit - bytes ≤ length argument → ¬ AreWords limit all
+pub too_long : (limit bytes : ℕ) (all before after : List (List ℕ)) (argument : List ℕ) →
+    all ≡ before ++ (argument ∷ after) → AreJudged limit bytes before → limit - bytes ≤ length argument →
+    ¬ AreWords limit all
 too_long limit bytes all before after argument is judged long words =
     absurd (omega (arith, words.short, ap (sum_by length) is, sum_by-append length before (argument ∷ after), sum_by-cons length argument after, judged.counted, judged.short, long))
 
 -- one that is no text is one too many
-pub no_text : (limit : ℕ) (all before after : List (List ℕ)) (argument : List ℕ) → all ≡ before ++ (argument ∷ after) → ¬ IsUtf8 argument → ¬ AreWords limit all
+pub no_text : (limit : ℕ) (all before after : List (List ℕ)) (argument : List ℕ) → all ≡ before ++ (argument ∷ after) →
+    ¬ IsUtf8 argument → ¬ AreWords limit all
 no_text limit all before after argument is not words = not (at_place IsUtf8 all before after argument is words.texts)
 
 -- all of them were judged
-pub judged_all : (limit bytes : ℕ) (arguments : List (Vec ℕ Global)) (i : ℕ) → length arguments ≤ i → length arguments < limit → AreJudged limit bytes (bytes_of (take i arguments)) → AreWords limit (bytes_of arguments)
+pub judged_all : (limit bytes : ℕ) (arguments : List (Vec ℕ Global)) (i : ℕ) → length arguments ≤ i →
+    length arguments < limit → AreJudged limit bytes (bytes_of (take i arguments)) → AreWords limit (bytes_of arguments)
 judged_all limit bytes arguments i past few judged =
     let whole : bytes_of (take i arguments) ≡ bytes_of arguments = ap bytes_of (take_all i arguments past) in
     let J : List (List ℕ) → Type 0 = λ first. AreJudged limit bytes first in

@@ -28,7 +28,9 @@ pub read_none : (arguments : Option (List (List ℕ))) (found : List (Vec ℕ Gl
 read_none None found is = tt
 read_none (Some list) found is = ap (λ none. bytes_of none ++ drop 1 list) (sym is)
 
-pub read_one : (arguments : Option (List (List ℕ))) (found more : List (Vec ℕ Global)) (argument : Vec ℕ Global) (number : ℕ) → more ≡ found ++ argument ∷ [] → IsReadTo arguments found number → IsArgument arguments number (Some argument) → IsReadTo arguments more (number + 1)
+pub read_one : (arguments : Option (List (List ℕ))) (found more : List (Vec ℕ Global)) (argument : Vec ℕ Global) (number : ℕ) →
+    more ≡ found ++ argument ∷ [] → IsReadTo arguments found number → IsArgument arguments number (Some argument) →
+    IsReadTo arguments more (number + 1)
 read_one None found more argument number is read there = tt
 read_one (Some list) found more argument number is read there =
     read
@@ -36,7 +38,8 @@ read_one (Some list) found more argument number is read there =
     ∙ sym (append_assoc (bytes_of found) (argument.items ∷ []) (drop (number + 1) list))
     ∙ ap (λ bytes. bytes ++ drop (number + 1) list) (sym (ap bytes_of is ∙ map-append (λ a. a.items) found (argument ∷ [])))
 
-pub read_all : (arguments : Option (List (List ℕ))) (found : List (Vec ℕ Global)) (number : ℕ) → IsReadTo arguments found number → IsArgument arguments number None → AreAfterName arguments (bytes_of found)
+pub read_all : (arguments : Option (List (List ℕ))) (found : List (Vec ℕ Global)) (number : ℕ) →
+    IsReadTo arguments found number → IsArgument arguments number None → AreAfterName arguments (bytes_of found)
 read_all None found number read there = tt
 read_all (Some list) found number read there =
     read ∙ ap (λ rest. bytes_of found ++ rest) (from_no_place list number there) ∙ append-nil (bytes_of found)

@@ -14,7 +14,7 @@ pub enum WordsError {
     /// They are no words.
     #[error("no words")]
     NoWords,
-    /// Memory was refused.
+    /// Out of memory.
     #[error("out of memory")]
     NoMemory,
 }

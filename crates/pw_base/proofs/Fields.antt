@@ -39,7 +39,8 @@ found_where true x v e = (refl, some_is x v e)
 found_where false x v e = absurd cc
 
 -- what is read as a field is written so
-pub read_field_is_written : (width : ℕ) (bytes : List ℕ) (value : ℕ) → AreBytes bytes → first_field width bytes ≡ Some value → (bytes ≡ field width value ++ drop width bytes) × (value < 256 ^ width)
+pub read_field_is_written : (width : ℕ) (bytes : List ℕ) (value : ℕ) → AreBytes bytes →
+    first_field width bytes ≡ Some value → (bytes ≡ field width value ++ drop width bytes) × (value < 256 ^ width)
 unfolding field first_field
 read_field_is_written width bytes value small found =
     let parts = found_where _ (le (take width bytes)) value found in

@@ -47,11 +47,13 @@ Has-inside bytes off part h =
     omega arith
 
 -- a field that stands there is read there
-pub Has-field : (bytes : List ℕ) (off width value : ℕ) → value < 256 ^ width → Has bytes off (field width value) → field_at width bytes off ≡ Some value
+pub Has-field : (bytes : List ℕ) (off width value : ℕ) → value < 256 ^ width → Has bytes off (field width value) →
+    field_at width bytes off ≡ Some value
 Has-field bytes off width value small h = rw (Has-drop bytes off (field width value) h) (written_field_is_read width value h.after small)
 
 -- two parts that stand one right after the other stand there as one
-pub Has-join : (bytes : List ℕ) (off next n : ℕ) (x y : List ℕ) → length x ≡ n → next ≡ off + n → Has bytes off x → Has bytes next y → Has bytes off (x ++ y)
+pub Has-join : (bytes : List ℕ) (off next n : ℕ) (x y : List ℕ) → length x ≡ n → next ≡ off + n → Has bytes off x →
+    Has bytes next y → Has bytes off (x ++ y)
 Has-join bytes off next n x y len is h g =
     let at = h.at in
     let both : length (h.before ++ x) ≡ next = omega (arith, length-append h.before x, at, len, is) in
@@ -66,7 +68,8 @@ Has-join bytes off next n x y len is h g =
     }
 
 -- each of laid parts stands at its place
-pub laid_parts_stand : (off : ℕ) (ps : List Part) (k : ℕ) (p : Part) (bytes : List ℕ) → Has bytes off (laid off ps) → slice_get ps k ≡ Some p → Has bytes (part_offset off ps k) p.content
+pub laid_parts_stand : (off : ℕ) (ps : List Part) (k : ℕ) (p : Part) (bytes : List ℕ) → Has bytes off (laid off ps) →
+    slice_get ps k ≡ Some p → Has bytes (part_offset off ps k) p.content
 laid_parts_stand off [] k p bytes h found = absurd cc
 laid_parts_stand off (q ∷ qs) zero p bytes h found =
     let same : q ≡ p = cc in

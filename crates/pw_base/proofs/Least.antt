@@ -3,7 +3,8 @@ use Rattle.std.proofs.Common.{◌≡◌, ℕ, zero, suc, ◌+◌, ◌-◌, ◌<�
 use Rattle.std.proofs.lemmas.Bool.{cases_eq}
 use Rattle.pw_base.specs.Least.{least, IsLeast}
 
-least_step : (test : ℕ → Bool) (start count found : ℕ) (b : Bool) → test start ≡ b → ((found' : ℕ) → least test (suc start) count ≡ Some found' → IsLeast test (suc start) (suc start + count) found')
+least_step : (test : ℕ → Bool) (start count found : ℕ) (b : Bool) → test start ≡ b →
+    ((found' : ℕ) → least test (suc start) count ≡ Some found' → IsLeast test (suc start) (suc start + count) found')
     → cond b (Some start) (least test (suc start) count) ≡ Some found → IsLeast test start (start + suc count) found
 least_step test start count found true holds later e =
     let same : start ≡ found = cc in
@@ -23,7 +24,8 @@ unfolding least
 least_is test start zero found e = absurd cc
 least_is test start (suc count) found e = least_step test start count found (test start) refl (least_is test (suc start) count) e
 
-none_step : (test : ℕ → Bool) (start count : ℕ) (b : Bool) → test start ≡ b → (least test (suc start) count ≡ None → (k : ℕ) → suc start ≤ k → k < suc start + count → test k ≡ false)
+none_step : (test : ℕ → Bool) (start count : ℕ) (b : Bool) → test start ≡ b →
+    (least test (suc start) count ≡ None → (k : ℕ) → suc start ≤ k → k < suc start + count → test k ≡ false)
     → cond b (Some start) (least test (suc start) count) ≡ None → (k : ℕ) → start ≤ k → k < start + suc count → test k ≡ false
 none_step test start count true holds later e k low high = absurd cc
 none_step test start count false fails later e k low high = elim (cases_eq start k) [ inl same ↦ rw (← same) fails | inr other ↦ later e k (omega arith) (omega arith) ]
@@ -35,7 +37,8 @@ none_from test start zero e k low high = absurd (omega arith)
 none_from test start (suc count) e k low high = none_step test start count (test start) refl (none_from test (suc start) count) e k low high
 
 -- for a loop from `start` up to `end`: past a number at which the test fails, the answer is that of the rest
-pub least_more : (test : ℕ → Bool) (i end : ℕ) (answer : Option ℕ) → i < end → test i ≡ false → answer ≡ least test i (end - i) → answer ≡ least test (i + 1) (end - (i + 1))
+pub least_more : (test : ℕ → Bool) (i end : ℕ) (answer : Option ℕ) → i < end → test i ≡ false →
+    answer ≡ least test i (end - i) → answer ≡ least test (i + 1) (end - (i + 1))
 unfolding least
 least_more test i end answer within fails so_far =
     let k : end - i ≡ suc (end - (i + 1)) = omega arith in

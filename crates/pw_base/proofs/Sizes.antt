@@ -30,7 +30,8 @@ decimal_digits = decimal_by_steps (λ n digits. list_all (is_from 48 57) digits 
     (λ n digits large all. list_all-append (is_from 48 57) digits ((48 + n % 10) ∷ []) ∙ grind (arith, nat_tests))
 
 -- a size is spelled by one digit from 1 to 9 and at most four more
-pub size_is_numeral : (first : ℕ) (more : List ℕ) → IsSize (first ∷ more) → (is_from 49 57 first && nat_lt (length more) 5 && list_all (is_from 48 57) more) ≡ true
+pub size_is_numeral : (first : ℕ) (more : List ℕ) → IsSize (first ∷ more) →
+    (is_from 49 57 first && nat_lt (length more) 5 && list_all (is_from 48 57) more) ≡ true
 size_is_numeral first more is_size =
     let small : is_size.size < 2 ^ 64 = omega (arith, is_size.within) in
     let leads : 48 < first = subst (λ digits. 48 < get_or digits 0 0) (sym is_size.spelled) (first_decimal is_size.size is_size.some small) in
@@ -50,17 +51,21 @@ first_and_rest (digit ∷ digits) some =
     let rest : length (digit ∷ digits) - 1 ≡ length digits = omega arith in rw (rest, take-length digits) refl
 
 -- what the test of a numeral says
-pub numeral_parts : (first : ℕ) (more : List ℕ) → (is_from 49 57 first && nat_lt (length more) 5 && list_all (is_from 48 57) more) ≡ true → (49 ≤ first) × (first ≤ 57) × (length more < 5) × (list_all (is_from 48 57) more ≡ true)
+pub numeral_parts : (first : ℕ) (more : List ℕ) →
+    (is_from 49 57 first && nat_lt (length more) 5 && list_all (is_from 48 57) more) ≡ true →
+    (49 ≤ first) × (first ≤ 57) × (length more < 5) × (list_all (is_from 48 57) more ≡ true)
 numeral_parts first more is_numeral = grind (arith, nat_tests)
 
 -- each of some digits is one
-digit_at : (digits : List ℕ) (i : ℕ) → list_all (is_from 48 57) digits ≡ true → i < length digits → (48 ≤ get_or digits i 0) × (get_or digits i 0 ≤ 57)
+digit_at : (digits : List ℕ) (i : ℕ) → list_all (is_from 48 57) digits ≡ true → i < length digits →
+    (48 ≤ get_or digits i 0) × (get_or digits i 0 ≤ 57)
 digit_at [] i all within = absurd (omega arith)
 digit_at (digit ∷ digits) zero all within = grind (arith, nat_tests)
 digit_at (digit ∷ digits) (suc i) all within = digit_at digits i (grind (arith, nat_tests)) (omega arith)
 
 -- the digit at a place, after the number of those before it
-pub numeral_step : (first : ℕ) (more : List ℕ) (i n digit : ℕ) → length more < 5 → list_all (is_from 48 57) more ≡ true → i < length more → digit ≡ get_or more i 0 - 48
+pub numeral_step : (first : ℕ) (more : List ℕ) (i n digit : ℕ) → length more < 5 → list_all (is_from 48 57) more ≡ true →
+    i < length more → digit ≡ get_or more i 0 - 48
     → (decimal n ≡ first ∷ take i more) × (1 ≤ n) × (n < 10 ^ (i + 1))
     → (decimal (10 * n + digit) ≡ first ∷ take (i + 1) more) × (1 ≤ 10 * n + digit) × (10 * n + digit < 10 ^ (i + 1 + 1))
 numeral_step first more i n digit few all within is_digit so_far =

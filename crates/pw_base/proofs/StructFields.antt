@@ -22,7 +22,8 @@ pub longer : (x y : List ℕ) (m n : ℕ) → length x ≡ m → length y ≡ n 
 longer x y m n x_is y_is = omega (arith, length-append x y, x_is, y_is)
 
 -- a field that stands after other bytes is read there, and these stand before it
-pub takes_last : (bytes : List ℕ) (off count width : ℕ) (before : List ℕ) (value : ℕ) → length before ≡ count → value < 256 ^ width → Has bytes off (before ++ field width value)
+pub takes_last : (bytes : List ℕ) (off count width : ℕ) (before : List ℕ) (value : ℕ) → length before ≡ count →
+    value < 256 ^ width → Has bytes off (before ++ field width value)
     → (field_at width bytes (off + count) ≡ Some value) × Has bytes off before
 takes_last bytes off count width before value len small stands =
     (Has-field bytes (off + count) width value small (Has-right bytes off count before (field width value) len stands), Has-left bytes off before (field width value) stands)

@@ -67,7 +67,15 @@ header_read s bytes off fits stands =
 abbrev header_of : List ℕ → ℕ → ℕ → ℕ → ℕ → ℕ → ℕ → ℕ → ℕ → ℕ → ℕ → ℕ → ℕ → ℕ → Header
 header_of ident kind machine version entry phoff shoff flags ehsize phentsize phnum shentsize shnum shstrndx = record { ident = ident; kind = kind; machine = machine; version = version; entry = entry; phoff = phoff; shoff = shoff; flags = flags; ehsize = ehsize; phentsize = phentsize; phnum = phnum; shentsize = shentsize; shnum = shnum; shstrndx = shstrndx }
 
-header_stands : (bytes : List ℕ) (off : ℕ) (ident : List ℕ) (kind machine version entry phoff shoff flags ehsize phentsize phnum shentsize shnum shstrndx : ℕ) → AreBytes bytes → slice_at 16 bytes off ≡ Some ident → field_at 2 bytes (off + 16) ≡ Some kind → field_at 2 bytes (off + 18) ≡ Some machine → field_at 4 bytes (off + 20) ≡ Some version → field_at 8 bytes (off + 24) ≡ Some entry → field_at 8 bytes (off + 32) ≡ Some phoff → field_at 8 bytes (off + 40) ≡ Some shoff → field_at 4 bytes (off + 48) ≡ Some flags → field_at 2 bytes (off + 52) ≡ Some ehsize → field_at 2 bytes (off + 54) ≡ Some phentsize → field_at 2 bytes (off + 56) ≡ Some phnum → field_at 2 bytes (off + 58) ≡ Some shentsize → field_at 2 bytes (off + 60) ≡ Some shnum → field_at 2 bytes (off + 62) ≡ Some shstrndx
+header_stands : (bytes : List ℕ) (off : ℕ) (ident : List ℕ)
+    (kind machine version entry phoff shoff flags ehsize phentsize phnum shentsize shnum shstrndx : ℕ) → AreBytes bytes →
+    slice_at 16 bytes off ≡ Some ident → field_at 2 bytes (off + 16) ≡ Some kind →
+    field_at 2 bytes (off + 18) ≡ Some machine → field_at 4 bytes (off + 20) ≡ Some version →
+    field_at 8 bytes (off + 24) ≡ Some entry → field_at 8 bytes (off + 32) ≡ Some phoff →
+    field_at 8 bytes (off + 40) ≡ Some shoff → field_at 4 bytes (off + 48) ≡ Some flags →
+    field_at 2 bytes (off + 52) ≡ Some ehsize → field_at 2 bytes (off + 54) ≡ Some phentsize →
+    field_at 2 bytes (off + 56) ≡ Some phnum → field_at 2 bytes (off + 58) ≡ Some shentsize →
+    field_at 2 bytes (off + 60) ≡ Some shnum → field_at 2 bytes (off + 62) ≡ Some shstrndx
     → HeaderFits (header_of ident kind machine version entry phoff shoff flags ehsize phentsize phnum shentsize shnum shstrndx) × Has bytes off (header_bytes (header_of ident kind machine version entry phoff shoff flags ehsize phentsize phnum shentsize shnum shstrndx))
 unfolding header_bytes
 header_stands bytes off ident kind machine version entry phoff shoff flags ehsize phentsize phnum shentsize shnum shstrndx are ident_found kind_found machine_found version_found entry_found phoff_found shoff_found flags_found ehsize_found phentsize_found phnum_found shentsize_found shnum_found shstrndx_found =
@@ -113,7 +121,8 @@ header_stands bytes off ident kind machine version entry phoff shoff flags ehsiz
     let with_shstrndx = Has-join bytes off (off + 62) 62 _ (field 2 shstrndx) to_shnum refl with_shnum shstrndx_has.1 in
     (record { ident = ident_has.0; kind = kind_has.0; machine = machine_has.0; version = version_has.0; entry = entry_has.0; phoff = phoff_has.0; shoff = shoff_has.0; flags = flags_has.0; ehsize = ehsize_has.0; phentsize = phentsize_has.0; phnum = phnum_has.0; shentsize = shentsize_has.0; shnum = shnum_has.0; shstrndx = shstrndx_has.0 }, with_shstrndx)
 
-header_written : (s : Header) (bytes : List ℕ) (off : ℕ) → AreBytes bytes → header_at bytes off ≡ Some s → HeaderFits s × Has bytes off (header_bytes s)
+header_written : (s : Header) (bytes : List ℕ) (off : ℕ) → AreBytes bytes → header_at bytes off ≡ Some s →
+    HeaderFits s × Has bytes off (header_bytes s)
 unfolding header_at
 header_written s bytes off are found =
     let ident = bind_some (slice_at 16 bytes off) _ s found in
@@ -180,7 +189,12 @@ section_read s bytes off fits stands =
 abbrev section_of : ℕ → ℕ → ℕ → ℕ → ℕ → ℕ → ℕ → ℕ → ℕ → ℕ → Section
 section_of name kind flags addr offset size link info addralign entsize = record { name = name; kind = kind; flags = flags; addr = addr; offset = offset; size = size; link = link; info = info; addralign = addralign; entsize = entsize }
 
-section_stands : (bytes : List ℕ) (off : ℕ) (name kind flags addr offset size link info addralign entsize : ℕ) → AreBytes bytes → field_at 4 bytes off ≡ Some name → field_at 4 bytes (off + 4) ≡ Some kind → field_at 8 bytes (off + 8) ≡ Some flags → field_at 8 bytes (off + 16) ≡ Some addr → field_at 8 bytes (off + 24) ≡ Some offset → field_at 8 bytes (off + 32) ≡ Some size → field_at 4 bytes (off + 40) ≡ Some link → field_at 4 bytes (off + 44) ≡ Some info → field_at 8 bytes (off + 48) ≡ Some addralign → field_at 8 bytes (off + 56) ≡ Some entsize
+section_stands : (bytes : List ℕ) (off : ℕ) (name kind flags addr offset size link info addralign entsize : ℕ) →
+    AreBytes bytes → field_at 4 bytes off ≡ Some name → field_at 4 bytes (off + 4) ≡ Some kind →
+    field_at 8 bytes (off + 8) ≡ Some flags → field_at 8 bytes (off + 16) ≡ Some addr →
+    field_at 8 bytes (off + 24) ≡ Some offset → field_at 8 bytes (off + 32) ≡ Some size →
+    field_at 4 bytes (off + 40) ≡ Some link → field_at 4 bytes (off + 44) ≡ Some info →
+    field_at 8 bytes (off + 48) ≡ Some addralign → field_at 8 bytes (off + 56) ≡ Some entsize
     → SectionFits (section_of name kind flags addr offset size link info addralign entsize) × Has bytes off (section_bytes (section_of name kind flags addr offset size link info addralign entsize))
 unfolding section_bytes
 section_stands bytes off name kind flags addr offset size link info addralign entsize are name_found kind_found flags_found addr_found offset_found size_found link_found info_found addralign_found entsize_found =
@@ -214,7 +228,8 @@ section_stands bytes off name kind flags addr offset size link info addralign en
     let with_entsize = Has-join bytes off (off + 56) 56 _ (field 8 entsize) to_addralign refl with_addralign entsize_has.1 in
     (record { name = name_has.0; kind = kind_has.0; flags = flags_has.0; addr = addr_has.0; offset = offset_has.0; size = size_has.0; link = link_has.0; info = info_has.0; addralign = addralign_has.0; entsize = entsize_has.0 }, with_entsize)
 
-section_written : (s : Section) (bytes : List ℕ) (off : ℕ) → AreBytes bytes → section_at bytes off ≡ Some s → SectionFits s × Has bytes off (section_bytes s)
+section_written : (s : Section) (bytes : List ℕ) (off : ℕ) → AreBytes bytes → section_at bytes off ≡ Some s →
+    SectionFits s × Has bytes off (section_bytes s)
 unfolding section_at
 section_written s bytes off are found =
     let name = bind_some (field_at 4 bytes off) _ s found in
@@ -271,7 +286,11 @@ segment_read s bytes off fits stands =
 abbrev segment_of : ℕ → ℕ → ℕ → ℕ → ℕ → ℕ → ℕ → ℕ → Segment
 segment_of kind flags offset vaddr paddr filesz memsz align = record { kind = kind; flags = flags; offset = offset; vaddr = vaddr; paddr = paddr; filesz = filesz; memsz = memsz; align = align }
 
-segment_stands : (bytes : List ℕ) (off : ℕ) (kind flags offset vaddr paddr filesz memsz align : ℕ) → AreBytes bytes → field_at 4 bytes off ≡ Some kind → field_at 4 bytes (off + 4) ≡ Some flags → field_at 8 bytes (off + 8) ≡ Some offset → field_at 8 bytes (off + 16) ≡ Some vaddr → field_at 8 bytes (off + 24) ≡ Some paddr → field_at 8 bytes (off + 32) ≡ Some filesz → field_at 8 bytes (off + 40) ≡ Some memsz → field_at 8 bytes (off + 48) ≡ Some align
+segment_stands : (bytes : List ℕ) (off : ℕ) (kind flags offset vaddr paddr filesz memsz align : ℕ) → AreBytes bytes →
+    field_at 4 bytes off ≡ Some kind → field_at 4 bytes (off + 4) ≡ Some flags → field_at 8 bytes (off + 8) ≡ Some offset →
+    field_at 8 bytes (off + 16) ≡ Some vaddr → field_at 8 bytes (off + 24) ≡ Some paddr →
+    field_at 8 bytes (off + 32) ≡ Some filesz → field_at 8 bytes (off + 40) ≡ Some memsz →
+    field_at 8 bytes (off + 48) ≡ Some align
     → SegmentFits (segment_of kind flags offset vaddr paddr filesz memsz align) × Has bytes off (segment_bytes (segment_of kind flags offset vaddr paddr filesz memsz align))
 unfolding segment_bytes
 segment_stands bytes off kind flags offset vaddr paddr filesz memsz align are kind_found flags_found offset_found vaddr_found paddr_found filesz_found memsz_found align_found =
@@ -299,7 +318,8 @@ segment_stands bytes off kind flags offset vaddr paddr filesz memsz align are ki
     let with_align = Has-join bytes off (off + 48) 48 _ (field 8 align) to_memsz refl with_memsz align_has.1 in
     (record { kind = kind_has.0; flags = flags_has.0; offset = offset_has.0; vaddr = vaddr_has.0; paddr = paddr_has.0; filesz = filesz_has.0; memsz = memsz_has.0; align = align_has.0 }, with_align)
 
-segment_written : (s : Segment) (bytes : List ℕ) (off : ℕ) → AreBytes bytes → segment_at bytes off ≡ Some s → SegmentFits s × Has bytes off (segment_bytes s)
+segment_written : (s : Segment) (bytes : List ℕ) (off : ℕ) → AreBytes bytes → segment_at bytes off ≡ Some s →
+    SegmentFits s × Has bytes off (segment_bytes s)
 unfolding segment_at
 segment_written s bytes off are found =
     let kind = bind_some (field_at 4 bytes off) _ s found in
@@ -348,7 +368,10 @@ symbol_read s bytes off fits stands =
 abbrev symbol_of : ℕ → ℕ → ℕ → ℕ → ℕ → ℕ → Sym
 symbol_of name info other shndx value size = record { name = name; info = info; other = other; shndx = shndx; value = value; size = size }
 
-symbol_stands : (bytes : List ℕ) (off : ℕ) (name info other shndx value size : ℕ) → AreBytes bytes → field_at 4 bytes off ≡ Some name → field_at 1 bytes (off + 4) ≡ Some info → field_at 1 bytes (off + 5) ≡ Some other → field_at 2 bytes (off + 6) ≡ Some shndx → field_at 8 bytes (off + 8) ≡ Some value → field_at 8 bytes (off + 16) ≡ Some size
+symbol_stands : (bytes : List ℕ) (off : ℕ) (name info other shndx value size : ℕ) → AreBytes bytes →
+    field_at 4 bytes off ≡ Some name → field_at 1 bytes (off + 4) ≡ Some info → field_at 1 bytes (off + 5) ≡ Some other →
+    field_at 2 bytes (off + 6) ≡ Some shndx → field_at 8 bytes (off + 8) ≡ Some value →
+    field_at 8 bytes (off + 16) ≡ Some size
     → SymFits (symbol_of name info other shndx value size) × Has bytes off (symbol_bytes (symbol_of name info other shndx value size))
 unfolding symbol_bytes
 symbol_stands bytes off name info other shndx value size are name_found info_found other_found shndx_found value_found size_found =
@@ -408,7 +431,8 @@ rela_read s bytes off fits stands =
 abbrev rela_of : ℕ → ℕ → ℕ → Rela
 rela_of offset info addend = record { offset = offset; info = info; addend = cast_signed w64 addend }
 
-rela_stands : (bytes : List ℕ) (off : ℕ) (offset info addend : ℕ) → AreBytes bytes → field_at 8 bytes off ≡ Some offset → field_at 8 bytes (off + 8) ≡ Some info → field_at 8 bytes (off + 16) ≡ Some addend
+rela_stands : (bytes : List ℕ) (off : ℕ) (offset info addend : ℕ) → AreBytes bytes → field_at 8 bytes off ≡ Some offset →
+    field_at 8 bytes (off + 8) ≡ Some info → field_at 8 bytes (off + 16) ≡ Some addend
     → RelaFits (rela_of offset info addend) × Has bytes off (rela_bytes (rela_of offset info addend))
 unfolding rela_bytes
 rela_stands bytes off offset info addend are offset_found info_found addend_found =
@@ -465,7 +489,8 @@ dynamic_stands bytes off tag val are tag_found val_found =
     let with_val = Has-join bytes off (off + 8) 8 _ (field 8 val) to_tag refl tag_bits val_has.1 in
     (record { tag = bits_fit tag tag_has.0; val = val_has.0 }, with_val)
 
-dynamic_written : (s : Dynamic) (bytes : List ℕ) (off : ℕ) → AreBytes bytes → dynamic_at bytes off ≡ Some s → DynamicFits s × Has bytes off (dynamic_bytes s)
+dynamic_written : (s : Dynamic) (bytes : List ℕ) (off : ℕ) → AreBytes bytes → dynamic_at bytes off ≡ Some s →
+    DynamicFits s × Has bytes off (dynamic_bytes s)
 unfolding dynamic_at
 dynamic_written s bytes off are found =
     let tag = bind_some (field_at 8 bytes off) _ s found in

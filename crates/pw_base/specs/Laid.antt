@@ -35,4 +35,5 @@ part_offset off (p ∷ ps) (suc k) = part_offset (align_up p.align off + length 
 -- each part stands at its place, whatever stands before all of them and after
 abbrev pub LaidPartsStandAtTheirPlaces : Type 0
 LaidPartsStandAtTheirPlaces =
-    (off : ℕ) (ps : List Part) (k : ℕ) (p : Part) (bytes : List ℕ) → Has bytes off (laid off ps) → slice_get ps k ≡ Some p → Has bytes (part_offset off ps k) p.content
+    (off : ℕ) (ps : List Part) (k : ℕ) (p : Part) (bytes : List ℕ) → Has bytes off (laid off ps) → slice_get ps k ≡ Some p →
+    Has bytes (part_offset off ps k) p.content

@@ -1,3 +1,5 @@
+-- What all layers have in common, in the order to read: limits, names, type strings, numbers as bytes, and the fields, parts
+-- and structs of a file.
 pub mod Limits
 pub mod LimitsOfCode
 pub mod Name

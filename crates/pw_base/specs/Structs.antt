@@ -36,7 +36,10 @@ header_size = 64
 
 -- the bytes of the file header: its fields, one after another
 unfoldable pub header_bytes : Header → List ℕ
-header_bytes s = s.ident ++ field 2 s.kind ++ field 2 s.machine ++ field 4 s.version ++ field 8 s.entry ++ field 8 s.phoff ++ field 8 s.shoff ++ field 4 s.flags ++ field 2 s.ehsize ++ field 2 s.phentsize ++ field 2 s.phnum ++ field 2 s.shentsize ++ field 2 s.shnum ++ field 2 s.shstrndx
+header_bytes s =
+    s.ident ++ field 2 s.kind ++ field 2 s.machine ++ field 4 s.version ++ field 8 s.entry ++ field 8 s.phoff
+    ++ field 8 s.shoff ++ field 4 s.flags ++ field 2 s.ehsize ++ field 2 s.phentsize ++ field 2 s.phnum
+    ++ field 2 s.shentsize ++ field 2 s.shnum ++ field 2 s.shstrndx
 
 -- the file header at an offset, where all of its bytes are there
 unfoldable pub header_at : List ℕ → ℕ → Option Header
@@ -55,7 +58,22 @@ header_at bytes off = do
   shentsize_is ← field_at 2 bytes (off + 58)
   shnum_is ← field_at 2 bytes (off + 60)
   shstrndx_is ← field_at 2 bytes (off + 62)
-  Some (record { ident = ident_is; kind = kind_is; machine = machine_is; version = version_is; entry = entry_is; phoff = phoff_is; shoff = shoff_is; flags = flags_is; ehsize = ehsize_is; phentsize = phentsize_is; phnum = phnum_is; shentsize = shentsize_is; shnum = shnum_is; shstrndx = shstrndx_is })
+  Some (record {
+    ident = ident_is;
+    kind = kind_is;
+    machine = machine_is;
+    version = version_is;
+    entry = entry_is;
+    phoff = phoff_is;
+    shoff = shoff_is;
+    flags = flags_is;
+    ehsize = ehsize_is;
+    phentsize = phentsize_is;
+    phnum = phnum_is;
+    shentsize = shentsize_is;
+    shnum = shnum_is;
+    shstrndx = shstrndx_is;
+  })
 
 -- a section header (gABI, "Sections")
 pub record Section : Type 0 where
@@ -76,7 +94,9 @@ section_size = 64
 
 -- the bytes of a section header: its fields, one after another
 unfoldable pub section_bytes : Section → List ℕ
-section_bytes s = field 4 s.name ++ field 4 s.kind ++ field 8 s.flags ++ field 8 s.addr ++ field 8 s.offset ++ field 8 s.size ++ field 4 s.link ++ field 4 s.info ++ field 8 s.addralign ++ field 8 s.entsize
+section_bytes s =
+    field 4 s.name ++ field 4 s.kind ++ field 8 s.flags ++ field 8 s.addr ++ field 8 s.offset ++ field 8 s.size
+    ++ field 4 s.link ++ field 4 s.info ++ field 8 s.addralign ++ field 8 s.entsize
 
 -- a section header at an offset, where all of its bytes are there
 unfoldable pub section_at : List ℕ → ℕ → Option Section
@@ -91,7 +111,18 @@ section_at bytes off = do
   info_is ← field_at 4 bytes (off + 44)
   addralign_is ← field_at 8 bytes (off + 48)
   entsize_is ← field_at 8 bytes (off + 56)
-  Some (record { name = name_is; kind = kind_is; flags = flags_is; addr = addr_is; offset = offset_is; size = size_is; link = link_is; info = info_is; addralign = addralign_is; entsize = entsize_is })
+  Some (record {
+    name = name_is;
+    kind = kind_is;
+    flags = flags_is;
+    addr = addr_is;
+    offset = offset_is;
+    size = size_is;
+    link = link_is;
+    info = info_is;
+    addralign = addralign_is;
+    entsize = entsize_is;
+  })
 
 -- a program header (gABI, "Program Header")
 pub record Segment : Type 0 where
@@ -110,7 +141,9 @@ segment_size = 56
 
 -- the bytes of a program header: its fields, one after another
 unfoldable pub segment_bytes : Segment → List ℕ
-segment_bytes s = field 4 s.kind ++ field 4 s.flags ++ field 8 s.offset ++ field 8 s.vaddr ++ field 8 s.paddr ++ field 8 s.filesz ++ field 8 s.memsz ++ field 8 s.align
+segment_bytes s =
+    field 4 s.kind ++ field 4 s.flags ++ field 8 s.offset ++ field 8 s.vaddr ++ field 8 s.paddr ++ field 8 s.filesz
+    ++ field 8 s.memsz ++ field 8 s.align
 
 -- a program header at an offset, where all of its bytes are there
 unfoldable pub segment_at : List ℕ → ℕ → Option Segment
@@ -123,7 +156,16 @@ segment_at bytes off = do
   filesz_is ← field_at 8 bytes (off + 32)
   memsz_is ← field_at 8 bytes (off + 40)
   align_is ← field_at 8 bytes (off + 48)
-  Some (record { kind = kind_is; flags = flags_is; offset = offset_is; vaddr = vaddr_is; paddr = paddr_is; filesz = filesz_is; memsz = memsz_is; align = align_is })
+  Some (record {
+    kind = kind_is;
+    flags = flags_is;
+    offset = offset_is;
+    vaddr = vaddr_is;
+    paddr = paddr_is;
+    filesz = filesz_is;
+    memsz = memsz_is;
+    align = align_is;
+  })
 
 -- a symbol (gABI, "Symbol Table")
 pub record Sym : Type 0 where

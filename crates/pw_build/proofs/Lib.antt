@@ -1,8 +1,13 @@
--- The image and its run: the sizes of functions, the parts of the image and the whole of it, then the end of the run, what was
--- fetched up to a failed call, and what the run means.
-pub mod Sizes
-pub mod Parts
+-- The image of a program: bytes put into fresh regions, regions that can be mapped, the parts of a unit's program, and the whole image.
+pub mod Putting
+pub mod Mapping
+pub mod UnitParts
 pub mod Whole
-pub mod Ending
-pub mod UpToFault
+pub mod Building
+-- The run of an image: the row of an address, the start, the ends, the flush, and what the run means.
+pub mod RowSearch
+pub mod RowsOfUnits
+pub mod Starting
+pub mod Ends
+pub mod Finishing
 pub mod Meaning

@@ -1,69 +1,89 @@
--- The parts that are put together are the image.
-use Rattle.std.proofs.Common.{◌≡◌, ℕ, ◌+◌, ◌-◌, ◌*◌, ◌<◌, ◌≤◌, ◌^◌, Bool, true, false, cond, List, [], ◌∷◌, ◌++◌, length, refl, ap, sym, ◌∙◌, arith, length-append, Some, Result, Ok, Err}
-use Rattle.std.specs.Prelude.{sum_by}
-use Rattle.std.specs.List.{flat_map}
-use Rattle.std.proofs.lemmas.List.Concat.{flat_map-cons}
-use Rattle.std.proofs.lemmas.List.Sums.{sum_by-cons}
-use Rattle.pw_base.specs.Bytes.{le_bytes}
-use Rattle.pw_first.specs.declared.writer.Writer.{Writer}
-use Rattle.pw_first_code.specs.Scheme.{words, function_items, entry_words}
-use Rattle.pw_first_code.proofs.CodeWords.{length-words_at}
+-- The memory that holds the text and the data of a project's image is that image.
+use Rattle.std.proofs.Common.{◌≡◌, ℕ, ◌+◌, ◌-◌, ◌*◌, ◌/◌, ◌<◌, Bool, true, false, cond, eqb, List, [], ◌∷◌, ◌++◌, length, refl, sym, ap, ◌∙◌, arith, codes, inl, bytes_eq}
+use Rattle.std.proofs.lemmas.Bool.Decides.{nat_tests}
+use Rattle.pw_tree.specs.Units.{TypedUnit}
+use Rattle.pw_mem.specs.Regions.{MappedRegion}
 use Rattle.pw_mem.specs.Memory.{zeros}
-use Rattle.pw_mem.specs.States.{MemoryState}
 use Rattle.pw_mem.specs.Words.{text_bytes}
-use Rattle.pw_first_agree.specs.Image.{CanPlace, image, image_words, text_words, text_start, data_start, all_words, function_size, is_kept, main_writer, main_address, data_region, stack_region, stack_len}
-use Rattle.pw_build.specs.declared.memory_image.ImageError.{ImageError}
-use Rattle.pw_build.specs.declared.memory_image.ImageError.TheVariants.{NoMain, NoMemory}
-use Rattle.pw_build.specs.Built.{Places, LeavesImage, memory_of, rounded}
-use Rattle.pw_build.proofs.Sizes.{length-zeros}
-use Rattle.pw_build.proofs.Parts.{length-text_bytes}
+use Rattle.pw_mem.proofs.Zeros.{length_of_zeros}
+use Rattle.pw_agree.specs.Kept.{Keep}
+use Rattle.pw_code.specs.Items.{size}
+use Rattle.pw_agree.specs.Placing.{code_before_functions, words_of_module, slots_of, external_names}
+use Rattle.pw_agree.specs.Image.{text_image, data_image, doubleword_bytes, text_region, data_region, stack_region, unless_empty, module_regions, image}
+use Rattle.pw_simulation.specs.Projects.{CanRun}
+use Rattle.pw_simulation.proofs.Joined.{length_both}
+use Rattle.pw_simulation.proofs.Elements.{elements_in}
+use Rattle.pw_simulation.proofs.Extents.{found_before}
+use Rattle.pw_simulation.proofs.Slots.{slot_of_first}
+use Rattle.pw_simulation.proofs.Addresses.{has_room}
+use Rattle.pw_simulation.proofs.ImageData.{length_of_doublewords}
+use Rattle.pw_simulation.proofs.ImageRegions.{text_region_length, length_of_data}
+use Rattle.pw_image.specs.OneUnit.{project_of}
+use Rattle.pw_build.specs.Steps.Memories.{Fit, rounded, memory_of, text_region_of, data_region_of}
 
--- a function has as many words in the image as it has of its own
-pub length-image_words : (f : Writer) → length (image_words f) ≡ function_size f
-length-image_words f = either (is_kept f) where
-  either : (kept : Bool) → length (cond kept (words (function_items f)) (zeros (function_size f))) ≡ function_size f
-  either true = length-words_at _ 0 (function_items f)
-  either false = length-zeros (function_size f)
+-- ---- sizes
 
--- the words of all functions
-pub length-all : (funs : List Writer) → length (flat_map image_words funs) ≡ sum_by function_size funs
-length-all [] = refl
-length-all (f ∷ funs) = ap length (flat_map-cons image_words f funs) ∙ length-append (image_words f) (flat_map image_words funs) ∙ ap (λ n. n + length (flat_map image_words funs)) (length-image_words f) ∙ ap (λ n. function_size f + n) (length-all funs) ∙ sym (sum_by-cons function_size f funs)
+-- the entry refers to `main`, so there is a slot,
+main_slot : (unit : TypedUnit) → 0 < length (slots_of (project_of unit) 0)
+unfolding external_names
+main_slot unit =
+    let found = slot_of_first (project_of unit) 0 (codes "main") (inl refl) in
+    let below = found_before (λ other. bytes_eq other (codes "main")) (slots_of (project_of unit) 0) found in
+    omega arith
 
--- the words of the text
-pub length-text_words : (funs : List Writer) → length (text_words funs) ≡ all_words funs
-length-text_words funs = length-append (entry_words text_start data_start) (flat_map image_words funs) ∙ ap (λ n. 6 + n) (length-all funs)
+-- and the entry has words
+entry_has_words : 0 < size (code_before_functions 0)
+unfolding size
+entry_has_words = omega arith
 
--- the bytes of the text
-pub length-text : (funs : List Writer) → length (text_bytes (text_words funs)) ≡ 4 * all_words funs
-length-text funs = length-text_bytes (text_words funs) ∙ ap (λ n. 4 * n) (length-text_words funs)
+-- the text and the data of the image of a project that can be run fit their places
+pub parts_fit : (unit : TypedUnit) (keep : Keep) (text content : List ℕ) → CanRun (project_of unit) →
+    text ≡ text_bytes (text_image (project_of unit) keep 0) → content ≡ doubleword_bytes (data_image (project_of unit) 0) →
+    Fit (length text) (length content)
+parts_fit unit keep text content can text_is data_is =
+    let project = project_of unit in
+    let n : ℕ = length (text_bytes (text_image project keep 0)) in
+    let words : ℕ = words_of_module project 0 in
+    let room = has_room project can 0 (omega arith) in
+    let text_room = room.text in
+    let data_room = room.data_end in
+    let some_words : 0 < words = omega (arith, entry_has_words) in
+    let text_length : length text ≡ n = ap length text_is in
+    let region : n + (rounded n - n) ≡ (4 * words + 7) / 8 * 8 =
+    sym (length_both (text_bytes (text_image project keep 0)) (zeros (rounded n - n)) ∙ ap (λ k. n + k) (length_of_zeros (rounded n - n)))
+    ∙ text_region_length project keep can 0 (omega arith) in
+    let values : List ℕ = data_image project 0 in
+    let data_length : length content ≡ 8 * length values = ap length data_is ∙ length_of_doublewords values in
+    let doublewords : length values ≡ length (slots_of project 0) + elements_in project 0 = length_of_data project can 0 in
+    record {
+      some_text = omega arith;
+      text_fits = omega arith;
+      some_data = omega (arith, main_slot unit);
+      data_fits = omega arith;
+      data_whole = omega arith;
+    }
 
--- a text is never empty, and it is short where the functions can be placed
-pub text_fits : (funs : List Writer) (text : List ℕ) → CanPlace funs → text ≡ text_bytes (text_words funs) →
-    (0 < length text) × (length text ≤ 2 ^ 24)
-text_fits funs text placed is =
-    let n : length text ≡ 4 * all_words funs = ap length is ∙ length-text funs in
-    (omega (arith, n), omega (arith, n, placed.short))
+-- ---- the whole
 
--- the memory of the text and of the address of `main` is the image
-pub memory_is_image : (funs : List Writer) → memory_of (text_bytes (text_words funs)) (main_address funs) ≡ image funs
-memory_is_image funs =
-    let text = text_bytes (text_words funs) in
-    ap (λ k. record {
-      regions = record { start = text_start; bytes = text ++ zeros (rounded k - k); read = true; write = false; execute = true }
-          ∷ data_region (le_bytes 8 (main_address funs)) ∷ stack_region (zeros stack_len) ∷ [];
-      sealed = true;
-    }) (length-text funs)
+by_bytes : (r : MappedRegion) (empty : Bool) → eqb (length r.bytes) 0 ≡ empty → 0 < length r.bytes → cond empty [] (r ∷ []) ≡ r ∷ []
+by_bytes r true e some = absurd (grind (arith, nat_tests))
+by_bytes r false e some = refl
 
--- the parts of the functions, where they are placed, are the image
-pub image_from_parts : (funs : List Writer) (main : Writer) (text : List ℕ) (at : ℕ) (old new : MemoryState) (r : Result (Unit {0}) ImageError) →
-    main_writer funs ≡ Some main → at ≡ main_address funs → text ≡ text_bytes (text_words funs) →
-    Places text at old new r → LeavesImage funs old new r
-image_from_parts funs main text at old new (Ok _) has at_is text_is h = record {
-  main = main;
-  has_main = has;
-  mem = h.mem ∙ ap (λ bytes. memory_of bytes at) text_is ∙ ap (memory_of (text_bytes (text_words funs))) at_is ∙ memory_is_image funs;
-  no_fetch = h.no_fetch;
-}
-image_from_parts funs main text at old new (Err NoMain) has at_is text_is h = absurd h
-image_from_parts funs main text at old new (Err NoMemory) has at_is text_is h = h
+some_region : (r : MappedRegion) → 0 < length r.bytes → unless_empty r ≡ r ∷ []
+some_region r some = by_bytes r (eqb (length r.bytes) 0) refl some
+
+-- a text and data that are those of the image make it
+pub memory_is_image : (unit : TypedUnit) (keep : Keep) (text content : List ℕ) → 0 < length text → 0 < length content →
+    text ≡ text_bytes (text_image (project_of unit) keep 0) → content ≡ doubleword_bytes (data_image (project_of unit) 0) →
+    memory_of text content ≡ image (project_of unit) keep
+unfolding module_regions
+memory_is_image unit keep text content some_text some_data text_is data_is =
+    let project = project_of unit in
+    let t : text_region_of text ≡ text_region project keep 0 = ap text_region_of text_is in
+    let d : data_region_of content ≡ data_region project 0 = ap data_region_of data_is in
+    let here : 0 < length (text_region_of text).bytes = omega (arith, length_both text (zeros (rounded (length text) - length text))) in
+    let text_there : unless_empty (text_region project keep 0) ≡ text_region_of text ∷ [] =
+    ap unless_empty (sym t) ∙ some_region (text_region_of text) here in
+    let data_there : unless_empty (data_region project 0) ≡ data_region_of content ∷ [] =
+    ap unless_empty (sym d) ∙ some_region (data_region_of content) some_data in
+    λ p. record { regions = ((sym text_there p ++ sym data_there p) ++ []) ++ stack_region ∷ []; sealed = true }

@@ -1,10 +1,13 @@
-//! From the functions of a program to the image in memory, and from the image to the end of its run.
+//! From the object of a unit to the image of its program in memory, and from the image to the end of its run.
 #![tactic(auto)]
 
-mod entry;
+mod extents;
+mod image_error;
 mod memory_image;
+mod parts;
 mod run;
-mod text;
+mod unit_image;
 
-pub use memory_image::{ImageError, image};
+pub use image_error::ImageError;
 pub use run::{Ended, execute};
+pub use unit_image::image;

@@ -1,47 +1,18 @@
-//! Puts the image of a program into a memory.
-ghost use Rattle.std.specs.Prelude.{bit_or, ◌≡◌, ◌<◌, ◌≤◌, ◌^◌, length};
-ghost use Rattle.pw_mem.specs.Map.{mapped};
-ghost use Rattle.pw_first_agree.specs.Image.{CanPlace};
+//! The text and the data of an image are put into a memory.
+ghost use Rattle.std.specs.Prelude.{bit_or, ◌≡◌, length};
+ghost use Rattle.pw_mem.specs.Map.{CanMap, mapped};
 ghost use Rattle.pw_mem.specs.States.{with_mem};
-ghost use Rattle.pw_build.specs.Built.{LeavesImage, Places, regions_of, memory_of};
+ghost use Rattle.pw_build.specs.Steps.Memories.{Fit, Places, regions_of, memory_of};
 
-use crate::entry::{DATA_START, TEXT_START, main_address};
-use crate::text::text_of;
 use bitflags::Flags;
-use pw_base::Limits;
-use pw_first::Writer;
-use pw_mem::{Memory, Region, Rights};
-use std::alloc::Global;
-use thiserror::Error;
+use pw_base::{Limits, NoMemory};
+use pw_mem::{MapError, Memory, Region, Rights};
 
-/// Why there is no image.
-#[derive(Clone, Copy, PartialEq, Eq, Debug, Error)]
-pub enum ImageError {
-    /// No function is named `main`.
-    #[error("no main")]
-    NoMain,
-    /// Out of memory.
-    #[error("out of memory")]
-    NoMemory,
-}
+/// The address of the program's text.
+const TEXT_START: u64 = Limits::MODULE_SPAN + Limits::TEXT_OFFSET;
 
-/// Puts the image of the functions into the memory and seals it: the code of the entry and of `main`, zeros in place of
-/// every other function, the slot of `main`, and a stack of zeros. No fetch is counted.
-///
-/// Refusals: `NoMain` exactly where no function is named so. After a refusal the memory is as before.
-pub fn image<M: Memory>(alloc: Global, funs: &[Writer], mem: &mut M) -> Result<(), ImageError>
-    requires { CanPlace funs.now }
-    ensures { LeavesImage funs.now (M.state mem.old) (M.state mem.new) result }
-{
-    let main = match main_address(funs) {
-        Some(main) => main,
-        None => return Err(ImageError::NoMain),
-    };
-    match text_of(alloc, funs) {
-        Ok(text) => place(mem, text.as_slice(), main),
-        Err(_) => Err(ImageError::NoMemory),
-    }
-}
+/// The address of the program's data.
+const DATA_START: u64 = Limits::MODULE_SPAN + Limits::DATA_OFFSET;
 
 /// The right to read, and another.
 fn readable_and(right: Rights) -> Rights
@@ -50,20 +21,21 @@ fn readable_and(right: Rights) -> Rights
     Flags::union(Rights::READ, right)
 }
 
-/// The regions of a text of so many bytes: text, data and stack.
-fn regions_of(text_len: u64) -> [Region; 3]
-    requires { text_len ≤ 2 ^ 24 }
-    ensures { result ≡ regions_of text_len }
+/// The regions of an image: a text and data of so many bytes, and the stack.
+fn regions_of(text_len: u64, data_len: u64) -> [Region; 3]
+    requires { Fit text_len data_len }
+    ensures regions { result ≡ regions_of text_len data_len }
+    ensures can_map { CanMap result }
 {
     [
         Region {
             start: TEXT_START,
-            len: (text_len + 7) / 8 * 8,
+            len: text_len.next_multiple_of(8),
             rights: readable_and(Rights::EXECUTE),
         },
         Region {
             start: DATA_START,
-            len: 8,
+            len: data_len,
             rights: readable_and(Rights::WRITE),
         },
         Region {
@@ -74,24 +46,30 @@ fn regions_of(text_len: u64) -> [Region; 3]
     ]
 }
 
-/// Maps the regions, puts the text and the address in the slot, and seals.
-fn place<M: Memory>(mem: &mut M, text: &[u8], main: u64) -> Result<(), ImageError>
-    requires { (0 < length text.now) × (length text.now ≤ 2 ^ 24) }
-    ensures { Places text.now main (M.state mem.old) (M.state mem.new) result }
+/// Maps the regions of an image, puts its text and its data into them, and seals. No fetch is counted.
+pub(crate) fn place<M: Memory>(mem: &mut M, text: &[u8], data: &[u8]) -> Result<(), NoMemory>
+    requires { Fit (length text.now) (length data.now) }
+    ensures { Places text.now data.now (M.state mem.old) (M.state mem.new) result }
 {
-    if mem.map(&regions_of(text.len() as u64)).is_err() {
-        return Err(ImageError::NoMemory);
+    match mem.map(&regions_of(text.len() as u64, data.len() as u64)) {
+        Ok(()) => {
+            fill(mem, text, data);
+            Ok(())
+        }
+        Err(MapError::NoMemory) => Err(NoMemory),
+        // The regions can be mapped.
+        Err(MapError::Unaligned(_)) => unreachable!(),
+        Err(MapError::Overlap(_)) => unreachable!(),
     }
-    fill(mem, text, main);
-    Ok(())
 }
 
-/// Puts the text and the address in the slot into fresh regions, and seals.
-fn fill<M: Memory>(mem: &mut M, text: &[u8], main: u64)
-    requires { (0 < length text.now) × (length text.now ≤ 2 ^ 24) × ((M.state mem.old).mem ≡ mapped (regions_of (length text.now))) }
-    ensures { M.state mem.new ≡ with_mem (M.state mem.old) (memory_of text.now main) }
+/// Puts the text and the data into fresh regions, and seals. The regions hold them, so neither is refused.
+fn fill<M: Memory>(mem: &mut M, text: &[u8], data: &[u8])
+    requires fit { Fit (length text.now) (length data.now) }
+    requires fresh { (M.state mem.old).mem ≡ mapped (regions_of (length text.now) (length data.now)) }
+    ensures { M.state mem.new ≡ with_mem (M.state mem.old) (memory_of text.now data.now) }
 {
     let _ = mem.put(TEXT_START, text);
-    let _ = mem.put(DATA_START, &main.to_le_bytes());
+    let _ = mem.put(DATA_START, data);
     mem.seal();
 }

@@ -51,7 +51,8 @@ Climbs levels n at [] = ⊥
 Climbs levels n at (m ∷ []) = (m ≡ n) × (at ≡ n)
 Climbs levels n at (m ∷ (p ∷ ps)) = (m ≡ n) × (parent_of levels n ≡ Some p) × Climbs levels p at (p ∷ ps)
 
-pub climbs_more : (levels : Levels) (n at q : ℕ) (ms : List ℕ) → Climbs levels n at ms → parent_of levels at ≡ Some q → Climbs levels n q (ms ++ q ∷ [])
+pub climbs_more : (levels : Levels) (n at q : ℕ) (ms : List ℕ) → Climbs levels n at ms → parent_of levels at ≡ Some q →
+    Climbs levels n q (ms ++ q ∷ [])
 unfolding Climbs
 climbs_more levels n at q [] c e = absurd c
 climbs_more levels n at q (m ∷ []) c e = (c.0, subst (λ i. parent_of levels i ≡ Some q) c.1 e, (refl, refl))

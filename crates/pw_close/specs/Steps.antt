@@ -1,1 +1,2 @@
+-- What one step of the closure marks.
 pub mod Marks

@@ -2,7 +2,7 @@
 use Rattle.std.specs.Prelude.{ℕ, suc, ◌+◌, ◌*◌, pos, Bool, if◌then◌else◌, List, [], ◌∷◌, ◌++◌}
 use Rattle.pw_isa.specs.declared.instruction.Inst.TheVariants.{Jalr, Ld, Addi, Slli, Add, Bne, Ecall}
 use Rattle.pw_isa.specs.Registers.{x0, ra, sp, t0, a0, a7}
-use Rattle.pw_isa.specs.EnvironmentCalls.{input_call, output_call}
+use Rattle.pw_isa.specs.EnvironmentCalls.{input_call, output_call, null_call_fault}
 use Rattle.pw_tree.specs.declared.operator.Bin.{Bin}
 use Rattle.pw_tree.specs.declared.operator.Bin.TheVariants.{AndAnd, OrOr}
 use Rattle.pw_tree.specs.TypedExpressions.{TypedExpression, TypedExpressions, constant, local, variable, designator, element, unary, binary, conditional, call, call_pointer, input, output, nil, cons}
@@ -11,7 +11,7 @@ use Rattle.pw_code.specs.declared.frame.Frame.{Frame}
 use Rattle.pw_code.specs.Items.{CodePart, instruction, address}
 use Rattle.pw_code.specs.Frames.{local_slot, held_slot}
 use Rattle.pw_code.specs.LoadImmediate.{load_immediate, immediate_words}
-use Rattle.pw_code.specs.Pieces.{skip, unless_zero, unless_nonzero, past, fault, fault_words, null_call_fault, check_index, check_index_words, unary_code, unary_words, binary_code, binary_words, truth_code, hold, load_held}
+use Rattle.pw_code.specs.Pieces.{skip, unless_zero, unless_nonzero, past, fault, fault_words, check_index, check_index_words, unary_code, unary_words, binary_code, binary_words, truth_code, hold, load_held}
 
 -- ---- sizes
 

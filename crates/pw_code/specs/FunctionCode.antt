@@ -3,13 +3,13 @@ use Rattle.std.specs.Prelude.{ℕ, zero, suc, ◌+◌, ◌-◌, ℤ, pos, negsuc
 use Rattle.pw_base.specs.Limits.{calls}
 use Rattle.pw_isa.specs.declared.instruction.Inst.TheVariants.{Jalr, Bne, Ld, Sd, Addi, Ecall}
 use Rattle.pw_isa.specs.Registers.{x0, ra, sp, t0, s1, a0, a7}
-use Rattle.pw_isa.specs.EnvironmentCalls.{exit_call}
+use Rattle.pw_isa.specs.EnvironmentCalls.{exit_call, depth_fault}
 use Rattle.pw_tree.specs.declared.ty.Ref.TheVariants.{Global}
 use Rattle.pw_tree.specs.Units.{Function}
 use Rattle.pw_code.specs.declared.frame.Frame.{Frame}
 use Rattle.pw_code.specs.Items.{CodePart, instruction, address}
 use Rattle.pw_code.specs.Frames.{local_slot, return_slot, frame_bytes}
-use Rattle.pw_code.specs.Pieces.{past, fault, fault_words, depth_fault}
+use Rattle.pw_code.specs.Pieces.{past, fault, fault_words}
 use Rattle.pw_code.specs.StatementCode.{Targets, statements_words, statements_code}
 
 -- A function's frame has a slot for each parameter and local, and for each value that it holds at once.

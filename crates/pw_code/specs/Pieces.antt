@@ -3,7 +3,7 @@ use Rattle.std.specs.Prelude.{ℕ, zero, suc, ◌+◌, ◌-◌, ◌*◌, nat_lt,
 use Rattle.pw_isa.specs.declared.instruction.Inst.{Inst}
 use Rattle.pw_isa.specs.declared.instruction.Inst.TheVariants.{Jal, Bne, Beq, Bltu, Ld, Sd, Addi, Sltiu, Xori, Add, Sub, Sll, Slt, Sltu, Xor, Srl, Sra, Or, And, Mul, Div, Divu, Rem, Remu, Ecall}
 use Rattle.pw_isa.specs.Registers.{x0, sp, t0, t1, a0, a1, a7}
-use Rattle.pw_isa.specs.EnvironmentCalls.{fault_call}
+use Rattle.pw_isa.specs.EnvironmentCalls.{fault_call, index_fault, division_fault}
 use Rattle.pw_tree.specs.declared.operator.Un.{Un}
 use Rattle.pw_tree.specs.declared.operator.Un.TheVariants.{Neg, Plus, Not, Bang}
 use Rattle.pw_tree.specs.declared.operator.Bin.{Bin}
@@ -45,22 +45,6 @@ abbrev pub past : (ℤ → Inst) → List CodePart → List CodePart
 past branch piece = instruction (branch (pos (bytes_of_words (suc (size piece))))) ∷ piece
 
 -- ---- checked faults
-
--- the kind of the checked fault of an index out of its array
-abbrev pub index_fault : ℕ
-index_fault = 1
-
--- the kind of a division by 0
-abbrev pub division_fault : ℕ
-division_fault = 2
-
--- the kind of a call of null
-abbrev pub null_call_fault : ℕ
-null_call_fault = 3
-
--- the kind of a call past the limit of calls alive
-abbrev pub depth_fault : ℕ
-depth_fault = 4
 
 -- The run ends with a checked fault of this kind, in this line.
 abbrev pub fault : (kind line : ℕ) → List CodePart

@@ -11,7 +11,8 @@ pub empty_is_no_text : (bytes : List ℕ) → length bytes ≡ 0 → is_type_tex
 empty_is_no_text bytes empty = false_from_ne_true (is_type_text bytes) (λ test. let some = (type_text_is_short bytes ((type_text_test_is_right bytes).0 test)).0 in omega arith)
 
 -- some bytes are read as a type string exactly where they are one
-pub read_text : (bytes : List ℕ) (result : Result (Option (List ℕ)) NoMemory) → (length bytes ≡ 0 → ⊥) → ReadsTypeText bytes result → ReadsWhere is_type_text bytes result
+pub read_text : (bytes : List ℕ) (result : Result (Option (List ℕ)) NoMemory) → (length bytes ≡ 0 → ⊥) →
+    ReadsTypeText bytes result → ReadsWhere is_type_text bytes result
 read_text bytes (Ok (Some text)) some reads =
     (reads.0, elim reads.1 [ inl empty ↦ absurd (some (ap (λ (bs : List ℕ). length bs) empty)) | inr is ↦ (type_text_test_is_right bytes).1 is ])
 read_text bytes (Ok None) some reads = false_from_ne_true (is_type_text bytes) (λ test. reads (inr ((type_text_test_is_right bytes).0 test)))

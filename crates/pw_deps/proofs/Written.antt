@@ -6,7 +6,8 @@ use Rattle.pw_module.specs.declared.dep_table.FunRec.{FunRec}
 use Rattle.pw_module.specs.Allowed.{Follow, IsFunctionRecord, end_of_function, IsTableOf}
 use Rattle.pw_deps.specs.Writable.{HasFewItems}
 
-few_deps : (symbols units former : ℕ) (End : ℕ → Type 0) (fs : List FunRec) → Follow (IsFunctionRecord symbols units) end_of_function End former fs → AllByRecursion (λ f. length f.deps < 2 ^ 32) fs
+few_deps : (symbols units former : ℕ) (End : ℕ → Type 0) (fs : List FunRec) →
+    Follow (IsFunctionRecord symbols units) end_of_function End former fs → AllByRecursion (λ f. length f.deps < 2 ^ 32) fs
 few_deps symbols units former End [] follow = tt
 few_deps symbols units former End (f ∷ fs) follow = (follow.0.few, few_deps symbols units (end_of_function former f) End fs follow.1)
 

@@ -1,1 +1,2 @@
+-- The counts that the code has read.
 pub mod Counted

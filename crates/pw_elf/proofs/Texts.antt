@@ -14,7 +14,8 @@ use Rattle.pw_elf.specs.Strings.{until_zero, name_of, name_in, string_at}
 abbrev pub preceded_by : List ℕ → Option (List ℕ) → Option (List ℕ)
 preceded_by before found = option_map (λ rest. before ++ rest) found
 
-regroup : (before : List ℕ) (b : ℕ) (found : Option (List ℕ)) → preceded_by before (option_map (λ rest. b ∷ rest) found) ≡ preceded_by (before ++ b ∷ []) found
+regroup : (before : List ℕ) (b : ℕ) (found : Option (List ℕ)) →
+    preceded_by before (option_map (λ rest. b ∷ rest) found) ≡ preceded_by (before ++ b ∷ []) found
 regroup before b None = refl
 regroup before b (Some text) = ap (λ (t : List ℕ). Some t) (sym (append_assoc before (b ∷ []) text))
 
@@ -36,7 +37,8 @@ until_here bytes i d answer within is_zero so_far =
     sym one ∙ so_far
 
 -- past the last byte there is none
-pub until_end : (bytes : List ℕ) (i : ℕ) (answer : Option (List ℕ)) → length bytes ≤ i → preceded_by (take i bytes) (until_zero (drop i bytes)) ≡ answer → None ≡ answer
+pub until_end : (bytes : List ℕ) (i : ℕ) (answer : Option (List ℕ)) → length bytes ≤ i →
+    preceded_by (take i bytes) (until_zero (drop i bytes)) ≡ answer → None ≡ answer
 until_end bytes i answer past so_far =
     let one : preceded_by (take i bytes) (until_zero (drop i bytes)) ≡ None = rw (drop_all i bytes past) refl in sym one ∙ so_far
 
@@ -59,7 +61,8 @@ record IsFar (n : ℕ) (first all : Option (List ℕ)) : Type 0 where
 abbrev AgreeOrFar : ℕ → Option (List ℕ) → Option (List ℕ) → Type 0
 AgreeOrFar n first all = (first ≡ all) ⊎ IsFar n first all
 
-longer : (n b : ℕ) (all : Option (List ℕ)) (text : List ℕ) → ((t : List ℕ) → all ≡ Some t → n ≤ length t) → option_map (λ rest. b ∷ rest) all ≡ Some text → suc n ≤ length text
+longer : (n b : ℕ) (all : Option (List ℕ)) (text : List ℕ) → ((t : List ℕ) → all ≡ Some t → n ≤ length t) →
+    option_map (λ rest. b ∷ rest) all ≡ Some text → suc n ≤ length text
 longer n b None text far e = absurd cc
 longer n b (Some t) text far e = let low = far t refl in let same : b ∷ t ≡ text = cc in let len : suc (length t) ≡ length text = ap (λ (l : List ℕ). length l) same in omega (arith, low, len)
 
@@ -95,7 +98,8 @@ take_min k n bytes is =
     ]
 
 -- the name among the first bytes is that among all, where they are as many as the longest name and its zero byte
-name_among_first : (bytes : List ℕ) (n : ℕ) → n ≡ min (name_bytes + 1) (length bytes) → name_in (until_zero (take n bytes)) ≡ name_in (until_zero bytes)
+name_among_first : (bytes : List ℕ) (n : ℕ) → n ≡ min (name_bytes + 1) (length bytes) →
+    name_in (until_zero (take n bytes)) ≡ name_in (until_zero bytes)
 name_among_first bytes n is = ap (λ (t : List ℕ). name_in (until_zero t)) (take_min (name_bytes + 1) n bytes is) ∙ same_name _ _ (among_first (name_bytes + 1) bytes)
 
 -- bytes that are a name, and bytes that are none
@@ -108,12 +112,14 @@ unfolding name_of
 no_name_is text bad = rw bad refl
 
 -- the text among the first bytes, read as a name, is the name among all bytes
-pub first_name_is : (bytes : List ℕ) (n : ℕ) (text : List ℕ) (r : Result (Option (List ℕ)) NoMemory) → n ≡ min (name_bytes + 1) (length bytes) → Some text ≡ until_zero (take n bytes)
+pub first_name_is : (bytes : List ℕ) (n : ℕ) (text : List ℕ) (r : Result (Option (List ℕ)) NoMemory) →
+    n ≡ min (name_bytes + 1) (length bytes) → Some text ≡ until_zero (take n bytes)
     → ReadsWhere is_name text r → IfOk r (λ name. name ≡ name_in (until_zero bytes))
 first_name_is bytes n text (Ok (Some name)) is found reads = name_is text name reads.0 reads.1 ∙ ap name_in found ∙ name_among_first bytes n is
 first_name_is bytes n text (Ok None) is found reads = no_name_is text reads ∙ ap name_in found ∙ name_among_first bytes n is
 first_name_is bytes n text (Err e) is found reads = tt
 
 -- and where there is no text among the first bytes, there is no name
-pub no_first_name : (bytes : List ℕ) (n : ℕ) → n ≡ min (name_bytes + 1) (length bytes) → None ≡ until_zero (take n bytes) → None ≡ name_in (until_zero bytes)
+pub no_first_name : (bytes : List ℕ) (n : ℕ) → n ≡ min (name_bytes + 1) (length bytes) → None ≡ until_zero (take n bytes) →
+    None ≡ name_in (until_zero bytes)
 no_first_name bytes n is found = ap name_in found ∙ name_among_first bytes n is

@@ -9,15 +9,50 @@ use Rattle.pw_elf.specs.declared.dynamic.Dynamic as dynamic_code
 
 -- the file header (gABI, "ELF Header")
 abbrev pub header_of : header_code.Header → plain.Header
-header_of s = record { ident = s.ident; kind = s.kind; machine = s.machine; version = s.version; entry = s.entry; phoff = s.phoff; shoff = s.shoff; flags = s.flags; ehsize = s.ehsize; phentsize = s.phentsize; phnum = s.phnum; shentsize = s.shentsize; shnum = s.shnum; shstrndx = s.shstrndx }
+header_of s = record {
+  ident = s.ident;
+  kind = s.kind;
+  machine = s.machine;
+  version = s.version;
+  entry = s.entry;
+  phoff = s.phoff;
+  shoff = s.shoff;
+  flags = s.flags;
+  ehsize = s.ehsize;
+  phentsize = s.phentsize;
+  phnum = s.phnum;
+  shentsize = s.shentsize;
+  shnum = s.shnum;
+  shstrndx = s.shstrndx;
+}
 
 -- a section header (gABI, "Sections")
 abbrev pub section_of : section_code.Section → plain.Section
-section_of s = record { name = s.name; kind = s.kind; flags = s.flags; addr = s.addr; offset = s.offset; size = s.size; link = s.link; info = s.info; addralign = s.addralign; entsize = s.entsize }
+section_of s = record {
+  name = s.name;
+  kind = s.kind;
+  flags = s.flags;
+  addr = s.addr;
+  offset = s.offset;
+  size = s.size;
+  link = s.link;
+  info = s.info;
+  addralign = s.addralign;
+  entsize = s.entsize;
+}
 
 -- a program header (gABI, "Program Header")
 abbrev pub segment_of : segment_code.Segment → plain.Segment
-segment_of s = record { kind = s.kind; flags = s.flags; offset = s.offset; vaddr = s.vaddr; paddr = s.paddr; filesz = s.filesz; memsz = s.memsz; align = s.align }
+segment_of s = record {
+  kind = s.kind;
+  flags = s.flags;
+  offset = s.offset;
+  vaddr = s.vaddr;
+  paddr = s.paddr;
+  filesz = s.filesz;
+  memsz = s.memsz;
+  align = s.align;
+}
 
 -- a symbol (gABI, "Symbol Table")
 abbrev pub symbol_of : symbol_code.Sym → plain.Sym

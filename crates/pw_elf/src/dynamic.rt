@@ -32,7 +32,7 @@ pub fn dynamic_at(bytes: &[u8], off: u64) -> Option<Dynamic>
     Some(Dynamic { tag, val })
 }
 
-/// Appends the struct; where memory is refused, what was there stays, and some of the struct may stand after it.
+/// Appends the struct; where memory runs out, what was there stays, and some of the struct may stand after it.
 #[tactic(auto, unfolding(pw_base::specs::Structs::dynamic_bytes))]
 pub fn put_dynamic(to: &mut Vec<u8>, value: &Dynamic) -> Result<(), NoMemory>
     ensures ok { OnOk result (to.new.items ≡ to.old.items ++ plain.dynamic_bytes (dynamic_of value.now)) }

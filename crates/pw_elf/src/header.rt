@@ -84,7 +84,7 @@ pub fn header_at(bytes: &[u8], off: u64) -> Option<Header>
     })
 }
 
-/// Appends the struct; where memory is refused, what was there stays, and some of the struct may stand after it.
+/// Appends the struct; where memory runs out, what was there stays, and some of the struct may stand after it.
 #[tactic(auto, unfolding(pw_base::specs::Structs::header_bytes))]
 pub fn put_header(to: &mut Vec<u8>, value: &Header) -> Result<(), NoMemory>
     ensures ok { OnOk result (to.new.items ≡ to.old.items ++ plain.header_bytes (header_of value.now)) }

@@ -39,7 +39,7 @@ pub fn rela_at(bytes: &[u8], off: u64) -> Option<Rela>
     })
 }
 
-/// Appends the struct; where memory is refused, what was there stays, and some of the struct may stand after it.
+/// Appends the struct; where memory runs out, what was there stays, and some of the struct may stand after it.
 #[tactic(auto, unfolding(pw_base::specs::Structs::rela_bytes))]
 pub fn put_rela(to: &mut Vec<u8>, value: &Rela) -> Result<(), NoMemory>
     ensures ok { OnOk result (to.new.items ≡ to.old.items ++ plain.rela_bytes (rela_of value.now)) }

@@ -67,7 +67,7 @@ pub fn section_at(bytes: &[u8], off: u64) -> Option<Section>
     })
 }
 
-/// Appends the struct; where memory is refused, what was there stays, and some of the struct may stand after it.
+/// Appends the struct; where memory runs out, what was there stays, and some of the struct may stand after it.
 #[tactic(auto, unfolding(pw_base::specs::Structs::section_bytes))]
 pub fn put_section(to: &mut Vec<u8>, value: &Section) -> Result<(), NoMemory>
     ensures ok { OnOk result (to.new.items ≡ to.old.items ++ plain.section_bytes (section_of value.now)) }

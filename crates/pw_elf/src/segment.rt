@@ -59,7 +59,7 @@ pub fn segment_at(bytes: &[u8], off: u64) -> Option<Segment>
     })
 }
 
-/// Appends the struct; where memory is refused, what was there stays, and some of the struct may stand after it.
+/// Appends the struct; where memory runs out, what was there stays, and some of the struct may stand after it.
 #[tactic(auto, unfolding(pw_base::specs::Structs::segment_bytes))]
 pub fn put_segment(to: &mut Vec<u8>, value: &Segment) -> Result<(), NoMemory>
     ensures ok { OnOk result (to.new.items ≡ to.old.items ++ plain.segment_bytes (segment_of value.now)) }

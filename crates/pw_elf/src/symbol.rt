@@ -52,7 +52,7 @@ pub fn symbol_at(bytes: &[u8], off: u64) -> Option<Sym>
     })
 }
 
-/// Appends the struct; where memory is refused, what was there stays, and some of the struct may stand after it.
+/// Appends the struct; where memory runs out, what was there stays, and some of the struct may stand after it.
 #[tactic(auto, unfolding(pw_base::specs::Structs::symbol_bytes))]
 pub fn put_symbol(to: &mut Vec<u8>, value: &Sym) -> Result<(), NoMemory>
     ensures ok { OnOk result (to.new.items ≡ to.old.items ++ plain.symbol_bytes (symbol_of value.now)) }

@@ -1,4 +1,4 @@
+-- The typed unit of a source or its first fault, the words of messages, and the laws.
 pub mod Units
-pub mod Weights
 pub mod Messages
 pub mod Laws

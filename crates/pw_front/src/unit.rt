@@ -1,11 +1,10 @@
 //! Reads a whole text: its typed unit, or its first fault with the line.
-ghost use Rattle.std.specs.Prelude.{◌≡◌, ◌≢◌, ◌<◌, ◌≤◌, ◌^◌, length, sum_by, IfOk, IfErr, IfSome};
+ghost use Rattle.std.specs.Prelude.{◌≡◌, ◌≢◌, ◌<◌, ◌^◌, length, IfOk, IfErr, IfSome};
 ghost use Rattle.pw_grammar.specs.Faults.{IsFirstFault};
 ghost use Rattle.pw_lex.specs.Text.{HasTokens, HasFault, place_of};
 ghost use Rattle.pw_tree.specs.Units.{unit_of};
 ghost use Rattle.pw_tree.specs.WellTypedUnits.{IsWellTyped};
 ghost use Rattle.pw_front.specs.Units.{IsUnitOf, IsTypedUnitOf, FaultOf};
-ghost use Rattle.pw_front.specs.Weights.{weight};
 
 use crate::error::FrontError;
 use pw_grammar::SyntaxError;
@@ -78,7 +77,6 @@ pub fn front(alloc: Global, text: &[u8]) -> Result<TUnit, FrontError>
     ensures unit { IfOk result (IsTypedUnitOf text.now) }
     ensures fault { IfErr result (FaultOf text.now) }
     ensures well_typed { IfOk result (λ unit. IsWellTyped (unit_of unit)) }
-    ensures small { IfOk result (λ unit. sum_by weight (unit_of unit).functions ≤ length text.now) }
 {
     let unit = read(alloc, text)?;
     match check(alloc, &unit) {

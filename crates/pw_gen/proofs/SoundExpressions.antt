@@ -2,7 +2,7 @@
 use Rattle.std.proofs.Common.{◌≡◌, ℕ, zero, suc, ◌+◌, pos, Bool, List, [], ◌∷◌, ◌++◌, lit<}
 use Rattle.pw_isa.specs.declared.instruction.Inst.TheVariants.{Jalr, Bne, Ld, Addi, Slli, Add, Ecall}
 use Rattle.pw_isa.specs.Registers.{x0, ra, sp, t0, a0, a7}
-use Rattle.pw_isa.specs.EnvironmentCalls.{input_call, output_call}
+use Rattle.pw_isa.specs.EnvironmentCalls.{input_call, output_call, null_call_fault}
 use Rattle.pw_tree.specs.declared.ty.Ref.{Ref}
 use Rattle.pw_tree.specs.declared.operator.Bin.{Bin}
 use Rattle.pw_tree.specs.declared.operator.Bin.TheVariants as operators
@@ -13,7 +13,7 @@ use Rattle.pw_tree.specs.WellTypedExpressions.{Class, class_of, HasFittingParts,
 use Rattle.pw_code.specs.declared.frame.Frame.{Frame}
 use Rattle.pw_code.specs.Items.{CodePart, instruction, address}
 use Rattle.pw_code.specs.Frames.{local_slot, held_slot}
-use Rattle.pw_code.specs.Pieces.{skip, unless_zero, unless_nonzero, past, fault, null_call_fault, check_index, unary_code, binary_code, truth_code, hold, load_held}
+use Rattle.pw_code.specs.Pieces.{skip, unless_zero, unless_nonzero, past, fault, check_index, unary_code, binary_code, truth_code, hold, load_held}
 use Rattle.pw_code.specs.ExpressionCode.{expression_words, right_slot, operator_code, expression_code, arguments_code}
 use Rattle.pw_gen.proofs.References.{IsKnownIn, IsFunctionIn, function_in, known_function, known_variable}
 use Rattle.pw_gen.proofs.SoundPieces.{IsSoundPart, AreSound, both, sound_number, sound_fault, sound_check_index, sound_unary, sound_binary, sound_held}

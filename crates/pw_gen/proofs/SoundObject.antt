@@ -5,6 +5,7 @@ use Rattle.pw_base.specs.declared.no_memory.NoMemory.{NoMemory}
 use Rattle.std.specs.Option.{is_none}
 use Rattle.std.specs.List.{AllByRecursion, IsDistinct, filter}
 use Rattle.std.proofs.lemmas.List.{map-append, length-replicate}
+use Rattle.pw_isa.specs.EnvironmentCalls.{depth_fault}
 use Rattle.pw_tree.specs.declared.tunit.TVar.{TVar}
 use Rattle.pw_tree.specs.declared.tunit.Init.{Init}
 use Rattle.pw_tree.specs.declared.tunit.Init.TheVariants.{Num, Fun}
@@ -18,7 +19,7 @@ use Rattle.pw_code.specs.declared.object.FunCode.{FunCode}
 use Rattle.pw_code.specs.declared.object.Object.{Object}
 use Rattle.pw_code.specs.Items.{CodePart, instruction, address, item_of, items}
 use Rattle.pw_code.specs.StatementCode.{statements_code}
-use Rattle.pw_code.specs.Pieces.{past, fault, depth_fault}
+use Rattle.pw_code.specs.Pieces.{past, fault}
 use Rattle.pw_code.specs.FunctionCode.{frame_of, store_parameters, opens, opens_words, falls_off, closes, function_targets, function_code}
 use Rattle.pw_code.specs.Objects.{functions_of_all, each_once, is_initialised, is_uninitialised, fill, filled, variables_in_order, item_in_order, function_object, object_of}
 use Rattle.pw_code.specs.Soundness.{IsKnownRef, IsFunctionRef, IsSoundItem, IsSoundFunction, IsSoundElement, IsFullInitialiser, IsSoundVariable, IsSound, defined_names}

@@ -4,7 +4,7 @@ use Rattle.std.specs.Prelude.{⊤}
 use Rattle.std.specs.List.{AllByRecursion}
 use Rattle.pw_isa.specs.declared.instruction.Inst.TheVariants.{Jal, Bne, Bltu, Addi, Lui, Addiw, Slli, Ecall}
 use Rattle.pw_isa.specs.Registers.{x0, t0, t1, a0, a1, a7}
-use Rattle.pw_isa.specs.EnvironmentCalls.{fault_call}
+use Rattle.pw_isa.specs.EnvironmentCalls.{fault_call, index_fault}
 use Rattle.pw_tree.specs.declared.operator.Un.{Un}
 use Rattle.pw_tree.specs.declared.operator.Un.TheVariants.{Neg, Plus, Not, Bang}
 use Rattle.pw_tree.specs.declared.operator.Bin.{Bin}
@@ -14,7 +14,7 @@ use Rattle.pw_tree.specs.Units.{TypedUnit}
 use Rattle.pw_code.specs.declared.frame.Frame.{Frame}
 use Rattle.pw_code.specs.Items.{CodePart, instruction, address}
 use Rattle.pw_code.specs.LoadImmediate.{is_within, load_32_bits, rest, lower, upper_immediate, load_signed, load_immediate}
-use Rattle.pw_code.specs.Pieces.{bytes_of_words, back, jump, fault, index_fault, check_index, unary_code, binary_code, load_held}
+use Rattle.pw_code.specs.Pieces.{bytes_of_words, back, jump, fault, check_index, unary_code, binary_code, load_held}
 use Rattle.pw_gen.proofs.Elements.{each_append, each_chosen}
 use Rattle.pw_gen.proofs.References.{IsKnownIn}
 

@@ -18,12 +18,10 @@ use pw_genexpr::{
     fault_words, held_slot, local_slot, put_check_nonzero, put_instruction, put_instructions,
 };
 use pw_isa::Inst;
+use pw_isa::environment_calls::DEPTH_FAULT;
 use pw_isa::registers::{A0, RA, S1, SP, ZERO};
 use pw_tree::TFun;
 use std::alloc::Global;
-
-/// A call while as many as may be alive at once are.
-const DEPTH_FAULT: u8 = 4;
 
 /// The frame of a function.
 fn frame_of(f: &TFun) -> Frame

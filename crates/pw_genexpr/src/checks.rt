@@ -11,11 +11,8 @@ use crate::put::{put_instruction, put_instructions};
 use pw_base::NoMemory;
 use pw_code::Item;
 use pw_isa::Inst;
-use pw_isa::environment_calls::FAULT;
+use pw_isa::environment_calls::{FAULT, INDEX_FAULT};
 use pw_isa::registers::{A0, A1, A7, T1, ZERO};
-
-/// An index outside of its array.
-const INDEX_FAULT: u8 = 1;
 
 /// How many words the code of a checked fault in this line is.
 pub fn fault_words(line: u32) -> u32

@@ -16,12 +16,9 @@ use crate::slots::{local_slot, put_load_held};
 use pw_base::NoMemory;
 use pw_code::{Frame, Item};
 use pw_isa::Inst;
-use pw_isa::environment_calls::{INPUT, OUTPUT};
+use pw_isa::environment_calls::{INPUT, NULL_CALL_FAULT, OUTPUT};
 use pw_isa::registers::{A0, A7, RA, SP, T0, ZERO};
 use pw_tree::Ref;
-
-/// A call of null.
-const NULL_CALL_FAULT: u8 = 3;
 
 /// The jump to the function whose address is in t0, which returns to the next word.
 const CALL: Inst = Inst::Jalr {

@@ -12,11 +12,9 @@ use crate::put::{put_instruction, put_instructions};
 use pw_base::NoMemory;
 use pw_code::Item;
 use pw_isa::Inst;
+use pw_isa::environment_calls::DIVISION_FAULT;
 use pw_isa::registers::{A0, T0, ZERO};
 use pw_tree::{Bin, Un};
-
-/// A division by zero.
-const DIVISION_FAULT: u8 = 2;
 
 /// The truth of a0, as 0 or 1.
 pub(crate) const TRUTH: Inst = Inst::Sltu {

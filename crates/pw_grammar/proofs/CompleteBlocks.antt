@@ -130,7 +130,7 @@ elements_cons n expr stmt reads turns y ys at ts kind short part rest = λ found
     ∙ valued _ (counted _ (rest (found ++ tree_of_statement at y ∷ [])) (omega (arith, length-append (spelled_statement y) (spelled_statements ys))))
     (append_assoc found (tree_of_statement at y ∷ []) (trees_of_statements (at + length (spelled_statement y)) ys)))
 
--- behind the elements that are left, and before their end, there is no `else`
+-- after the elements that are left, and before their end, there is no `else`
 rest_no : (ys : StatementDerivations) (ts : List Token) → AreStatements ys → first_sort ts ≡ s.RightBrace →
     first_sort (spelled_statements ys ++ ts) ≢ s.Else
 unfolding spelled_statements AreStatements

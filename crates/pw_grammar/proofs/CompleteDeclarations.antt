@@ -30,7 +30,7 @@ use Rattle.pw_tree.specs.declared.decl.DeclKind.TheVariants as d
 use Rattle.pw_tree.specs.declared.decl.Decl.{Decl}
 use Rattle.pw_lex.specs.declared.token.Token.{Token}
 
--- ---- what comes in front of a declaration's end
+-- ---- what comes before a declaration's end
 
 no_type_static : r.begins_type s.Static ≡ false
 unfolding r.begins_type is_same
@@ -44,7 +44,7 @@ no_type_end : r.begins_type s.End ≡ false
 unfolding r.begins_type is_same
 no_type_end = refl
 
--- the declaration with this name and what its reader gives behind it
+-- the declaration with this name and what its reader gives after it
 abbrev pub declared : ℕ → Option Token → ResultDerivation → Token → ℕ × DeclKind → ℕ → Decl
 declared at g c x p last = record {
   first = at;
@@ -57,7 +57,8 @@ declared at g c x p last = record {
   kind = p.1;
 }
 
-reads_front : (expr : Parser Expr) (stmt : Parser Stmt) (n at : ℕ) (g : Option Token) (c : ResultDerivation) (x : Token) (ts : List Token) (p : ℕ × DeclKind) (last m : ℕ) (us : List Token)
+reads_front : (expr : Parser Expr) (stmt : Parser Stmt) (n at : ℕ) (g : Option Token) (c : ResultDerivation) (x : Token)
+    (ts : List Token) (p : ℕ × DeclKind) (last m : ℕ) (us : List Token)
     → IsStorage g → IsResult c → sort x ≡ s.Name
     → rd.declarator expr stmt n (linkage_of g) (result_in c) (spot (suc (name_at at g (spelled_result c))) ts) ≡ Ok (p, spot m us) → m ≡ suc last
     → rd.declaration expr stmt n (spot at (spelled_storage g ++ (spelled_result c ++ x ∷ ts))) ≡ Ok (declared at g c x p last, spot m us)
@@ -122,7 +123,8 @@ type_not_void : (c : TypeDerivation) → IsType c → is_void (type_in c) ≡ fa
 type_not_void (word t) (y, e) = no_void (sort t) y e
 type_not_void (unsigned u l) is = refl
 
-reads_function : (expr : Parser Expr) (stmt : Parser Stmt) (n : ℕ) (l : Linkage) (y : Ty) (at : ℕ) (o : Token) (ps : ParametersDerivation) (c : Token) (ts : List Token) (kind : DeclKind) (j : Position)
+reads_function : (expr : Parser Expr) (stmt : Parser Stmt) (n : ℕ) (l : Linkage) (y : Ty) (at : ℕ) (o : Token)
+    (ps : ParametersDerivation) (c : Token) (ts : List Token) (kind : DeclKind) (j : Position)
     → AreParameters ps → sort c ≡ s.RightParen → length (spelled_parameters ps ++ c ∷ ts) < n
     → rd.function_end expr stmt n l y (parameters_of (suc at) ps) (spot (suc (suc at + length (spelled_parameters ps))) ts) ≡ Ok (kind, j)
     → rd.function expr stmt n l y (spot at (o ∷ (spelled_parameters ps ++ c ∷ ts))) ≡ Ok ((suc at + length (spelled_parameters ps), kind), j)
@@ -138,7 +140,8 @@ a_prototype : (y : Ty) (ps : List Param) (at : ℕ) (e : Token) (ts : List Token
 unfolding rd.prototype
 a_prototype y ps at e ts is = then_ _ (step_expect s.Semicolon at e ts is) refl
 
-a_body : (expr : Parser Expr) (stmt : Parser Stmt) (n : ℕ) (y : Ty) (ps : List Param) (at : ℕ) (b : Token) (ys : StatementDerivations) (e : Token) (ts : List Token)
+a_body : (expr : Parser Expr) (stmt : Parser Stmt) (n : ℕ) (y : Ty) (ps : List Param) (at : ℕ) (b : Token)
+    (ys : StatementDerivations) (e : Token) (ts : List Token)
     → sort b ≡ s.LeftBrace → sort e ≡ s.RightBrace
     → ReadsElements expr stmt n ys (suc at) (e ∷ ts)
     → rd.body expr stmt n y ps (spot at (b ∷ (spelled_statements ys ++ e ∷ ts)))
@@ -180,7 +183,7 @@ variable_parts u v x w e ts =
 front_fits : (u v : List Token) (x : Token) (w : List Token) (n : ℕ) → length (u ++ (v ++ x ∷ w)) < n → length w < n
 front_fits u v x w n short = omega (arith, length-append u (v ++ x ∷ w), length-append v (x ∷ w))
 
--- what comes behind a variable's name is no bracket
+-- what comes after a variable's name is no bracket
 variable_no : (v : VariableDerivation) (e : Token) (ts : List Token) → IsSizeAndInitialiser v → sort e ≡ s.Semicolon →
     first_sort (spelled_variable v ++ e ∷ ts) ≢ s.LeftParen
 variable_no dc.scalar e ts is is_e = no_other is_e (λ p. cc)

@@ -18,7 +18,7 @@ use Rattle.pw_lex.specs.declared.token.Token.{Token}
 
 -- ---- prefix operators
 
--- the operators in front of a phrase, and what they stand in front of
+-- the operators before a phrase, and what they stand before
 abbrev operators_of : ExpressionDerivation → List (Un × ℕ)
 operators_of (prefixed t a) = (prefix_operator_in t, t.line) ∷ operators_of a
 operators_of _ = []
@@ -127,7 +127,7 @@ chain_ends n operand (suc turns) first left i stops =
     ap (λ o. read_then (read.binary_by o i) (λ x. on_option x (pure left) (λ op. operand >>= (λ right. finish first op.1 (e.Binary op.0 left right)
     >>= (λ whole. read.chain n operand turns first whole))))) (none_at_level n (binary_of (next_sort i)) stops.operator)
 
--- reading up to the phrase's end comes to the loop of the level behind it, with enough turns left
+-- reading up to the phrase's end comes to the loop of the level after it, with enough turns left
 pub record Chained (p : Parser Expr) (n k : ℕ) (c : ExpressionDerivation) (at : ℕ) (r : List Token) : Type 0 where
   pub turns : ℕ
   pub enough : length r < turns

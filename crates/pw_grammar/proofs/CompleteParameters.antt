@@ -95,7 +95,7 @@ parameter_begins : (p : ParameterDerivation) (ts : List Token) → IsParameter p
 parameter_begins p ts is =
     subst (λ v. r.begins_type (first_sort v) ≡ true) (sym (append_assoc (spelled_type p.ty) (spelled_name p.name) ts)) (type_begins p.ty (spelled_name p.name ++ ts) is.0)
 
--- behind further parameters stands no name
+-- after further parameters stands no name
 more_no : (ps : MoreParameters) (ts : List Token) → AreMoreParameters ps → first_sort ts ≡ s.RightParen →
     first_sort (spelled_more_parameters ps ++ ts) ≢ s.Name
 unfolding spelled_more_parameters AreMoreParameters

@@ -173,7 +173,7 @@ index_reads p n knows first left o i c at last r is closes ends short =
 
 -- ---- the loop of suffixes
 
--- reading up to the phrase's end comes to the loop of suffixes behind it, with enough turns left
+-- reading up to the phrase's end comes to the loop of suffixes after it, with enough turns left
 pub record Suffixed (p : Parser Expr) (n : ℕ) (c : ExpressionDerivation) (at : ℕ) (r : List Token) : Type 0 where
   pub turns : ℕ
   pub enough : length r < turns
@@ -234,7 +234,7 @@ index_suffixed p n knows a o i c at r opens is closes short (suc turns) enough c
           (omega (arith, count)) (omega (arith, count))) refl)));
     }
 
--- what is left to read behind a front is counted with it
+-- what is left to read after a prefix is counted with it
 counts_on : (u : List Token) (o : Token) (v : List Token) (c : Token) (r : List Token) (n : ℕ)
     → length (u ++ o ∷ (v ++ c ∷ [])) + length r < n → length u + length (o ∷ (v ++ c ∷ r)) < n
 counts_on u o v c r n short =

@@ -90,7 +90,7 @@ assigned_parts : (x o : Token) (v : List Token) (c q : Token) (w ts : List Token
     → (x ∷ o ∷ (v ++ c ∷ q ∷ w)) ++ ts ≡ x ∷ o ∷ (v ++ c ∷ q ∷ (w ++ ts))
 assigned_parts x o v c q w ts = ap (λ u. x ∷ o ∷ u) (append_assoc v (c ∷ q ∷ w) ts)
 
--- behind what is assigned to, `= e`
+-- after what is assigned to, `= e`
 reads_assigned : (n : ℕ) (expr : Parser Expr) → ReadsExpressions n expr
     → (to : Option (List ℕ × Option Expr)) (x : List ℕ) (i : Option Expr) (at : ℕ) (q : Token) (a : ExpressionDerivation)
     (other : Parser StmtKind) (ts : List Token) → to ≡ Some (x, i) → sort q ≡ s.Assign → IsAt 13 a → EndsExpression (first_sort ts) → length (spelled a ++ ts) < n

@@ -73,7 +73,7 @@ either_other x p q i e = ap (λ b. if b then p i else q i) (sees_other x i e)
 
 -- ---- lists of tokens
 
--- a list that comes behind another is no longer than both
+-- a list that comes after another is no longer than both
 pub behind : (u v : List Token) (n : ℕ) → length (u ++ v) < n → length v < n
 behind u v n short = omega (arith, length-append u v)
 
@@ -82,7 +82,7 @@ pub parted : {A : Type 0} {u v : List Token} {x : ReadResult A} (p : Parser A) (
     p (spot at u) ≡ x
 parted p at same reads = ap (λ ts. p (spot at ts)) same ∙ reads
 
--- a sort that a test tells from another
+-- a sort that a test distinguishes from another
 pub told_apart : {x y : Sort} (f : Sort → Bool) → f x ≡ true → f y ≡ false → x ≢ y
 told_apart f is other = λ e. cc
 

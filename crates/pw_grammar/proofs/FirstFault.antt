@@ -260,7 +260,8 @@ refused_under l ts e x m near b stuck = record { is = inl (inside, unwanted stuc
         before_by m n 0 2 (omega (arith, near, at_is, late)) (omega arith)
     others NoMemory f = absurd f
 
-judged_err : (l : KnowsLimits) (ts : List Token) (e : SyntaxError) (x : LimitIs (first_nested 0 0 ts) (first_late (anew 0) ts) e) (fault : SyntaxError)
+judged_err : (l : KnowsLimits) (ts : List Token) (e : SyntaxError)
+    (x : LimitIs (first_nested 0 0 ts) (first_late (anew 0) ts) e) (fault : SyntaxError)
     → IsRefused (take (suc x.at) ts) fault → (b : Bool) → nat_le (token_of fault) (token_of e) ≡ b → IsFirstFault ts (if b then fault else e)
 judged_err l ts e x fault r true z = subst (λ d. IsFirstFault ts d) (sym r.is) (refused_under l ts e x r.at near r.begins r.stuck)
   where
@@ -276,7 +277,8 @@ judged_err l ts e x fault r false z = limit_first l ts e x (subst (λ us. Begins
         let long = length-take-le (suc x.at) ts (limit_below l ts e x) in
         let within = r.within in omega (arith, p, q, at_is, long, within)
 
-tells_under : (l : KnowsLimits) (ts : List Token) (e : SyntaxError) (x : LimitIs (first_nested 0 0 ts) (first_late (anew 0) ts) e) (o : ReadResult (List Decl))
+tells_under : (l : KnowsLimits) (ts : List Token) (e : SyntaxError)
+    (x : LimitIs (first_nested 0 0 ts) (first_late (anew 0) ts) e) (o : ReadResult (List Decl))
     → TellsOf (take (suc x.at) ts) o → Tells ts (judged_by e o)
 tells_under l ts e x (Ok p) r = limit_first l ts e x (record { phrase = r.phrase; is = r.is; rest = []; spells = r.spells ∙ sym (append-nil (take (suc x.at) ts)) })
 tells_under l ts e x (Err fault) r = judged_err l ts e x fault r (nat_le (token_of fault) (token_of e)) refl

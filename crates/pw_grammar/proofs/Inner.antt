@@ -79,7 +79,7 @@ pub inner_braces : (o c : Token) (u : List Token) → sort o ≡ s.LeftBrace →
     IsInner (o ∷ (u ++ c ∷ []))
 inner_braces o c u e f inner = inner_brackets o c u (opening_sort (sort o) s.LeftBrace e refl) (closing_sort (sort c) s.RightBrace f (refl, refl)) inner
 
--- the same, and more behind the closing bracket
+-- the same, and more after the closing bracket
 inner_and_more : (o c : Token) (u v : List Token) → IsInner (o ∷ (u ++ c ∷ [])) → IsInner v → IsInner (o ∷ (u ++ c ∷ v))
 inner_and_more o c u v a b = subst (λ w. IsInner (o ∷ w)) (append_assoc u (c ∷ []) v) (inner_both (o ∷ (u ++ c ∷ [])) v a b)
 

@@ -26,7 +26,7 @@ pub record IsInner (u : List Token) : Type 0 where
   -- outside a body, or early enough in it, the walk passes them
   pub passes : (at n start : ℕ) (body : Bool) (v : List Token) → (body ≡ false) ⊎ (at + length u ≤ start + 8192)
       → first_late (within_brackets at n start body) (u ++ v) ≡ first_late (within_brackets (at + length u) n start body) v
-  -- else it finds the first behind 8,192 others
+  -- else it finds the first after 8,192 others
   pub finds : (at n start : ℕ) (v : List Token) → at ≤ start + 8192 → start + 8192 < at + length u
       → first_late (within_brackets at n start true) (u ++ v) ≡ Some (start + 8192)
 
@@ -46,7 +46,7 @@ no_brace : (body a b : Bool) → (body || (a && b && false)) ≡ body
 no_brace true a b = refl
 no_brace false a b = never a b
 
--- one token in brackets, the brackets behind it being at least one
+-- one token in brackets, the brackets after it being at least one
 moves_by : (at d m start : ℕ) (body a b c x : Bool) → d ≡ suc m
     → (if (d == 0) && x then anew (suc at) else (record { at = suc at; depth = d; start = start; in_body = body || (a && b && false); behind_list = c && (d == 0) }))
     ≡ within_brackets (suc at) m start body

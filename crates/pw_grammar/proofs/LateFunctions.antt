@@ -54,7 +54,7 @@ on_sort w t z v e = ap (λ x. first_on w x v) e
 
 -- ---- outside brackets
 
--- outside brackets and before a body, behind a `)` or not
+-- outside brackets and before a body, after a `)` or not
 abbrev pub after : ℕ → ℕ → Bool → Walk
 after at start list = record { at = at; depth = 0; start = start; in_body = false; behind_list = list }
 
@@ -355,7 +355,7 @@ passes_body b e body v at start b_is inner e_is short =
     ∙ (ends_body (suc at + length body) start v
     ∙ not_late (suc at + length body) start (Some (suc at + length body)) (first_late (anew (suc (suc at + length body))) v) short)))))
 
--- a body that begins in time and is not over then: its first token behind 8,192 others is found
+-- a body that begins in time and is not over then: its first token after 8,192 others is found
 found_behind : (e : Token) (body v : List Token) (at start : ℕ) → IsInner body → sort e ≡ s.RightBrace
     → at ≤ start + 8192 → start + 8192 ≤ at + length body → (at + length body ≤ start + 8192) ⊎ (start + 8192 < at + length body)
     → first_late (within_brackets at 0 start true) (body ++ e ∷ v) ≡ Some (start + 8192)
@@ -382,7 +382,7 @@ found_in_body b e body v at start b_is inner e_is long (inr far) =
     ∙ (is_late_now at start (Some at) (first_late (within_brackets (suc at) 0 start true) (body ++ e ∷ v)) (omega arith)
     ∙ ap Some (let z : at ≡ max at (start + 8192) = omega arith in z)))
 
--- else its first token behind 8,192 others of the function is found
+-- else its first token after 8,192 others of the function is found
 pub finds_body : (b e : Token) (body v : List Token) (at start : ℕ) → sort b ≡ s.LeftBrace → IsInner body →
     sort e ≡ s.RightBrace
     → start + 8192 < suc (suc at + length body)

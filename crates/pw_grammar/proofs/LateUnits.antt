@@ -286,7 +286,7 @@ late_first_with c cs at t others (inr p) (inr later) =
     far : (n before : ℕ) → t ≡ n + before → 8192 < n → 8192 ≤ t
     far n before e f = omega arith
 
--- where a token stands late, one is found that is not behind it
+-- where a token stands late, one is found that is not after it
 pub late_first : (c : UnitDerivation) → IsUnit c → (at t : ℕ) → StandsLate c t →
     (found : ℕ) × (first_late (anew at) (spelled_unit c) ≡ Some found) × (found ≤ at + t)
 unfolding StandsLate spelled_unit IsUnit
@@ -369,7 +369,7 @@ too_long_found ts found e b =
     at_front = late_shared (anew 0) (take (suc found) ts) (drop (suc found) ts) found
         (ap (λ u. first_late (anew 0) u) (take-append-drop (suc found) ts) ∙ e) (among found found ts short (omega arith))
 
--- where that fault is, one is found that is not behind it
+-- where that fault is, one is found that is not after it
 pub too_long_first : (ts : List Token) (t : ℕ) → IsFault ts (TooLong t) →
     (found : ℕ) × (first_late (anew 0) ts ≡ Some found) × (found ≤ t)
 too_long_first ts t fault =

@@ -24,7 +24,7 @@ use Rattle.pw_tree.specs.declared.expr.ExprKind.TheVariants as e
 use Rattle.pw_lex.specs.declared.token.Token.{Token}
 use Rattle.pw_lex.specs.declared.token.TokenKind.TheVariants as t
 
--- ---- a node, and what stands behind it
+-- ---- a node, and what stands after it
 
 node_then : {B : Type 0} (first line : ℕ) (kind : ExprKind) (M : Expr → Language B)
     → Within (Seq (ANode first line kind) M) (λ at b u x. M (roll-Expr (record { first = first; last = at - 1; line = line; kind = kind })) at b u x)
@@ -39,7 +39,7 @@ lawful_node : {B : Type 0} (n first line : ℕ) (kind : ExprKind) (M : Expr → 
 lawful_node n first line kind M f g l = within (node_then first line kind M)
     (bind n (ANode first line kind) M _ _ f g (λ at a u x y o z. o) (lawful_finish n first line kind) l)
 
--- ---- operands behind a left one
+-- ---- operands after a left one
 
 none_some : (op : Bin) → None ≡ Some op → ⊥
 none_some op h = cc
@@ -61,7 +61,7 @@ count_binary : (first at : ℕ) (u v : List Token) (t : Token) → at ≡ first 
     suc at + length v ≡ first + length (u ++ t ∷ v)
 count_binary first at u v t e = omega (arith, e, length-append u (t ∷ v))
 
--- an operator and its right operand behind a phrase, and what stands behind those
+-- an operator and its right operand after a phrase, and what stands after those
 binary_is : (level tighter first : ℕ) (left : Expr) (op : Bin) → level ≡ suc tighter
     → Within (Then (λ x. r.at_level level (binary_of x) ≡ Some op) (λ line. WithExpression tighter (λ right.
     (λ at b u x. Onward level level first (roll-Expr (record { first = first; last = at - 1; line = line; kind = e.Binary op left right })) at b u))))
@@ -147,7 +147,7 @@ count_choice : (first at : ℕ) (u v w : List Token) (q c : Token) → at ≡ fi
     → suc (suc at + length v) + length w ≡ first + length (u ++ q ∷ (v ++ c ∷ w))
 count_choice first at u v w q c e = omega (arith, e, length-append u (q ∷ (v ++ c ∷ w)), length-append v (c ∷ w))
 
--- `? a : b` behind a phrase
+-- `? a : b` after a phrase
 branches_are : (first : ℕ) (test : Expr) → Within (Then (λ x. is_same x s.Question ≡ true) (λ line. WithExpression 13 (λ a.
     Then (λ x. x ≡ s.Colon) (λ o. WithExpression 13 (λ b. ANode first line (e.Cond test a b)))))) (AnOnward 12 13 first test)
 unfolding spelled IsAt expression_tree

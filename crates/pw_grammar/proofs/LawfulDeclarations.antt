@@ -27,7 +27,7 @@ use Rattle.pw_tree.specs.declared.decl.DeclKind.{DeclKind}
 use Rattle.pw_tree.specs.declared.decl.Decl.{Decl}
 use Rattle.pw_lex.specs.declared.token.Token.{Token}
 
--- ---- what comes behind the name
+-- ---- what comes after the name
 
 data Part : Type 0 where
   function : FunctionPart → Part
@@ -166,7 +166,7 @@ declaration_by at a u t (g.value ty) x (variable v) t_is z_is x_is is f y = reco
     before : (n k : ℕ) → suc n + k - 1 ≡ n + k
     before n k = omega arith
 
--- the name, and what comes behind it
+-- the name, and what comes after it
 abbrev Behind : ℕ → ℕ → Linkage → Ty → ℕ → Language Decl
 Behind first at linkage ty line = WithName (λ x. WithPhrase (IsPart linkage ty) spelled_part (part_at ty) (λ p. ADecl first at line linkage x p))
 

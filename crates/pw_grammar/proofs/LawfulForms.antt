@@ -1,4 +1,4 @@
--- The laws of the readers of the forms of statements, each behind its first token.
+-- The laws of the readers of the forms of statements, each after its first token.
 use Rattle.std.proofs.Common.{◌≡◌, ◌≢◌, refl, sym, ◌∙◌, ap, subst, ℕ, suc, ◌+◌, ◌≤◌, List, [], ◌∷◌, ◌++◌, length, ◌⊎◌, Bool, true, false, Option, Some, None}
 use Rattle.std.proofs.lemmas.List.{append-nil}
 use Rattle.pw_grammar.specs.declared.sort.Sort.{Sort}
@@ -159,7 +159,8 @@ record Head (t o : Token) (a : ExpressionDerivation) (c : Token) (y : StatementD
   right_is : sort c ≡ s.RightParen
   body_is : IsStatement false y
 
-conditional_by : (at : ℕ) (kind : StmtKind) (u : List Token) (x : Sort) (t o : Token) (a : ExpressionDerivation) (c : Token) (y : StatementDerivation) (n : Option Stmt) (v : List Token)
+conditional_by : (at : ℕ) (kind : StmtKind) (u : List Token) (x : Sort) (t o : Token) (a : ExpressionDerivation) (c : Token)
+    (y : StatementDerivation) (n : Option Stmt) (v : List Token)
     → Head t o a c y s.If → u ≡ t ∷ o ∷ (spelled a ++ c ∷ (spelled_statement y ++ v)) → (open_ended y ≡ true → sort_before v x ≢ s.Else)
     → IsElse (after_test at a + length (spelled_statement y)) n v x → kind ≡ k.If (expression_tree (suc (suc at)) a) (tree_of_statement (after_test at a) y) n
     → IsForm at kind u x

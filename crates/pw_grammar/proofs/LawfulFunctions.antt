@@ -1,4 +1,4 @@
--- The laws of the readers of functions, behind their names.
+-- The laws of the readers of functions, after their names.
 use Rattle.std.proofs.Common.{◌≡◌, ◌≢◌, refl, sym, ◌∙◌, ap, subst, ℕ, suc, ◌+◌, ◌-◌, ◌≤◌, List, [], ◌∷◌, ◌++◌, length, Bool, true, false, not, ◌||◌, Option, Some, None, arith}
 use Rattle.std.proofs.lemmas.List.{append-nil}
 use Rattle.std.proofs.lemmas.Bool.{and_parts, not-true}
@@ -26,7 +26,7 @@ use Rattle.pw_tree.specs.declared.decl.DeclKind.{DeclKind}
 use Rattle.pw_tree.specs.declared.decl.DeclKind.TheVariants as d
 use Rattle.pw_lex.specs.declared.token.Token.{Token}
 
--- ---- what comes behind the parameters
+-- ---- what comes after the parameters
 
 data End : Type 0 where
   closed : Token → End
@@ -143,7 +143,7 @@ defines linkage at ps e =
     let b = and_parts (not (r.is_extern linkage)) (list_all r.is_named (g.parameters_of at ps)) e in
     record { not_extern = not-true (r.is_extern linkage) b.0; names = have_names at ps b.1 }
 
--- ---- functions, behind the name
+-- ---- functions, after the name
 
 pub data FunctionPart : Type 0 where
   prototyped : Token → g.ParametersDerivation → Token → Token → FunctionPart
@@ -169,7 +169,8 @@ function_at ty at (defined o ps c b body e) = (
 abbrev pub AFunction : Linkage → Ty → Language (ℕ × DeclKind)
 AFunction linkage ty = APhrase (IsFunction linkage) spelled_function (function_at ty)
 
-function_by : (linkage : Linkage) (ty : Ty) (at : ℕ) (a : ℕ × DeclKind) (u : List Token) (o : Token) (ps : g.ParametersDerivation) (c : Token) (z : End)
+function_by : (linkage : Linkage) (ty : Ty) (at : ℕ) (a : ℕ × DeclKind) (u : List Token) (o : Token)
+    (ps : g.ParametersDerivation) (c : Token) (z : End)
     → sort o ≡ s.LeftParen → g.AreParameters ps → sort c ≡ s.RightParen → IsEnd linkage (g.parameters_of (suc at) ps) z
     → u ≡ o ∷ (g.spelled_parameters ps ++ c ∷ spelled_end z)
     → a ≡ (suc at + length (g.spelled_parameters ps), end_at ty (g.parameters_of (suc at) ps) (suc (suc at + length (g.spelled_parameters ps))) z)

@@ -169,7 +169,7 @@ no_more : (found : List InitItem) → Within (Pure found) (MoreItems found)
 unfolding g.spelled_more_elements g.AreMoreElements g.more_elements_of
 no_more found at a u x y = record { phrase = g.MoreElements.end; is = tt; spells = y.empty; value_is = y.is ∙ sym (append-nil found) }
 
--- behind a comma: a further element, or nothing
+-- after a comma: a further element, or nothing
 abbrev Next : Type 0
 Next = Option (g.ElementDerivation × g.MoreElements)
 

@@ -34,7 +34,7 @@ pub a_statement_is_lax : (declares : Bool) → Lax (AStatement declares)
 a_statement_is_lax declares at a u x y r o = record
     { phrase = r.phrase; is = r.is; spells = r.spells; tree = r.tree; closed = λ e. o }
 
--- a statement, and what comes behind it
+-- a statement, and what comes after it
 pub record WithStatement {B : Type 0} (declares : Bool) (M : Stmt → Language B) (at : ℕ) (b : B) (u : List Token) (x : Sort) : Type 0 where
   pub phrase : StatementDerivation
   pub behind : List Token
@@ -127,7 +127,7 @@ lawful_element n p q v w l k = lawful_test r.begins_type n (AStatement true) _ _
     (keeps (λ x. r.begins_type x ≡ false) n (AStatement true) _ _ (within statement_in_block k))
     (statement_goes_on true)
 
--- statements behind those that were found
+-- statements after those that were found
 abbrev pub Elements : List Stmt → Language (List Stmt)
 Elements found = APhrase AreStatements spelled_statements (λ at ys. found ++ trees_of_statements at ys)
 

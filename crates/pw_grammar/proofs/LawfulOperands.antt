@@ -43,7 +43,7 @@ leaves_both : {A B : Type 0} (n : ℕ) (M : A → Language B) (f : A → Parser 
 leaves_both n M f says (Ok p) left = leaves_fewer (M p.0) p.1 n (f p.0 p.1) (says p.0 p.1) left
 leaves_both n M f says (Err e) left = tt
 
--- a reader that begins with a token, as one of K, and another behind it
+-- a reader that begins with a token, as one of K, and another after it
 pub keeps_then_on : {A B : Type 0} (c : Sort → Type 0) (n : ℕ) (M : ℕ → Language A) (K : Language A) (N : A → Language B)
     (f g : ℕ → Parser A) (h h' : A → Parser B) → (c s.End → ⊥) → Lax K → Within (Then c M) K
     → ((line : ℕ) → Lawful n (M line) (f line) (g line)) → ((a : A) → Lawful n (N a) (h a) (h' a))
@@ -70,9 +70,9 @@ looser m n (g.choice c q a o b) less is = (omega arith, is.1, is.2, is.3, is.4, 
 pub expression_looser : (m n : ℕ) → m ≤ n → Within (AnExpression m) (AnExpression n)
 expression_looser m n less at a u x y = record { phrase = y.phrase; is = looser m n y.phrase less y.is; spells = y.spells; tree = y.tree }
 
--- ---- tokens behind an expression that make another of the two
+-- ---- tokens after an expression that make another of the two
 
--- behind any phrase of level m that begins at `first` and has the tree `left`, they make a phrase of level n
+-- after any phrase of level m that begins at `first` and has the tree `left`, they make a phrase of level n
 pub record Onward (m n first : ℕ) (left : Expr) (at : ℕ) (a : Expr) (u : List Token) : Type 0 where
   pub onward : (c : ExpressionDerivation) → IsAt m c → left ≡ expression_tree first c → at ≡ first + length (spelled c) →
       IsExpression n first a (spelled c ++ u)
@@ -117,7 +117,7 @@ onward_again k m n first left at a u x y = record {
     count : (first at : ℕ) (u v w : List Token) → at ≡ first + length u → u ++ v ≡ w → at + length v ≡ first + length w
     count first at u v w e f = omega (arith, e, ap length f, length-append u v)
 
--- an expression, and what stands behind it
+-- an expression, and what stands after it
 expression_onward : (m n : ℕ) → Within (Here (λ first. WithExpression m (λ left. AnOnward m n first left))) (AnExpression n)
 expression_onward m n at a u x y =
     let z = y.second.onward y.phrase y.is refl refl in
@@ -137,7 +137,7 @@ pub record HasMore (found : List Expr) (at : ℕ) (value : List Expr) (u : List 
   pub spells : u ≡ spelled_more list
   pub trees : value ≡ found ++ more_argument_trees at list
 
--- further arguments behind those that were found
+-- further arguments after those that were found
 abbrev pub SomeMore : List Expr → Language (List Expr)
 SomeMore found = λ at a u x. HasMore found at a u
 
@@ -222,7 +222,7 @@ count_suffix : (first at : ℕ) (u v w : List Token) (o c : Token) → at ≡ fi
     → suc (suc at + length w) ≡ first + length (u ++ o ∷ (v ++ c ∷ []))
 count_suffix first at u v w o c e f = omega (arith, e, ap length f, length-append u (o ∷ (v ++ c ∷ [])), length-append v (c ∷ []))
 
--- `( arguments )` behind a phrase
+-- `( arguments )` after a phrase
 call_is : (first : ℕ) (left : Expr) → Within (Then (λ x. is_same x s.LeftParen ≡ true) (λ line. Seq SomeArguments (λ xs.
     Then (λ x. x ≡ s.RightParen) (λ c. ANode first line (e.Call left xs))))) (AnOnward 1 1 first left)
 unfolding spelled IsAt expression_tree
@@ -242,7 +242,7 @@ call_is first left at a u x y =
       };
     }
 
--- `[ i ]` behind a phrase
+-- `[ i ]` after a phrase
 index_is : (first : ℕ) (left : Expr) → Within (Then (λ x. is_same x s.LeftBracket ≡ true) (λ line. WithExpression 13 (λ i.
     Then (λ x. x ≡ s.RightBracket) (λ c. ANode first line (e.Index left i))))) (AnOnward 1 1 first left)
 unfolding spelled IsAt expression_tree
@@ -265,7 +265,7 @@ pub bracket : Sample s.RightBracket
 unfolding sort_of
 bracket = record { token = a_token (t.Punct 5); sort_is = refl; no_else = λ p. cc; no_end = λ p. cc }
 
--- any calls and indices behind a phrase; `k` bounds the arguments, `m` the turns
+-- any calls and indices after a phrase; `k` bounds the arguments, `m` the turns
 lawful_suffixes : (n m : ℕ) (p q : Parser Expr) (k k' first : ℕ) (left : Expr) → m ≤ suc n → Lawful n (AnExpression 13) p q
     → Lawful n SomeArguments (r.arguments p k) (r.arguments q k')
     → Lawful m (AnOnward 1 1 first left) (r.suffixes p k m first left) (r.suffixes q k' (suc m) first left)

@@ -26,7 +26,7 @@ pub then_option : {A U : Type 0} (o : ReadResult ℕ) (op : U) (stop : Parser A)
 then_option (Ok p) op stop f = refl
 then_option (Err fault) op stop f = refl
 
--- ---- operators in front of an operand
+-- ---- operators before an operand
 
 ArePrefixes : List Token → Type 0
 ArePrefixes [] = ⊤
@@ -96,7 +96,7 @@ lawful_operators (suc m) found = lawful_equal (suc m) (SomeOperators found) _ _ 
     (keeps_then (λ x. prefix_of x ≡ Some op) m _ _ _ (end_has_no_prefix op) (λ line. lawful_operators m (found ++ (op, line) ∷ []))))
     (operators_go_on found))
 
--- ---- the operand behind them
+-- ---- the operand after them
 
 record IsWrapped (first : ℕ) (ops : List (Un × ℕ)) (operand : Expr) (at : ℕ) (a : Expr) (u : List Token) : Type 0 where
   is : a ≡ r.under_operators first (at - 1) ops operand
@@ -115,7 +115,7 @@ lawful_wrap n first ops operand = record {
   can = λ at. record { rest = []; value = _; reads = λ x o. record { is = refl; empty = refl }; starts = λ e x o. o };
 }
 
--- the phrase behind these operators
+-- the phrase after these operators
 prefixes : List Token → ExpressionDerivation → ExpressionDerivation
 prefixes [] c = c
 prefixes (t ∷ ts) c = g.prefixed t (prefixes ts c)

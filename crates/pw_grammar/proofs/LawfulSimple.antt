@@ -26,12 +26,12 @@ use Rattle.pw_lex.specs.declared.token.Token.{Token}
 abbrev pub one : ExpressionDerivation
 one = constant a_number.token
 
--- ---- assignments, and expressions at the front of a statement
+-- ---- assignments, and expressions at the beginning of a statement
 
 abbrev pub ASimple : Language StmtKind
 ASimple = APhrase IsSimple spelled_simple kind_of_simple
 
--- `= e` behind what may be assigned to, or nothing behind an expression
+-- `= e` after what may be assigned to, or nothing after an expression
 abbrev SetTo : ℕ → Expr → Language StmtKind
 SetTo first a at kind u x = (to : List ℕ × Option Expr) × (r.target first a ≡ Some to)
     × Then (Is s.Assign) (λ o. WithExpression 13 (λ b. Pure (k.Set to.0 to.1 b))) at kind u x
@@ -59,7 +59,7 @@ lawful_after n first a p q l = lawful_test (λ x. is_same x s.Assign) n (AfterEx
     (keeps_pure (λ x. is_same x s.Assign ≡ false) n (AfterExpression first a) (k.Eval a) (λ at x h. inl (record { is = refl; empty = refl })))
     (after_goes_on first a)
 
--- behind the target's tokens v, which are `= b`
+-- after the target's tokens v, which are `= b`
 record Sets (to : List ℕ × Option Expr) (at : ℕ) (kind : StmtKind) (v : List Token) : Type 0 where
   token : Token
   right : ExpressionDerivation
@@ -156,7 +156,7 @@ lawful_finish_statement n first line kind = record {
 abbrev pub ASimpleStatement : Language Stmt
 ASimpleStatement = APhrase IsSimple spelled_simple (λ at c. statement_node at (spelled_simple c) (kind_of_simple at c))
 
--- a node that was finished behind its own tokens v
+-- a node that was finished after its own tokens v
 pub node_is : (at behind : ℕ) (kind kind' : StmtKind) (a : Stmt) (u v : List Token) → u ≡ v → behind ≡ at + length v →
     kind ≡ kind'
     → a ≡ roll-Stmt (record { first = at; last = behind - 1; line = first_line u; kind = kind }) → a ≡ statement_node at v kind'

@@ -164,7 +164,7 @@ unfolding r.test
 lawful_test_part n p q l = within test_is (lawful_then n s.LeftParen _ _ _ left_paren (λ o. lawful_with n 13 _ p q _ _ l
     (λ a. lawful_then n s.RightParen _ _ _ right_paren (λ c. lawful_pure n a))))
 
--- `( e )`, and what comes behind it
+-- `( e )`, and what comes after it
 pub record Tested {B : Type 0} (M : Expr → Language B) (at : ℕ) (b : B) (u : List Token) (x : Sort) : Type 0 where
   pub left : Token
   pub phrase : ExpressionDerivation

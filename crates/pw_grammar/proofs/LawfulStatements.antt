@@ -50,7 +50,7 @@ form_by_tests p v n s.Break i = refl
 form_by_tests p v n s.Continue i = refl
 form_by_tests p v n _ i = refl
 
--- one more test in front of the others
+-- one more test before the others
 test_form : (z : Sort) (n : ℕ) (a b c d : Parser StmtKind) → Form z n a b → Lawful n AForm c d
     → Lawful n AForm (λ i. if is_same (next_sort i) z then a i else c i) (λ i. if is_same (next_sort i) z then b i else d i)
 test_form z n a b c d first others = lawful_test (λ x. is_same x z) n AForm a b c d first
@@ -81,7 +81,7 @@ lawful_form n p q v w l h = lawful_equal (suc n) AForm _ _ _ _
 
 -- ---- statements
 
--- a form, and what comes behind it
+-- a form, and what comes after it
 record WithForm {B : Type 0} (M : StmtKind → Language B) (at : ℕ) (b : B) (u : List Token) (x : Sort) : Type 0 where
   phrase : StatementDerivation
   behind : List Token

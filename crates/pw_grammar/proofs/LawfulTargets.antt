@@ -1,4 +1,4 @@
--- What may stand in front of `=`: a name, or a name and an index, with no brackets round them.
+-- What may stand before `=`: a name, or a name and an index, with no brackets round them.
 use Rattle.std.proofs.Common.{◌≡◌, refl, sym, ◌∙◌, ap, ℕ, suc, ◌+◌, ◌<◌, ◌≤◌, List, length, ◌⊎◌, inl, inr, Bool, if◌then◌else◌, Option, Some, None, arith}
 use Rattle.std.proofs.lemmas.Bool.{ne_eqb, eq-eqb}
 use Rattle.std.specs.Bool.{⊤}
@@ -45,7 +45,7 @@ form_of_input = ap out-ExprKind (sym e.rolls-Input) ∙ out-roll-ExprKind ExprKi
 form_of_output : (a : Expr) → out-ExprKind (e.Output a) ≡ ExprKind-F.Output a
 form_of_output a = ap out-ExprKind (sym (e.rolls-Output a)) ∙ out-roll-ExprKind (ExprKind-F.Output a)
 
--- ---- a phrase's tree begins at its first token or, in brackets, behind it
+-- ---- a phrase's tree begins at its first token or, in brackets, after it
 
 begins_after : (at : ℕ) (c : ExpressionDerivation) → at ≤ first_of (expression_tree at c)
 unfolding expression_tree
@@ -90,7 +90,7 @@ no_target : (first : ℕ) (a : Expr) (k : ExprKind-F ExprKind Expr) → form a �
 unfolding target
 no_target first a k e o = ap (λ k. target_of first a k) e ∙ (other_target first a k o ∙ ap (with_index None) (no_word first a k e o))
 
--- a tree that begins behind the token
+-- a tree that begins after the token
 later_target_of : (first : ℕ) (a : Expr) (k : ExprKind-F ExprKind Expr) → first < first_of a → word_of first a ≡ None →
     target_of first a k ≡ None
 later_target_of first a (ExprKind-F.Index b i) later w =
@@ -101,7 +101,7 @@ later_target : (first : ℕ) (a : Expr) → first < first_of a → target first 
 unfolding target
 later_target first a later = later_target_of first a (form a) later (no_word_at first (first_of a) (form a) later)
 
--- ---- what a phrase is whose tree is a name at the front
+-- ---- what a phrase is whose tree is a name at the beginning
 
 record IsIdentifier (c : ExpressionDerivation) (x : List ℕ) : Type 0 where
   token : Token
@@ -128,7 +128,7 @@ word_phrase at (prefixed t a) x e = absurd (no_some _ x (no_word at (expression_
 word_phrase at (binary a t b) x e = absurd (no_some _ x (no_word at (expression_tree at (binary a t b)) _ (form_of_binary _ _ _) tt) e)
 word_phrase at (choice c q a n b) x e = absurd (no_some _ x (no_word at (expression_tree at (choice c q a n b)) _ (form_of_cond _ _ _) tt) e)
 
--- ---- what a phrase is that may stand in front of `=`
+-- ---- what a phrase is that may stand before `=`
 
 pub record IsWord (c : ExpressionDerivation) (to : List ℕ × Option Expr) : Type 0 where
   pub token : Token

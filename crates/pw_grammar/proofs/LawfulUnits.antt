@@ -25,7 +25,7 @@ use Rattle.pw_lex.specs.declared.token.TokenKind.TheVariants as t
 
 -- ---- declarations, one after another
 
--- declarations behind those that were found
+-- declarations after those that were found
 abbrev Declarations : List Decl → Language (List Decl)
 Declarations found = APhrase g.IsUnit g.spelled_unit (λ at cs. found ++ g.trees_of_declarations at cs)
 

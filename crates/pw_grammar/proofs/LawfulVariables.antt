@@ -175,7 +175,7 @@ lawful_initials m n small linkage count = lawful_test (may_have linkage) n (AnIn
     (keeps_pure (λ x. may_have linkage x ≡ false) n (AnInitial linkage count) None (λ at x h. record { phrase = absent; is = tt; spells = refl; value_is = refl }))
     (λ at. record { rest = []; value = None; reads = λ x o. record { phrase = absent; is = tt; spells = refl; value_is = refl }; starts = λ e x o. o })
 
--- ---- variables, behind the name
+-- ---- variables, after the name
 
 -- what a declarator's last token is, and what it declares
 abbrev pub Declared : Type 0

@@ -79,7 +79,8 @@ prototype_length g r x o ps c e = omega (
   length-append (spelled_parameters ps) (c ∷ e ∷ []),
 )
 
-pub function_length : (g : Option Token) (r : ResultDerivation) (x o : Token) (ps : ParametersDerivation) (c b : Token) (body : StatementDerivations) (e : Token)
+pub function_length : (g : Option Token) (r : ResultDerivation) (x o : Token) (ps : ParametersDerivation) (c b : Token)
+    (body : StatementDerivations) (e : Token)
     → length (spelled_declaration (function g r x o ps c b body e))
     ≡ length (spelled_storage g) + (length (spelled_result r) + suc (suc (length (spelled_parameters ps) + suc (suc (length (spelled_statements body) + 1)))))
 function_length g r x o ps c b body e = omega (

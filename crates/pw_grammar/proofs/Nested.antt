@@ -10,7 +10,7 @@ use Rattle.pw_grammar.proofs.Inner.{nothing_is}
 use Rattle.pw_grammar.proofs.LateUnits.{same_number}
 use Rattle.pw_lex.specs.declared.token.Token.{Token}
 
--- the token in front of which d others stand opens a bracket where 200 are open, if n are before the first
+-- the token before which d others stand opens a bracket where 200 are open, if n are before the first
 pub record IsNested (n d : ℕ) (ts : List Token) : Type 0 where
   pub short : d < length ts
   pub opening : opens_by (first_sort (drop d ts)) ≡ true
@@ -69,7 +69,7 @@ finds_here at n x ts o far = (
 no_token : (d : ℕ) → d < 0 → ⊥
 no_token d e = omega arith
 
--- where such a token is, one is found that is not behind it
+-- where such a token is, one is found that is not after it
 pub nested_by : (ts : List Token) (at n d : ℕ) → IsNested n d ts → FindsBy at n ts (at + d)
 unfolding first_nested open_after
 nested_by [] at n d f = absurd (no_token d f.short)

@@ -1,4 +1,4 @@
--- Readers in parts: where one stands, a token, an expression, a node, each with what comes behind it.
+-- Readers in parts: where one stands, a token, an expression, a node, each with what comes after it.
 use Rattle.std.proofs.Common.{◌≡◌, refl, sym, ◌∙◌, ap, subst, ℕ, suc, ◌+◌, ◌-◌, List, [], ◌∷◌, ◌++◌, length, inl, Ok, Err, false, arith}
 use Rattle.pw_grammar.specs.declared.sort.Sort.{Sort}
 use Rattle.pw_grammar.specs.declared.sort.Sort.TheVariants as s
@@ -71,7 +71,7 @@ lawful_finish n first line kind = record {
   can = λ at. record { rest = []; value = _; reads = λ x o. record { is = refl; empty = refl }; starts = λ e x o. o };
 }
 
--- ---- parts, each with what comes behind it
+-- ---- parts, each with what comes after it
 
 -- the place, and what is read there
 abbrev pub Here : {B : Type 0} → (ℕ → Language B) → Language B
@@ -106,7 +106,7 @@ keeps_from c n M f g l = record {
   steady = λ k i j h same. subst (λ at. Same k (f i.at i) (f at j)) same.at ((l i.at).steady k i j h same);
 }
 
--- a token of a kind, and what comes behind it
+-- a token of a kind, and what comes after it
 pub record Then {B : Type 0} (c : Sort → Type 0) (M : ℕ → Language B) (at : ℕ) (b : B) (u : List Token) (x : Sort) : Type 0 where
   pub token : Token
   pub behind : List Token
@@ -130,13 +130,13 @@ pub lawful_then : {B : Type 0} (n : ℕ) (z : Sort) (M : ℕ → Language B) (f 
 lawful_then n z M f g t l = within (line_then (λ y. y ≡ z) M)
     (bind n (One z) M (expect z) (expect z) f g (a_line_is_lax (λ y. y ≡ z)) (lawful_expect n z t) l)
 
--- a token that was seen to be of a kind; behind it, one token fewer is left
+-- a token that was seen to be of a kind; after it, one token fewer is left
 pub keeps_then : {B : Type 0} (c : Sort → Type 0) (n : ℕ) (M : ℕ → Language B) (f g : ℕ → Parser B) → (c s.End → ⊥)
     → ((line : ℕ) → Lawful n (M line) (f line) (g line)) → Keeps c (suc n) (Then c M) (skip >>= f) (skip >>= g)
 keeps_then c n M f g ends l = keeps_within c (suc n) _ _ _ _ (line_then c M)
     (keeps_bind_from c (suc n) n (ALine c) M skip skip f g (a_line_is_lax c) (keeps_skip c ends (suc n)) l (skip_shrinks n))
 
--- an expression of a level, and what comes behind it
+-- an expression of a level, and what comes after it
 pub record WithExpression {B : Type 0} (n : ℕ) (M : Expr → Language B) (at : ℕ) (b : B) (u : List Token) (x : Sort) : Type 0 where
   pub phrase : ExpressionDerivation
   pub behind : List Token

@@ -1,4 +1,4 @@
--- Readers of phrases, each with what comes behind it; the line of a phrase's first token; loops, which take a token a turn.
+-- Readers of phrases, each with what comes after it; the line of a phrase's first token; loops, which take a token a turn.
 use Rattle.std.proofs.Common.{◌≡◌, refl, sym, ◌∙◌, ap, subst, ℕ, zero, suc, ◌+◌, ◌-◌, ◌<◌, ◌≤◌, List, [], ◌∷◌, ◌++◌, length, ◌⊎◌, inl, inr, Ok, Err, Bool, true, false, if◌then◌else◌, arith}
 use Rattle.std.proofs.lemmas.List.{append-nil, length-append}
 use Rattle.std.specs.Bool.{⊤}
@@ -28,7 +28,7 @@ APhrase Is spell tree = λ at a u x. Phrased Is spell tree at a u
 pub a_phrase_is_lax : {P A : Type 0} (Is : P → Type 0) (spell : P → List Token) (tree : ℕ → P → A) → Lax (APhrase Is spell tree)
 a_phrase_is_lax Is spell tree = λ at a u x y r o. r
 
--- a phrase, and what comes behind it
+-- a phrase, and what comes after it
 pub record WithPhrase {P A B : Type 0} (Is : P → Type 0) (spell : P → List Token) (tree : ℕ → P → A) (M : A → Language B) (at : ℕ) (b : B) (u : List Token) (x : Sort) : Type 0 where
   pub phrase : P
   pub behind : List Token
@@ -53,7 +53,7 @@ pub lawful_with_phrase : {P A B : Type 0} (n : ℕ) (Is : P → Type 0) (spell :
 lawful_with_phrase n Is spell tree M p q f g l k =
     within (phrase_then Is spell tree M) (bind n (APhrase Is spell tree) M p q f g (a_phrase_is_lax Is spell tree) l k)
 
--- a name, and what comes behind it
+-- a name, and what comes after it
 pub record WithName {B : Type 0} (M : List ℕ → Language B) (at : ℕ) (b : B) (u : List Token) (x : Sort) : Type 0 where
   pub token : Token
   pub behind : List Token

@@ -14,7 +14,7 @@ use Rattle.pw_tree.specs.declared.operator.Bin.{Bin}
 pub record Stands (at count : ℕ) (a : tree.Expression) : Type 0 where
   pub from : at ≤ (span_of a).first
   pub some : (span_of a).first ≤ (span_of a).last
-  -- as many tokens stand behind it as before it
+  -- as many tokens stand after it as before it
   pub to : suc ((span_of a).last + ((span_of a).first - at)) ≡ at + count
   pub placed : (low high : ℕ) → low ≤ at → at + count ≤ suc high → IsPlaced low high a
 
@@ -116,7 +116,7 @@ stand_both at m n count a xs e s r = record {
   placed = λ low high l h. (s.placed low high l (omega (arith, e)), r.placed (token_after a) high (omega (arith, s.to)) (omega (arith, e)));
 }
 
--- what stands behind a token
+-- what stands after a token
 stand_behind : (at m count : ℕ) (xs : tree.Expressions) → count ≡ suc m → AllStand (suc at) m xs → AllStand at count xs
 stand_behind at m count xs e s = record { placed = λ low high l h. s.placed low high (omega arith) (omega (arith, e)) }
 

@@ -19,7 +19,7 @@ pub record StatementStands (in_head : Bool) (at count : ℕ) (y : tree.Statement
 pub record StatementsStand (at count : ℕ) (ys : tree.Statements) : Type 0 where
   pub placed : (low high : ℕ) → low ≤ at → at + count ≤ suc high → AreStatementsPlaced low high ys
 
--- what may be left out, and what stands behind it
+-- what may be left out, and what stands after it
 pub record OptionStands (at count : ℕ) (a : Option expression.Expression) : Type 0 where
   pub placed : (low high : ℕ) → low ≤ at → at + count ≤ suc high → IsOptionPlaced low high a
   pub after : (low : ℕ) → low ≤ at → token_after_option low a ≤ at + count
@@ -53,7 +53,7 @@ pub by_form : {in_head : Bool} {at count : ℕ} {x y : tree.Statement} → x ≡
     StatementStands in_head at count x
 by_form {in_head} {at} {count} e s = subst (λ y. StatementStands in_head at count y) (sym e) s
 
--- what may be left out behind a token
+-- what may be left out after a token
 pub maybe_behind : {in_head : Bool} (at m : ℕ) (y : tree.Statement) → StatementStands in_head (suc at) m y →
     MaybeStands in_head at (suc m) (tree.present y)
 unfolding IsMaybePlaced
@@ -92,7 +92,7 @@ unfolding IsStatementPlaced
 stands_set in_head at m ts x a e full s = stands_by in_head at ts _ refl full
     (λ low high w. (w, s.placed (at + 1) (set_end in_head (statement_place at ts)) (omega arith) (omega (arith, e))))
 
--- the `]` of `x [ i ]` is the token behind what is written between the brackets
+-- the `]` of `x [ i ]` is the token after what is written between the brackets
 index_end_is : (at m : ℕ) (ts : List Token) (i : expression.Expression) → Stands (suc (suc at)) m i
     → index_end (statement_place at ts) i ≡ suc (suc at) + m
 index_end_is at m ts i s =
@@ -169,7 +169,8 @@ stands_do in_head at m n ts y c e s r = stands_by in_head at ts _ refl (omega ar
       r.placed (token_after_statement y) (at + length ts - 1) (omega (arith, s.last)) (omega arith),
     ))
 
-pub stands_for : (in_head : Bool) (at m n k l : ℕ) (ts : List Token) (first : tree.OptionalStatement) (c : Option expression.Expression) (last : tree.OptionalStatement) (y : tree.Statement)
+pub stands_for : (in_head : Bool) (at m n k l : ℕ) (ts : List Token) (first : tree.OptionalStatement)
+    (c : Option expression.Expression) (last : tree.OptionalStatement) (y : tree.Statement)
     → suc (suc (m + (n + suc (k + suc l)))) ≤ length ts → MaybeStands true (suc (suc at)) m first → OptionStands (suc (suc at) + m) n c
     → MaybeStands true (suc (suc (suc at) + m + n)) k last → StatementStands false (suc (suc (suc (suc at) + m + n) + k)) l y
     → StatementStands in_head at (length ts) (tree.for_loop (statement_place at ts) first c last y)

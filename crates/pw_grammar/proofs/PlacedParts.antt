@@ -54,7 +54,7 @@ more_elements_stand at low high (phrase.more t x xs) l h =
       more_elements_stand (suc at + length (spelled_element x)) _ high xs (omega arith) (omega arith),
     )
 
--- the variable's part begins at `at`, behind the name
+-- the variable's part begins at `at`, after the name
 pub variable_stands : (at low high : ℕ) (v : VariableDerivation) → low ≤ at + extent v → at + length (spelled_variable v) ≤ high
     → IsInitialiserPlaced low high (elements_of at v)
 unfolding AreElementsPlaced

@@ -19,7 +19,7 @@ use Rattle.pw_tree.specs.Placed.{local_name_at, set_end, IsStatementPlaced}
 
 -- ---- locals, assignments, and the parts of a `for`
 
--- the name of a local stands behind its type
+-- the name of a local stands after its type
 one_word : (x : Sort) (at : Span) → local_name_at at (type_or (type_of_keyword x)) ≡ at.first + 1
 one_word s.Long at = refl
 one_word _ at = refl

@@ -81,7 +81,7 @@ not_whole k n at us short is w =
     (subst (λ z. unit n (from_start z) ≡ Ok (trees_of_declarations 0 w.phrase, record { at = length (spelled_unit w.phrase); rest = [] })) w.spells
     (k.reads n w.phrase w.is (subst (λ z. length z < n) (sym w.spells) short))) is
 
--- ---- what an outcome tells of the list
+-- ---- what an outcome says of the list
 
 pub record IsRead (us : List Token) (ds : List Decl) : Type 0 where
   pub phrase : UnitDerivation

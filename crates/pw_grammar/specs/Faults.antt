@@ -102,7 +102,7 @@ IsFault tokens NoMemory = ⊥
 abbrev pub IsFaultless : List Token → Type 0
 IsFaultless tokens = (fault : SyntaxError) → IsFault tokens fault → ⊥
 
--- the number of the faulty token; 0 where memory was refused
+-- the number of the faulty token; 0 where memory ran out
 abbrev pub token_of : SyntaxError → ℕ
 token_of (At t) = t
 token_of (TooNested t) = t
@@ -116,6 +116,7 @@ rank (TooNested t) = 1
 rank (TooLong t) = 2
 rank NoMemory = 3
 
+-- one fault is at an earlier token than another, or at the same one and not after it in the order
 abbrev pub ComesBefore : SyntaxError → SyntaxError → Type 0
 ComesBefore a b = (token_of a < token_of b) ⊎ ((token_of a ≡ token_of b) × (rank a ≤ rank b))
 

@@ -1,3 +1,4 @@
+-- Reading from left to right: the answer for a whole list, and the rules that it is made of.
 pub mod Whole
 pub mod Steps
 pub mod Expressions

@@ -271,14 +271,16 @@ abbrev pub jump_of : Sort → StmtKind
 jump_of s.Break = k.Break
 jump_of _ = k.Continue
 
--- the numbers of the tokens after `( e )`, after the head of a `for`, and after a part and a word
+-- the number of the token after `( e )`
 abbrev pub after_test : ℕ → ExpressionDerivation → ℕ
 after_test at a = suc (suc (suc at) + length (spelled a))
 
+-- the number of the token after the head of a `for`
 abbrev pub after_head : ℕ → ForStartDerivation → Option ExpressionDerivation → Option SimpleDerivation → ℕ
 after_head at start a step =
     suc (suc (suc (suc at) + length (spelled_start start) + length (spelled_maybe a)) + length (spelled_step step))
 
+-- the number of the token after a statement and the word after it
 abbrev pub after_part : ℕ → StatementDerivation → ℕ
 after_part at y = suc (at + length (spelled_statement y))
 

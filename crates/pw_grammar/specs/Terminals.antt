@@ -80,17 +80,19 @@ punctuator_words =
     (codes ":", s.Colon) ∷
     []
 
--- the texts of a list, and its symbols
+-- the texts of a list
 abbrev pub word_texts : Words → List Text
 word_texts words = map (λ word. word.0) words
 
+-- the symbols of a list
 abbrev pub symbols : Words → List Sort
 symbols words = map (λ word. word.1) words
 
--- the symbols of the keywords, and of the punctuators, by number
+-- the symbols of the keywords, by number
 abbrev pub keyword_symbols : List Sort
 keyword_symbols = symbols keyword_words
 
+-- the symbols of the punctuators, by number
 abbrev pub punctuator_symbols : List Sort
 punctuator_symbols = symbols punctuator_words
 
@@ -119,7 +121,7 @@ first_sort (token ∷ tokens) = sort token
 unfoldable pub is_same : Sort → Sort → Bool
 is_same = sameb the_type
 
--- the operator that a symbol is in front of its operand (C17, 6.5.3.3)
+-- the operator that a symbol is before its operand (C17, 6.5.3.3)
 abbrev pub prefix_of : Sort → Option Un
 prefix_of s.Minus = Some un.Neg
 prefix_of s.Plus = Some un.Plus

@@ -24,7 +24,7 @@ pub enum SyntaxError {
 }
 
 impl SyntaxError {
-    /// The faulty token's number, from 0; 0 for want of memory.
+    /// The faulty token's number, from 0; 0 for `NoMemory`.
     pub fn token(&self) -> u32
         ensures { result ≡ token_of self.now }
     {

@@ -12,7 +12,7 @@ use Rattle.pw_hart.specs.declared.ends.End.TheVariants.{Exit, Checked, Spent, Tr
 use Rattle.pw_hart.specs.State.{MachineState, Next, Goes, Ends}
 use Rattle.pw_hart.specs.Run.{RunResult, fetching, then, run}
 use Rattle.pw_hart.specs.Harts.{state_of}
-use Rattle.pw_hart.specs.Runs.{ExecutionState, IsLeft, RunsTo, Runs}
+use Rattle.pw_hart.specs.Runs.{ExecutionState, RunsTo, Runs}
 use Rattle.pw_hart.specs.Steps.Advances.{CanBeLeft, MachineStep, Advances}
 
 -- ---- numbers of instructions
@@ -102,7 +102,8 @@ module _ (old : ExecutionState) (used_up : Bool) (mid : ExecutionState) (used_up
       (sym (s.uses.does rest output can))
       (ended_after old used_up mid used_up' (Ends end) s rest output _ mid end (ended_here end rest (output ++ s.uses.put)))
     where
-      ended_here : (end : End) (input output : List ℕ) → Ended mid input output (record { end = end; state = state_of mid.hart mid.memory.mem input output; fetched = [] }) mid end
+      ended_here : (end : End) (input output : List ℕ) →
+          Ended mid input output (record { end = end; state = state_of mid.hart mid.memory.mem input output; fetched = [] }) mid end
       ended_here end input output = record {
         taken = [];
         put = [];
@@ -123,14 +124,14 @@ pub record Follows (k : ℕ) (first now : ExecutionState) (used_up : Bool) : Typ
   pub put : List ℕ
   pub left : List ℕ
   pub can : CanBeLeft now.input used_up left
-  pub offered : (rest : List ℕ) → CanBeLeft now.input used_up rest → IsLeft (taken ++ rest) first.input
+  pub offered : (rest : List ℕ) → CanBeLeft now.input used_up rest → CanBeLeft first.input false (taken ++ rest)
   pub on : (n : ℕ) (rest : List ℕ) (new : ExecutionState) (end : End) → CanBeLeft now.input used_up rest →
       RunsFrom n rest put now new end → RunsFrom (k + n) (taken ++ rest) [] first new end
 
 -- what is left at first: what the input reports, or nothing
 left_at : (left : Option (List ℕ)) (faults : ℕ) → (bytes : List ℕ) × CanBeLeft (record { left = left; faults = faults }) false bytes
-left_at None faults = ([], record { is_left = tt; none = λ e. absurd (cc e) })
-left_at (Some bytes) faults = (bytes, record { is_left = refl; none = λ e. absurd (cc e) })
+left_at None faults = ([], record { is_left = tt; none = λ e. absurd (cc e); bytes = λ are. tt })
+left_at (Some bytes) faults = (bytes, record { is_left = refl; none = λ e. absurd (cc e); bytes = λ are. are })
 
 pub follows_none : (first : ExecutionState) → Follows 0 first first false
 follows_none first =
@@ -140,7 +141,7 @@ follows_none first =
       put = [];
       left = start.0;
       can = start.1;
-      offered = λ rest can. can.is_left;
+      offered = λ rest can. can;
       on = λ n rest new end can runs. subst (λ k. RunsFrom k rest [] first new end) (none_more n) runs;
     }
 
@@ -154,7 +155,7 @@ follows_more k first now next used_up used_up' f s =
       left = over.0;
       can = over.1;
       offered = λ rest can.
-          subst (λ l. IsLeft l first.input) (sym (append_assoc f.taken s.uses.taken rest))
+          subst (CanBeLeft first.input false) (sym (append_assoc f.taken s.uses.taken rest))
           (f.offered (s.uses.taken ++ rest) (s.uses.offered rest can));
       on = λ n rest new end can runs.
           subst (λ l. RunsFrom ((k + 1) + n) l [] first new end) (sym (append_assoc f.taken s.uses.taken rest))
@@ -166,11 +167,12 @@ follows_more k first now next used_up used_up' f s =
 -- ---- what a call answers
 
 -- a run from the first moment, with its input
-runs_to : (n : ℕ) (input : List ℕ) (first new : ExecutionState) (end : End) → IsLeft input first.input →
+runs_to : (n : ℕ) (input : List ℕ) (first new : ExecutionState) (end : End) → CanBeLeft first.input false input →
     RunsFrom n input [] first new end → RunsTo n first new end
-runs_to n input first new end is_left e = record {
+runs_to n input first new end can e = record {
   input = input;
-  is_left = is_left;
+  is_left = can.is_left;
+  bytes = can.bytes;
   ends = e.ends;
   leaves = record {
     taken = e.taken;

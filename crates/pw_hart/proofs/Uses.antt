@@ -1,5 +1,8 @@
 -- What instructions use of the input and the output: nothing, what another uses that does the same, a byte or the end of the input, a byte put.
-use Rattle.std.proofs.Common.{◌≡◌, ℕ, Bool, true, false, List, [], ◌∷◌, ◌++◌, Option, Some, None, drop, append-nil, refl, sym, ap, ◌∙◌}
+use Rattle.std.proofs.Common.{◌≡◌, ℕ, ◌<◌, Bool, true, false, List, [], ◌∷◌, ◌++◌, Option, Some, None, drop, append-nil, refl, sym, ap, ◌∙◌, subst}
+use Rattle.std.specs.Prelude.{option_map, IfSome}
+use Rattle.pw_base.specs.Bytes.{AreBytes}
+use Rattle.pw_base.proofs.Bytes.{AreBytes-drop}
 use Rattle.pw_mem.specs.Memory.{Mem}
 use Rattle.pw_io.specs.Source.{SourceState, after, Offers, IsUsedUp}
 use Rattle.pw_io.specs.Sink.{SinkState, wrote}
@@ -29,7 +32,8 @@ uses_nothing f p hart mem hart' mem' next does = record {
 }
 
 -- an instruction uses what one uses that does the same
-pub Uses-same : (f g : MachineState → Next) (p : Ports) (hart : Hart) (mem : Mem) (q : Ports) (hart' : Hart) (mem' : Mem) (next : MachineState → Next) →
+pub Uses-same : (f g : MachineState → Next) (p : Ports) (hart : Hart) (mem : Mem) (q : Ports) (hart' : Hart) (mem' : Mem)
+    (next : MachineState → Next) →
     ((input output : List ℕ) → f (state_of hart mem input output) ≡ g (state_of hart mem input output)) →
     Uses g p hart mem q hart' mem' next → Uses f p hart mem q hart' mem' next
 Uses-same f g p hart mem q hart' mem' next same uses = record {
@@ -43,7 +47,8 @@ Uses-same f g p hart mem q hart' mem' next same uses = record {
 }
 
 -- with no input left, the call of input gives all ones
-takes_none : (hart hart' : Hart) → ((mem : Mem) (input output : List ℕ) → writes 10 all_ones (state_of hart mem input output) ≡ Goes (state_of hart' mem input output)) →
+takes_none : (hart hart' : Hart) →
+    ((mem : Mem) (input output : List ℕ) → writes 10 all_ones (state_of hart mem input output) ≡ Goes (state_of hart' mem input output)) →
     (mem : Mem) (rest output : List ℕ) → rest ≡ [] →
     takes_input rest (state_of hart mem rest output) ≡ Goes (state_of hart' mem rest (output ++ []))
 takes_none hart hart' writes mem [] output none =
@@ -51,7 +56,8 @@ takes_none hart hart' writes mem [] output none =
 takes_none hart hart' writes mem (byte ∷ rest) output none = absurd (cc none)
 
 -- an input that came to its end before stays there
-pub uses_end : (input : SourceState) (hart hart' : Hart) → ((mem : Mem) (input output : List ℕ) → writes 10 all_ones (state_of hart mem input output) ≡ Goes (state_of hart' mem input output)) →
+pub uses_end : (input : SourceState) (hart hart' : Hart) →
+    ((mem : Mem) (input output : List ℕ) → writes 10 all_ones (state_of hart mem input output) ≡ Goes (state_of hart' mem input output)) →
     (mem : Mem) (out : SinkState) → Uses (λ s. takes_input s.input s) (record { input = input; used_up = true; out = out }) hart mem
     (record { input = input; used_up = true; out = out }) hart' mem Goes
 uses_end input hart hart' writes mem out = record {
@@ -65,7 +71,8 @@ uses_end input hart hart' writes mem out = record {
 }
 
 -- an input comes to its end
-pub uses_up : (input : SourceState) (hart hart' : Hart) → IsUsedUp input → ((mem : Mem) (input output : List ℕ) → writes 10 all_ones (state_of hart mem input output) ≡ Goes (state_of hart' mem input output)) →
+pub uses_up : (input : SourceState) (hart hart' : Hart) → IsUsedUp input →
+    ((mem : Mem) (input output : List ℕ) → writes 10 all_ones (state_of hart mem input output) ≡ Goes (state_of hart' mem input output)) →
     (mem : Mem) (out : SinkState) → Uses (λ s. takes_input s.input s) (record { input = input; used_up = false; out = out }) hart mem
     (record { input = input; used_up = true; out = out }) hart' mem Goes
 uses_up input hart hart' ended writes mem out = record {
@@ -73,8 +80,8 @@ uses_up input hart hart' ended writes mem out = record {
   put = [];
   input = sym (after_nothing input);
   out = sym (wrote_nothing out);
-  offered = λ rest can. record { is_left = can.is_left; none = λ e. can.none refl };
-  leaves = λ left can. ([], record { is_left = ended; none = λ e. refl });
+  offered = λ rest can. record { is_left = can.is_left; none = λ e. can.none refl; bytes = can.bytes };
+  leaves = λ left can. ([], record { is_left = ended; none = λ e. refl; bytes = λ are. tt });
   does = λ rest output can. takes_none hart hart' writes mem rest output (can.none refl);
 }
 
@@ -92,11 +99,22 @@ is_left_behind : (byte : ℕ) (left : Option (List ℕ)) (faults : ℕ) (bytes :
 is_left_behind byte None faults bytes is_left = tt
 is_left_behind byte (Some list) faults bytes is_left = ap (drop 1) is_left
 
-pub uses_byte : (input : SourceState) (byte : ℕ) (hart hart' : Hart) → Offers (byte ∷ []) input →
+-- numbers left are bytes, with the taken byte in front and again without it
+are_bytes_before : (byte : ℕ) (left : Option (List ℕ)) (rest : List ℕ) → byte < 256 →
+    (IfSome (option_map (drop 1) left) AreBytes → AreBytes rest) → IfSome left AreBytes → AreBytes (byte ∷ rest)
+are_bytes_before byte None rest small behind are = (small, behind tt)
+are_bytes_before byte (Some bytes) rest small behind are = (small, behind (AreBytes-drop 1 bytes are))
+
+are_bytes_behind : (left : Option (List ℕ)) (faults : ℕ) (bytes : List ℕ) → IsLeft bytes (record { left = left; faults = faults }) →
+    (IfSome left AreBytes → AreBytes bytes) → IfSome (option_map (drop 1) left) AreBytes → AreBytes (drop 1 bytes)
+are_bytes_behind None faults bytes is_left all are = AreBytes-drop 1 bytes (all tt)
+are_bytes_behind (Some list) faults bytes is_left all are = subst (λ l. AreBytes (drop 1 l)) is_left are
+
+pub uses_byte : (input : SourceState) (byte : ℕ) (hart hart' : Hart) → byte < 256 → Offers (byte ∷ []) input →
     ((mem : Mem) (input output : List ℕ) → writes 10 byte (state_of hart mem input output) ≡ Goes (state_of hart' mem input output)) →
     (mem : Mem) (out : SinkState) → Uses (λ s. takes_input s.input s) (record { input = input; used_up = false; out = out }) hart mem
     (record { input = after (byte ∷ []) input; used_up = false; out = out }) hart' mem Goes
-uses_byte input byte hart hart' offers writes mem out = record {
+uses_byte input byte hart hart' small offers writes mem out = record {
   taken = byte ∷ [];
   put = [];
   input = refl;
@@ -104,8 +122,16 @@ uses_byte input byte hart hart' offers writes mem out = record {
   offered = λ rest can. record {
     is_left = is_left_before byte input.left input.faults rest offers can.is_left;
     none = λ e. absurd (cc e);
+    bytes = are_bytes_before byte input.left rest small can.bytes;
   };
-  leaves = λ left can. (drop 1 left, record { is_left = is_left_behind byte input.left input.faults left can.is_left; none = λ e. absurd (cc e) });
+  leaves = λ left can. (
+    drop 1 left,
+    record {
+      is_left = is_left_behind byte input.left input.faults left can.is_left;
+      none = λ e. absurd (cc e);
+      bytes = are_bytes_behind input.left input.faults left can.is_left can.bytes;
+    },
+  );
   does = λ rest output can. writes mem rest output ∙ ap (λ o. Goes (state_of hart' mem rest o)) (sym (append-nil output));
 }
 

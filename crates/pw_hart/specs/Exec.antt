@@ -4,7 +4,7 @@ use Rattle.std.specs.Int.{w8, w16, w32}
 use Rattle.pw_isa.specs.declared.instruction.Inst.{Inst}
 use Rattle.pw_isa.specs.declared.instruction.Inst.TheVariants.{Lui, Auipc, Jal, Jalr, Beq, Bne, Blt, Bge, Bltu, Bgeu, Lb, Lh, Lw, Ld, Lbu, Lhu, Lwu, Sb, Sh, Sw, Sd, Addi, Slti, Sltiu, Xori, Ori, Andi, Slli, Srli, Srai, Add, Sub, Sll, Slt, Sltu, Xor, Srl, Sra, Or, And, Mul, Mulh, Mulhsu, Mulhu, Div, Divu, Rem, Remu, Addiw, Slliw, Srliw, Sraiw, Addw, Subw, Sllw, Srlw, Sraw, Mulw, Divw, Divuw, Remw, Remuw, Fence, Ecall, Ebreak}
 use Rattle.pw_isa.specs.Registers.{ra, a0, a1, a7}
-use Rattle.pw_isa.specs.EnvironmentCalls.{exit_call, input_call, output_call, fault_call}
+use Rattle.pw_isa.specs.EnvironmentCalls.{exit_call, input_call, output_call, fault_call, index_fault, depth_fault}
 use Rattle.pw_mem.specs.Memory.{Mem, load, store}
 use Rattle.pw_mem.specs.declared.errors.Access.{Access}
 use Rattle.pw_mem.specs.declared.errors.Access.TheVariants.{Misaligned, Unmapped, Denied}
@@ -110,7 +110,7 @@ puts_output s = goes_on s.x (record s { output = s.output ++ zero_extend w8 (get
 
 -- whether a number names a kind of checked fault
 abbrev pub is_fault_kind : ℕ → Bool
-is_fault_kind kind = nat_le 1 kind && nat_le kind 4
+is_fault_kind kind = nat_le index_fault kind && nat_le kind depth_fault
 
 -- an exit with a0, a byte of input, a byte of output, or a checked fault of the kind a0 in the line a1; other numbers trap
 abbrev pub calls_environment : ℕ → MachineState → Next

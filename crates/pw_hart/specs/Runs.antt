@@ -1,5 +1,6 @@
 -- What a call of the processor answers and leaves: the machine's run, with the memory, the input and the output that it was given.
 use Rattle.std.specs.Prelude.{◌≡◌, ℕ, ◌<◌, List, [], ◌∷◌, ◌++◌, Some, Ok, IfSome}
+use Rattle.pw_base.specs.Bytes.{AreBytes}
 use Rattle.pw_isa.specs.Encoding.{decoded}
 use Rattle.pw_isa.specs.declared.instruction.Inst.TheVariants.{Ecall}
 use Rattle.pw_isa.specs.Registers.{a7}
@@ -45,6 +46,8 @@ pub record HasResult (old : ExecutionState) (input : List ℕ) (o : RunResult) (
 pub record RunsTo (n : ℕ) (old new : ExecutionState) (end : End) : Type 0 where
   pub input : List ℕ
   pub is_left : IsLeft input old.input
+  -- its bytes are bytes, where those that are reported are
+  pub bytes : IfSome old.input.left AreBytes → AreBytes input
   pub ends : (run n (state_at old input)).end ≡ end
   pub leaves : HasResult old input (run n (state_at old input)) new
 

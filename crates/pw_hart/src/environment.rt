@@ -11,7 +11,7 @@ ghost use Rattle.pw_hart.specs.Steps.Advances.{IsMachines, TakesInput, PutsOutpu
 use crate::ends::End;
 use crate::hart::Hart;
 use pw_io::{Failed, Next, Sink, Source};
-use pw_isa::environment_calls::{EXIT, FAULT, INPUT, OUTPUT};
+use pw_isa::environment_calls::{DEPTH_FAULT, EXIT, FAULT, INDEX_FAULT, INPUT, OUTPUT};
 use pw_isa::registers::{A0, A1, A7, ZERO};
 
 impl Hart {
@@ -64,7 +64,7 @@ impl Hart {
         if number == EXIT {
             return End::Exit(value);
         }
-        if number == FAULT && value >= 1 && value <= 4 {
+        if number == FAULT && value >= u64::from(INDEX_FAULT) && value <= u64::from(DEPTH_FAULT) {
             return End::Checked {
                 kind: value as u8,
                 line: self.get(A1),

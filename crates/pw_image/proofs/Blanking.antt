@@ -24,7 +24,7 @@ use Rattle.pw_image.specs.Blanked.{keeps_all, without_function, blanked}
 use Rattle.pw_image.specs.Laws.{BlankedTextIsImage}
 use Rattle.pw_image.proofs.Functions.{bytes_of_function, functions_stand}
 use Rattle.pw_image.proofs.Words.{length_of_words}
-use Rattle.pw_image.proofs.Text.{text_is_image}
+use Rattle.pw_image.proofs.TextImage.{text_is_image}
 
 -- ---- zeros in the middle
 
@@ -39,11 +39,11 @@ blank_middle front words rest r from long =
     λ p. take_at front (words ++ rest) (r.start / 4) (sym at) p ++ (zeros (many p) ++ behind p)
 
 module _ (name : List ℕ) (unit : TypedUnit) (keep : Keep) where
-  abbrev start : ℕ → ℕ
+  abbrev pub start : ℕ → ℕ
   start i = function_start Program (objects_of name unit) 0 i
 
   -- A function starts after the entry and the functions before it.
-  start_behind : (before fs : List Function) → unit.functions ≡ before ++ fs → start (length before) ≡ 4 * (6 + sum_by function_words before)
+  pub start_behind : (before fs : List Function) → unit.functions ≡ before ++ fs → start (length before) ≡ 4 * (6 + sum_by function_words before)
   unfolding size
   start_behind before fs split =
       let first : take (length before) unit.functions ≡ before = ap (take (length before)) split ∙ take_at before fs (length before) refl in
@@ -51,13 +51,13 @@ module _ (name : List ℕ) (unit : TypedUnit) (keep : Keep) where
       functions_stand name unit (length before) ∙ ap (λ l. text_of 0 + 4 * (6 + 0 + sum_by function_words l)) first in
       omega arith
 
-  abbrev record_at : ℕ → Function → FunRec
+  abbrev pub record_at : ℕ → Function → FunRec
   record_at i f = function_record Program (objects_of name unit) 0 (i, function_object unit.variables f)
 
-  abbrev words_in : ℕ → Function → List ℕ
+  abbrev pub words_in : ℕ → Function → List ℕ
   words_in i f = words_at (target_address (project_of unit) 0 0) (function_address (project_of unit) (own_definition i)) (function_code f)
 
-  length_in : (i : ℕ) (f : Function) → length (words_in i f) ≡ function_words f
+  pub length_in : (i : ℕ) (f : Function) → length (words_in i f) ≡ function_words f
   length_in i f =
       length_of_words (target_address (project_of unit) 0 0) (function_address (project_of unit) (own_definition i)) (function_code f) ∙ size-function f
 

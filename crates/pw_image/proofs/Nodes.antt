@@ -19,7 +19,7 @@ number_of (defined d) = d.number
 same_number : (a b : ℕ) → defined (own_definition a) ≡ defined (own_definition b) → a ≡ b
 same_number a b h = ap number_of h
 
-one_number : (a b : ℕ) → node_of a ≡ node_of b → a ≡ b
+pub one_number : (a b : ℕ) → node_of a ≡ node_of b → a ≡ b
 one_number zero zero h = refl
 one_number zero (suc b) h = cc
 one_number (suc a) zero h = cc

@@ -39,7 +39,7 @@ same_place ns a b n there same =
     bytes_eq_is a n.name (found_passes (λ (m : Ext). bytes_eq a m.name) ns n there)
     ∙ sym (bytes_eq_is b n.name (found_passes (λ (m : Ext). bytes_eq b m.name) ns n other))
 
-differ : (a b : ℕ) → (a ≡ b → ⊥) → nat_eq a b ≡ false
+pub differ : (a b : ℕ) → (a ≡ b → ⊥) → nat_eq a b ≡ false
 differ a b h = by_test (nat_eq a b) refl
   where
     by_test : (t : Bool) → nat_eq a b ≡ t → nat_eq a b ≡ false
@@ -89,7 +89,7 @@ module _ (name : List ℕ) (unit : TypedUnit) where
 
   -- ---- external names
 
-  named_there : (f : Function) → FunctionIsNamed unit.names f → f.global ≡ true → (o : Option Ext) → find (λ (m : Ext). bytes_eq f.name m.name) unit.names ≡ o →
+  pub named_there : (f : Function) → FunctionIsNamed unit.names f → f.global ≡ true → (o : Option Ext) → find (λ (m : Ext). bytes_eq f.name m.name) unit.names ≡ o →
       (n : Ext) × (find (λ (m : Ext). bytes_eq f.name m.name) unit.names ≡ Some n)
   named_there f h e (Some n) is = (n, is)
   named_there f h e None is =

@@ -149,7 +149,7 @@ without_values : (x : TVar) (o : Option (List Init)) (r : Ref) → is_none o ≡
 without_values x None r e h = h
 without_values x (Some values) r e h = cc
 
-place_in_unit : (unit : TypedUnit) (x : TVar) (m u i : ℕ) → variable_at (project_of unit) (record { in_module = m; in_unit = u; number = i }) ≡ Some x →
+pub place_in_unit : (unit : TypedUnit) (x : TVar) (m u i : ℕ) → variable_at (project_of unit) (record { in_module = m; in_unit = u; number = i }) ≡ Some x →
     (m ≡ 0) × (u ≡ 0) × (slice_get unit.variables i ≡ Some x)
 place_in_unit unit x zero zero i h = (refl, refl, h)
 place_in_unit unit x zero (suc u) i h = cc

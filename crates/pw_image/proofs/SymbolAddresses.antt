@@ -59,7 +59,7 @@ names_in_order_differ xs h =
     subst (IsDistinct bytes_eq) (sym whole) (distinct_parted (λ (x : TVar). x.name) is_initialised is_uninitialised other_test xs h)
 
 module _ (name : List ℕ) (unit : TypedUnit) (wanted : List ℕ) where
-  abbrev entity_value : Entity → ℕ
+  abbrev pub entity_value : Entity → ℕ
   entity_value e = entity_address (project_of unit) (Some e)
 
   abbrev has_name : Symbol → Bool
@@ -83,7 +83,7 @@ module _ (name : List ℕ) (unit : TypedUnit) (wanted : List ℕ) where
   by_tests true false s e more rest h k = k
   by_tests false b s e more rest h k = k
 
-  among_functions : (i : ℕ) (fs : List Function) →
+  pub among_functions : (i : ℕ) (fs : List Function) →
       option_map kind_address (find has_name (map (function_symbol Program (objects_of name unit) 0) (enumerate_from i (map (function_object unit.variables) fs))))
       ≡ option_map entity_value (first_found seek_function i fs)
   among_functions i [] = refl
@@ -184,7 +184,7 @@ module _ (name : List ℕ) (unit : TypedUnit) (wanted : List ℕ) where
       (each_map (λ x. variable_has x ≡ false) filled (filter is_initialised xs) (each_filter (λ x. variable_has x ≡ false) is_initialised xs h))
       (each_filter (λ x. variable_has x ≡ false) is_uninitialised xs h)
 
-  among_variables : IsDistinct bytes_eq (map (λ (x : TVar). x.name) unit.variables) →
+  pub among_variables : IsDistinct bytes_eq (map (λ (x : TVar). x.name) unit.variables) →
       option_map kind_address (find has_name (symbols_from 0 (variables_in_order unit.variables)))
       ≡ option_map entity_value (first_found seek_variable 0 unit.variables)
   among_variables d = by (first_of 0 unit.variables)
@@ -269,7 +269,7 @@ module _ (name : List ℕ) (unit : TypedUnit) (wanted : List ℕ) where
 
 -- ---- the symbols of external names, by number
 
-static_count : {X : Type 0} (symbol : ℕ × X → Symbol) (global : X → Bool) → ((i : ℕ) (x : X) → (symbol (i, x)).global ≡ global x) → (n : ℕ) (xs : List X) →
+pub static_count : {X : Type 0} (symbol : ℕ × X → Symbol) (global : X → Bool) → ((i : ℕ) (x : X) → (symbol (i, x)).global ≡ global x) → (n : ℕ) (xs : List X) →
     length (filter (λ (s : Symbol). not s.global) (map symbol (enumerate_from n xs))) ≡ count_by (λ x. not (global x)) xs
 static_count symbol global h n [] = refl
 static_count symbol global h n (x ∷ xs) =
@@ -321,7 +321,7 @@ module _ (name : List ℕ) (unit : TypedUnit) where
   kind_by None = refl
   kind_by (Some s) = refl
 
-  variables_differ : IsWellTyped unit → IsDistinct bytes_eq (map (λ (x : TVar). x.name) unit.variables)
+  pub variables_differ : IsWellTyped unit → IsDistinct bytes_eq (map (λ (x : TVar). x.name) unit.variables)
   variables_differ h = distinct_right (map (λ (f : Function). f.name) unit.functions) (map (λ (x : TVar). x.name) unit.variables) h.definitions_differ
 
   by_entry : IsWellTyped unit → (wanted : List ℕ) (o : Option Ext) → find (λ (n : Ext). bytes_eq wanted n.name) unit.names ≡ o →

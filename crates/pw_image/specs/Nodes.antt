@@ -12,6 +12,7 @@ use Rattle.pw_agree.specs.Kept as kept
 use Rattle.pw_place.specs.Tables.{function_records, table}
 use Rattle.pw_image.specs.OneUnit.{project_of, objects_of, own_definition}
 use Rattle.pw_image.specs.Records.{edges_of, roots_of}
+use Rattle.pw_image.specs.Graphs.{IsGraphOf}
 
 -- The function of a number: the entry, then the unit's functions in order.
 abbrev pub node_of : ℕ → Node
@@ -50,3 +51,8 @@ abbrev pub RootsAreRoots : Type 0
 RootsAreRoots = (name : List ℕ) (unit : TypedUnit) → IsWellTyped unit → (n : ℕ) →
     Contains (roots_of (function_records Program (objects_of name unit)) (table Program (objects_of name unit)).roots) n
     ↔ kept.IsRoot (project_of unit) (node_of n)
+
+-- So the graph of the table of a well-typed unit's object shows the unit's project.
+abbrev pub TablesShowProjects : Type 0
+TablesShowProjects = (name : List ℕ) (unit : TypedUnit) (g : Graph) → IsWellTyped unit →
+    IsGraphOf (table Program (objects_of name unit)) g → ShowsProject g (project_of unit)

@@ -1,5 +1,5 @@
 -- The data of the first module, with the addresses that its relocations ask for.
-use Rattle.std.specs.Prelude.{ℕ, ◌+◌, ◌-◌, List, [], ◌∷◌, ◌++◌, length, take, drop, Option, slice_get, option_and_then}
+use Rattle.std.specs.Prelude.{ℕ, ◌+◌, ◌-◌, ◌≤◌, List, [], ◌∷◌, ◌++◌, length, take, drop, Option, slice_get, option_and_then}
 use Rattle.std.specs.Option.{option_map_or}
 use Rattle.pw_base.specs.Bytes.{le_bytes}
 use Rattle.pw_base.specs.Limits.{data_offset}
@@ -35,3 +35,8 @@ unfoldable pub relocated : List (Option Symbol) → List ℕ → List Reloc → 
 relocated symbols content [] = content
 relocated symbols content (r ∷ rs) =
     relocated symbols (put_at content (r.offset - data_offset) (le_bytes 8 (relocation_value symbols r.kind))) rs
+
+-- A relocation's place lies in data of so many bytes.
+pub record LiesInData (size : ℕ) (r : Reloc) : Type 0 where
+  pub from : data_offset ≤ r.offset
+  pub to : r.offset - data_offset + 8 ≤ size

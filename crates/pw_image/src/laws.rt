@@ -1,7 +1,8 @@
 //! Where the parts of one unit's object stand, and what they hold, is what the project of that unit says. Each law is the
 //! contract of a function, which does nothing.
-ghost use Rattle.pw_image.specs.Laws.{FunctionsStand, SlotsStand, VariablesStand, TargetsStand, TextIsImage, BlankedTextIsImage, RelocatedDataAreImage, ReferencesHaveRecords, DependenciesAreNames};
-ghost use Rattle.pw_image.specs.Nodes.{KeptAlike, LevelsAlike, ParentsAlike, EdgesAreLeads, RootsAreRoots};
+ghost use Rattle.pw_image.specs.Laws.{FunctionsStand, SlotsStand, VariablesStand, TargetsStand, TextIsImage, BlankedTextIsImage, RelocatedDataAreImage, ReferencesHaveRecords, DependenciesAreNames, UnitsWithoutFaultsCanRun, UndefinedIsUnbound, RowsAreRows, RowsKeepLevels, RecordsLieInText, RelocationsLieInData, RecordsHaveSymbols, RecordsAreAll, FunctionsAreFew};
+ghost use Rattle.pw_image.specs.Rows.{RowsFindKept};
+ghost use Rattle.pw_image.specs.Nodes.{KeptAlike, LevelsAlike, ParentsAlike, EdgesAreLeads, RootsAreRoots, TablesShowProjects};
 
 /// Each function stands where the project's image has it.
 pub fn functions_stand()
@@ -71,4 +72,59 @@ pub fn edges_are_leads()
 /// The roots among the records are those of the project.
 pub fn roots_are_roots()
     ensures { RootsAreRoots }
+{}
+
+/// The graph of an object's dependency table shows the project.
+pub fn tables_show_projects()
+    ensures { TablesShowProjects }
+{}
+
+/// The rows of a unit's program find what is kept of its project.
+pub fn rows_find_kept()
+    ensures { RowsFindKept }
+{}
+
+/// The rows of the placed object keep the functions that have a level.
+pub fn rows_keep_levels()
+    ensures { RowsKeepLevels }
+{}
+
+/// A unit whose object has no fault as a program, and which uses no name without a definition, can be run.
+pub fn units_without_faults_can_run()
+    ensures { UnitsWithoutFaultsCanRun }
+{}
+
+/// The first symbol without a definition is that of the first name that the unit uses and does not define.
+pub fn undefined_is_unbound()
+    ensures { UndefinedIsUnbound }
+{}
+
+/// The rows of the placed object are those of the unit's program.
+pub fn rows_are_rows()
+    ensures { RowsAreRows }
+{}
+
+/// Every function's record lies in the text.
+pub fn records_lie_in_text()
+    ensures { RecordsLieInText }
+{}
+
+/// Every relocation lies in the data.
+pub fn relocations_lie_in_data()
+    ensures { RelocationsLieInData }
+{}
+
+/// Every record of a function has a symbol.
+pub fn records_have_symbols()
+    ensures { RecordsHaveSymbols }
+{}
+
+/// There are as many records as functions, and one for the entry.
+pub fn records_are_all()
+    ensures { RecordsAreAll }
+{}
+
+/// A program without a fault has fewer functions than numbers of 32 bits.
+pub fn functions_are_few()
+    ensures { FunctionsAreFew }
 {}

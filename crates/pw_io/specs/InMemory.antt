@@ -79,14 +79,14 @@ WriteFailsWhere why (Ok _) = ¬ why
 WriteFailsWhere why (Err no_write.Failed) = why
 WriteFailsWhere why (Err no_write.NoMemory) = Unit {0}
 
--- a call is let fail: it is added to the calls and the count rises by one, or memory was refused and nothing is done
+-- a call is let fail: it is added to the calls and the count rises by one, or memory ran out and nothing is done
 abbrev pub Fails : StoreInMemory → Asked → StoreInMemory → Result (Unit {0}) NoMemory → Type 0
 Fails old asked new (Ok _) =
     (new ≡ record { files = old.files; fails = old.fails; calls = old.calls ++ asked ∷ []; faults = risen old.faults })
     × Rises old.faults new.faults
 Fails old asked new (Err _) = new ≡ old
 
--- what writing a file does to the files: that file has the bytes and the others are as before, or memory was refused and all are
+-- what writing a file does to the files: that file has the bytes and the others are as before, or memory ran out and all are
 abbrev pub WritesFile : List File → List ℕ → List ℕ → List File → Result (Unit {0}) NoMemory → Type 0
 WritesFile old name bytes new (Ok _) = (bytes_of new name ≡ Some bytes) × ((other : List ℕ) → other ≢ name → bytes_of new other ≡ bytes_of old other)
 WritesFile old name bytes new (Err _) = new ≡ old

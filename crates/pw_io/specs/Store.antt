@@ -60,14 +60,14 @@ pub record WriteFails (old : StoreState) (name : List ℕ) (new : StoreState) : 
   pub calls : new.calls ≡ (called (Write name) old).calls
   pub faults : Rises old.faults new.faults
 
--- what a read answers and leaves: the whole file, of at most `limit` bytes; that it has more; a failure; or nothing done since memory was refused
+-- what a read answers and leaves: the whole file, of at most `limit` bytes; that it has more; a failure; or nothing done since memory ran out
 abbrev pub Reads : StoreState → List ℕ → ℕ → StoreState → Result (Vec ℕ Global) ReadError → Type 0
 Reads old name limit new (Ok bytes) = (new ≡ called (Read name) old) × (length bytes.items ≤ limit) × StandsIn old.files name bytes.items
 Reads old name limit new (Err (TooLong most)) = (new ≡ called (Read name) old) × (most ≡ limit) × PassesLimit old.files name limit
 Reads old name limit new (Err Failed) = ReadFails old name new
 Reads old name limit new (Err NoMemory) = new ≡ old
 
--- what a write answers and leaves: the file replaced; a failure; or nothing done since memory was refused
+-- what a write answers and leaves: the file replaced; a failure; or nothing done since memory ran out
 abbrev pub Writes : StoreState → List ℕ → List ℕ → StoreState → Result (Unit {0}) WriteError → Type 0
 Writes old name bytes new (Ok _) = Replaces old name bytes new
 Writes old name bytes new (Err no_write.Failed) = WriteFails old name new

@@ -13,7 +13,7 @@ pub enum ReadError {
     /// The file has more bytes than this limit.
     #[error("more than {0} bytes")]
     TooLong(u64),
-    /// Memory was refused; everything is as before.
+    /// Out of memory; everything is as before.
     #[error("out of memory")]
     NoMemory,
 }
@@ -24,7 +24,7 @@ pub enum WriteError {
     /// The call failed; the count of faults rose.
     #[error("failed")]
     Failed,
-    /// Memory was refused; everything is as before.
+    /// Out of memory; everything is as before.
     #[error("out of memory")]
     NoMemory,
 }

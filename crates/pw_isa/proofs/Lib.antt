@@ -1,3 +1,4 @@
+-- The proofs about instruction words, with examples.
 mod Examples
 pub mod Immediates
 pub mod Opcodes

@@ -1,3 +1,5 @@
+-- Tokens, in the order to read: bytes, spellings, constants, tokens, what stands at a place of a text, a whole text, and the
+-- laws; last how the code reads.
 pub mod Bytes
 pub mod Spellings
 pub mod Number

@@ -29,7 +29,7 @@ pub enum LexError {
 }
 
 impl LexError {
-    /// The first byte of the faulty phrase, from 0; want of memory has no place.
+    /// The first byte of the faulty phrase, from 0; `NoMemory` has no place.
     pub fn place(&self) -> Option<u32>
         ensures { result ≡ place_of self.now }
     {

@@ -41,7 +41,7 @@ fn keep(tokens: &mut Items<Token>, prefix: Prefix, at: u32, line: u32) -> Result
 
 /// The tokens of a text of fewer than 2^32 bytes, or its first fault.
 ///
-/// A line ends at a byte 10. Want of memory may be answered in place of either.
+/// A line ends at a byte 10. Out of memory may be answered in place of either.
 pub fn tokens(alloc: Global, text: &[u8]) -> Result<Items<Token>, LexError>
     requires { length text.now < 2 ^ 32 }
     ensures tokens { IfOk result (HasTokens text.now) }

@@ -19,7 +19,7 @@ fn name(alloc: Global, bytes: &[u8]) -> Result<TokenKind, LexError>
     }
 }
 
-/// The name or the keyword that a whole run is, which stands at `at`. Refusals: `LongName`, and want of memory.
+/// The name or the keyword that a whole run is, which stands at `at`. Refusals: `LongName`, and `NoMemory`.
 #[tactic(auto, unfolding(crate::specs::Reading::word_in, crate::specs::Spellings::keywords))]
 pub fn word(alloc: Global, bytes: &[u8], at: u32) -> Result<TokenKind, LexError>
     ensures kind { IfOk result (λ kind. spec.word_in at bytes.now ≡ Ok kind) }

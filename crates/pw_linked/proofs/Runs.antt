@@ -1,4 +1,4 @@
--- The machine's run of the image of linked modules is what their project means, whichever functions are kept.
+-- The machine's run of the image of linked modules is what their project means, and the same in both modes.
 use Rattle.std.proofs.Common.{ℕ, ◌+◌, ◌*◌, ◌≤◌, List}
 use Rattle.pw_tree.specs.Names.{Project}
 use Rattle.pw_tree.specs.Meaning.{meaning}
@@ -14,6 +14,7 @@ use Rattle.pw_simulation.proofs.OnlyKept.{project_is_runnable}
 use Rattle.pw_simulation.proofs.ImageRuns.{starts}
 use Rattle.pw_simulation.proofs.Meaning.{the_run_is_the_meaning}
 use Rattle.pw_simulation.proofs.Enough.{kept_is_enough}
+use Rattle.pw_simulation.proofs.AlikeImages.{images_run_alike}
 use Rattle.pw_linked.specs.Linking.{AreLinked}
 use Rattle.pw_linked.specs.Laws.{RunEitherWay}
 use Rattle.pw_linked.proofs.CanRun.{linked_can_run}
@@ -37,4 +38,5 @@ runs_either_way modules keep input bound limit linked finds bytes long =
     record {
       kept = any_project project keep keep input bound limit can enough (λ d h. h) bytes long;
       whole = any_project project keep (keeps_all project) input bound limit can enough enough.functions bytes long;
+      alike = images_run_alike project keep keep (keeps_all project) input bound limit can enough (λ d h. h) enough.functions bytes;
     }

@@ -5,6 +5,7 @@ use Rattle.pw_hart.specs.Run.{run}
 use Rattle.pw_agree.specs.Kept.{Keep, FindsKept}
 use Rattle.pw_agree.specs.LoadOrder.{ProjectModule, loaded_project}
 use Rattle.pw_simulation.specs.Programs.{RunsAsMeant}
+use Rattle.pw_simulation.specs.AnyRuns.{RunAlike}
 use Rattle.pw_simulation.specs.Projects.{CanRun, keeps_all}
 use Rattle.pw_simulation.specs.ImageWorld.{words_of_project, world_of}
 use Rattle.pw_simulation.specs.ImageRuns.{start_of, IsInput}
@@ -24,10 +25,14 @@ ImageRunsAsMeant modules keep in_memory input bound limit =
 pub record RunEitherWay (modules : List ProjectModule) (keep : Keep) (input : List ℕ) (bound limit : ℕ) : Type 0 where
   -- with the kept functions alone in memory,
   pub kept : ImageRunsAsMeant modules keep keep input bound limit
-  -- and with all functions in memory
+  -- with all functions in memory,
   pub whole : ImageRunsAsMeant modules keep (keeps_all (loaded_project modules)) input bound limit
+  -- and alike in both, down to each address that is fetched
+  pub alike : RunAlike (run limit (start_of (loaded_project modules) keep input bound))
+      (run limit (start_of (loaded_project modules) (keeps_all (loaded_project modules)) input bound))
 
--- Where those functions are kept that the roots lead to, and the run may be so long, each mode's run is what the project means.
+-- Where those functions are kept that the roots lead to, and the run may be so long, each mode's run is what the project means, and
+-- one mode's run is like the other's.
 abbrev pub LinkedModulesRunAsMeant : Type 0
 LinkedModulesRunAsMeant =
     (modules : List ProjectModule) (keep : Keep) (input : List ℕ) (bound limit : ℕ) → AreLinked modules →

@@ -9,7 +9,8 @@ pub fn linked_modules_can_run()
 {}
 
 /// The machine's run of the image of linked modules is what their project means, with the functions alone in memory that the
-/// roots lead to, or with all; in either mode each address that is fetched lies in the entry or in such a function.
+/// roots lead to, or with all; in either mode each address that is fetched lies in the entry or in such a function. Both modes
+/// fetch from the same addresses, put the same output, leave the same input and end in the same way.
 pub fn linked_modules_run_as_meant()
     ensures { LinkedModulesRunAsMeant }
 {}

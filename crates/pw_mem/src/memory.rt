@@ -18,7 +18,7 @@ pub trait Memory {
     ///
     /// Refusals: the fault of the least faulty region. It is `Unaligned` where the start or the length is no multiple of
     /// 8, the length is 0, or the end (start and length together) is above 2^64-1; else `Overlap` where it meets an
-    /// earlier region. `NoMemory` comes only where memory was refused, or of 2^32 regions and more. After a refusal
+    /// earlier region. `NoMemory` comes only where memory ran out, or of 2^32 regions and more. After a refusal
     /// all is as before.
     fn map(&mut self, regions: &[Region]) -> Result<(), MapError>
         ensures no_fault { OnOk result (CanMap regions.now) }

@@ -44,7 +44,8 @@ some_of q = read_then q (λ form. pure (Some form))
 record Begins (expr : Parser Expr) (stmt : Parser Stmt) (n first line : ℕ) (x : Sort) (o : ReadResult StmtKind) (q : ReadResult HeadForm) : Type 0 where
   is : read_then o (finish_statement first line) ≡ read_then (read_then (some_of q) (p.fronted expr stmt n first line x)) (follow expr stmt)
 
-begins : {A : Type 0} (expr : Parser Expr) (stmt : Parser Stmt) (n first line : ℕ) (x : Sort) (o : ReadResult A) (g : A → Parser StmtKind) (e : A → Parser HeadForm)
+begins : {A : Type 0} (expr : Parser Expr) (stmt : Parser Stmt) (n first line : ℕ) (x : Sort) (o : ReadResult A)
+    (g : A → Parser StmtKind) (e : A → Parser HeadForm)
     → ((a : A) (i : Position) → Begins expr stmt n first line x (g a i) (e a i)) → Begins expr stmt n first line x (read_then o g) (read_then o e)
 begins expr stmt n first line x (Ok q) g e same = same q.0 q.1
 begins expr stmt n first line x (Err _) g e same = record { is = refl }

@@ -3,6 +3,7 @@ use Rattle.std.proofs.Common.{◌≡◌, ℕ, suc, ◌+◌, ◌^◌, ◌<◌, �
 use Rattle.std.specs.Prelude.{pos}
 use Rattle.pw_isa.specs.declared.instruction.Inst.TheVariants.{Bne, Ld, Addi}
 use Rattle.pw_isa.specs.Registers.{x0, sp, a0, t0}
+use Rattle.pw_isa.specs.EnvironmentCalls.{null_call_fault}
 use Rattle.pw_tree.specs.declared.operator.Bin.{Bin}
 use Rattle.pw_tree.specs.declared.operator.Bin.TheVariants.{Mul, Div, Rem, Add, Sub, Shl, Shr, Lt, Gt, Le, Ge, Eq, Ne, And, Xor, Or, AndAnd, OrOr}
 use Rattle.pw_tree.specs.TypedExpressions.{TypedExpression, TypedExpressions, constant, local, variable, designator, element, unary, binary, conditional, call, call_pointer, input, output, nil, cons}
@@ -12,7 +13,7 @@ use Rattle.pw_tree.specs.WellTypedExpressions.{Class, class_of, HasFittingParts,
 use Rattle.pw_code.specs.declared.frame.Frame.{Frame}
 use Rattle.pw_code.specs.Items.{CodePart, instruction}
 use Rattle.pw_code.specs.Frames.{held_slot}
-use Rattle.pw_code.specs.Pieces.{fault, null_call_fault, check_index, past, hold, truth_code, load_held, binary_code, unary_code, unless_zero, unless_nonzero}
+use Rattle.pw_code.specs.Pieces.{fault, check_index, past, hold, truth_code, load_held, binary_code, unary_code, unless_zero, unless_nonzero}
 use Rattle.pw_code.specs.ExpressionCode.{operator_code, operator_words, right_slot, expression_words, expression_code, arguments_words, arguments_code}
 use Rattle.pw_code.specs.Bounds.{HasSmallOperands}
 use Rattle.pw_simulation.specs.Encodable.{CodeHasWords}

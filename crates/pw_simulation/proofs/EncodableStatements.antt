@@ -5,6 +5,7 @@ use Rattle.std.proofs.lemmas.Int.{ints}
 use Rattle.pw_isa.specs.declared.instruction.Inst.TheVariants.{Bne, Beq}
 use Rattle.pw_isa.specs.Formats.{FitsField}
 use Rattle.pw_isa.specs.Registers.{x0, s1, a0}
+use Rattle.pw_isa.specs.EnvironmentCalls.{depth_fault}
 use Rattle.pw_tree.specs.TypedExpressions.{TypedExpression}
 use Rattle.pw_tree.specs.TypedStatements as statements
 use Rattle.pw_tree.specs.TypedStatements.{TypedStatement, TypedStatements, OptionalTypedStatement}
@@ -16,7 +17,7 @@ use Rattle.pw_tree.specs.WellTypedUnits.{IsWellTypedFunction}
 use Rattle.pw_code.specs.declared.frame.Frame.{Frame}
 use Rattle.pw_code.specs.Items.{CodePart, instruction}
 use Rattle.pw_code.specs.Frames.{frame_bytes}
-use Rattle.pw_code.specs.Pieces.{bytes_of_words, jump, unless_zero, past, fault, depth_fault, check_index, hold}
+use Rattle.pw_code.specs.Pieces.{bytes_of_words, jump, unless_zero, past, fault, check_index, hold}
 use Rattle.pw_code.specs.ExpressionCode.{expression_words, expression_code}
 use Rattle.pw_code.specs.StatementCode.{Targets, targets_in_loop, statement_words, statements_words, optional_words, else_words, else_jump, set_local_words, value_words, condition_words, set_local_code, value_code, condition_code, statement_code, statements_code, optional_code, else_code}
 use Rattle.pw_code.specs.FunctionCode.{frame_of, store_parameters, opens, opens_words, falls_off, closes, function_targets, function_code}

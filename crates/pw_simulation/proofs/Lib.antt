@@ -67,3 +67,7 @@ pub mod Meaning
 pub mod ImageRuns
 pub mod AlikeMemories
 pub mod AlikeRuns
+pub mod WholeCode
+pub mod LikeImages
+pub mod MeantRuns
+pub mod AlikeImages

@@ -12,6 +12,7 @@ abbrev pub PartHasWords : CodePart → Type 0
 PartHasWords (instruction i) = IsEncodable i
 PartHasWords (address rd to) = rd < 32
 
+-- Each instruction of some code has a word.
 abbrev pub CodeHasWords : List CodePart → Type 0
 CodeHasWords code = AllByRecursion PartHasWords code
 

@@ -12,7 +12,7 @@ use Rattle.pw_agree.specs.Kept.{Keep}
 use Rattle.pw_agree.specs.Placing.{text_of}
 use Rattle.pw_agree.specs.Image.{image}
 use Rattle.pw_simulation.specs.Programs.{RunsAsMeant}
-use Rattle.pw_simulation.specs.AnyRuns.{BeginsAsMeant}
+use Rattle.pw_simulation.specs.AnyRuns.{RunAlike, BeginsAsMeant}
 use Rattle.pw_simulation.specs.Projects.{CanRun, KeepsEnough, HoldsKept}
 use Rattle.pw_simulation.specs.ImageWorld.{words_of_project, world_of}
 
@@ -47,3 +47,11 @@ TheImageBeginsAsMeant =
     HoldsKept keep in_memory → IsInput input → k < (bound + 1) * words_of_project project →
     (run k (start_of project in_memory input bound)).end ≡ Limit →
     BeginsAsMeant (world_of project keep) (meaning project input bound) (run k (start_of project in_memory input bound))
+
+-- Both modes do the same, however long they may run, down to each address that is fetched: two images of one project that have at
+-- least what is kept in memory run alike. A piece-wise image has what is kept in memory and nothing else, and a whole one everything.
+abbrev pub ImagesRunAlike : Type 0
+ImagesRunAlike =
+    (project : Project) (keep in_memory other : Keep) (input : List ℕ) (bound limit : ℕ) → CanRun project → KeepsEnough project keep →
+    HoldsKept keep in_memory → HoldsKept keep other → IsInput input →
+    RunAlike (run limit (start_of project in_memory input bound)) (run limit (start_of project other input bound))

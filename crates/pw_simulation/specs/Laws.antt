@@ -22,6 +22,7 @@ pub record HasBrought (w : World) (m u rd : ℕ) (to : Ref) (s : MachineState) :
   pub puts : Puts rd (reference_place w m u to) s.x registers
   pub reaches : Reaches w.code w.words 2 s (record s { x = registers; pc = s.pc + 8 })
 
+-- Each such pair does so from where it stands, for every register but x0.
 abbrev pub AddressesAreBrought : Type 0
 AddressesAreBrought =
     (w : World) (m u r : ℕ) (to : Ref) (s : MachineState) → IsApart w → IsReady w s.mem → Brings w m u s.pc (suc r) to → HasBrought w m u (suc r) to s

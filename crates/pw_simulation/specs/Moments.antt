@@ -4,6 +4,7 @@ use Rattle.std.specs.List.{AllByRecursion}
 use Rattle.pw_base.specs.Limits as limits
 use Rattle.pw_isa.specs.declared.instruction.Inst.{Inst}
 use Rattle.pw_isa.specs.Registers.{sp, s1}
+use Rattle.pw_isa.specs.EnvironmentCalls.{index_fault, division_fault, null_call_fault, depth_fault}
 use Rattle.pw_tree.specs.Units.{Function}
 use Rattle.pw_tree.specs.Names.{Definition, function_at}
 use Rattle.pw_tree.specs.States.{State, Fault, index, division, null_call, depth, StopReason, checked, spent, Outcome, gives, stops}
@@ -12,7 +13,6 @@ use Rattle.pw_hart.specs.declared.ends.End.TheVariants.{Checked, Spent}
 use Rattle.pw_hart.specs.State.{MachineState, Goes, Ends}
 use Rattle.pw_hart.specs.Run.{step}
 use Rattle.pw_code.specs.FunctionCode.{function_words}
-use Rattle.pw_code.specs.Pieces.{index_fault, division_fault, null_call_fault, depth_fault}
 use Rattle.pw_simulation.specs.World.{World}
 use Rattle.pw_simulation.specs.Memories.{IsReady, Keeps}
 use Rattle.pw_simulation.specs.Values.{AreCarried}

@@ -25,12 +25,16 @@ use Rattle.pw_simulation.specs.Tables.{instructions_at, in_table}
 -- static long f(void) { return 7; }
 -- fn0 t[2];
 -- long main(void) { while (!t[1]) { t[1] = f; } return t[1](); }
+
+-- an expression of type long in this line
 abbrev pub at : ℕ → Mark
 at in_line = record { ty = Long; line = in_line }
 
+-- an expression in the last line that gives a function
 abbrev pub at_pointer : Mark
 at_pointer = record { ty = Fn 0; line = 3 }
 
+-- the function `f`
 abbrev pub f_function : Function
 f_function = record {
   name = codes "f";
@@ -42,9 +46,11 @@ f_function = record {
   body = cons (returns (Some (constant (at 1) 7))) nil;
 }
 
+-- the element `t[1]`
 abbrev pub second_element : TypedExpression
 second_element = element at_pointer (Global (codes "t")) 2 (constant (at 3) 1)
 
+-- the function `main`, which stores `f` in `t[1]` and calls it from there
 abbrev pub main_function : Function
 main_function = record {
   name = codes "main";
@@ -58,9 +64,11 @@ main_function = record {
       (cons (returns (Some (call_pointer (at 3) second_element expressions.nil))) nil);
 }
 
+-- the variable `t`: two function values, neither with an initialiser
 abbrev pub t_variable : TVar
 t_variable = record { name = codes "t"; global = true; ty = Fn 0; count = Some 2; init = None }
 
+-- the unit of that source, and its names with external linkage
 abbrev pub unit : TypedUnit
 unit = record {
   functions = f_function ∷ main_function ∷ [];
@@ -68,11 +76,13 @@ unit = record {
   names = record { name = codes "t"; text = codes "0[2]" } ∷ record { name = codes "main"; text = codes "l()" } ∷ [];
 }
 
+-- the project is one module of this unit
 abbrev pub project : Project
 project = (unit ∷ []) ∷ []
 
 -- ---- the world
 
+-- the definition of this number in the unit: of its functions, `f` is number 0 and `main` number 1
 abbrev pub definition : ℕ → Definition
 definition i = record { in_module = 0; in_unit = 0; number = i }
 
@@ -80,20 +90,24 @@ definition i = record { in_module = 0; in_unit = 0; number = i }
 abbrev pub keep : Keep
 keep d = list_any (same_definition d) (definition 0 ∷ definition 1 ∷ [])
 
--- the entry's instructions, and those of the two functions
+-- the instructions of the entry
 abbrev pub entry_instructions : List Inst
 entry_instructions = instructions_at (target_address project 0 0) (text_of 0) entry_code
 
+-- the instructions of `f`
 abbrev pub f_instructions : List Inst
 f_instructions = instructions_at (target_address project 0 0) (function_address project (definition 0)) (function_code f_function)
 
+-- the instructions of `main`
 abbrev pub main_instructions : List Inst
 main_instructions = instructions_at (target_address project 0 0) (function_address project (definition 1)) (function_code main_function)
 
+-- the instruction at an address: of the entry, of `f` or of `main`
 abbrev pub code : ℕ → Option Inst
 code place = option_or (in_table (text_of 0) entry_instructions place)
     (option_or (in_table (function_address project (definition 0)) f_instructions place) (in_table (function_address project (definition 1)) main_instructions place))
 
+-- the world has that code, and places everything as the image of the project does
 abbrev pub world : World
 world = record {
   project = project;

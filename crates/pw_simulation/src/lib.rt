@@ -13,6 +13,6 @@ pub use laws::{
 };
 pub use projects::{
     all_is_enough, bodies_are_linked, functions_stand_apart, images_are_ready, images_are_seen,
-    kept_is_enough, projects_are_runnable, the_image_begins_as_meant, the_image_runs_as_meant,
-    well_typed_code_has_words,
+    images_run_alike, kept_is_enough, projects_are_runnable, the_image_begins_as_meant,
+    the_image_runs_as_meant, well_typed_code_has_words,
 };

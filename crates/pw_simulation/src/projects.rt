@@ -1,7 +1,7 @@
 //! The laws of projects and of their images, over definitions alone. Each is the contract of a function, which does nothing.
 
 ghost use Rattle.pw_simulation.specs.Encodable.{WellTypedCodeHasWords};
-ghost use Rattle.pw_simulation.specs.ImageRuns.{TheImageRunsAsMeant, TheImageBeginsAsMeant};
+ghost use Rattle.pw_simulation.specs.ImageRuns.{TheImageRunsAsMeant, TheImageBeginsAsMeant, ImagesRunAlike};
 ghost use Rattle.pw_simulation.specs.ProjectLaws.{ImagesAreSeen, FunctionsStandApart, KeptIsEnough, AllIsEnough, BodiesAreLinked, ProjectsAreRunnable, ImagesAreReady};
 
 /// The world of a project that can be run shows the project, as far as it is kept: each kept function stands at its place, and
@@ -59,4 +59,10 @@ pub fn the_image_runs_as_meant()
 /// Where that run is cut short, in either mode, it did a beginning of what the project means.
 pub fn the_image_begins_as_meant()
     ensures { TheImageBeginsAsMeant }
+{}
+
+/// Two images of one project that can be run, which have at least what is kept in memory, run alike: they fetch from the same
+/// addresses, put the same output, leave the same input and end in the same way. So a piece-wise and a whole run do the same.
+pub fn images_run_alike()
+    ensures { ImagesRunAlike }
 {}

@@ -3,15 +3,11 @@
 #![tactic(auto)]
 
 #[cfg(test)]
-mod code_words;
-#[cfg(test)]
 mod cut_texts;
 #[cfg(test)]
 mod deep_copies;
 #[cfg(test)]
 mod division;
-#[cfg(test)]
-mod first_forms;
 #[cfg(test)]
 mod fronts;
 #[cfg(test)]

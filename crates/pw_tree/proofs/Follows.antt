@@ -204,14 +204,16 @@ module _ (k : ℕ) (x : Context) (called : Definition → List Value → State �
     follows_eval (output at e) locals st =
         follows_then k _ _ _ _ (follows_eval e locals st) (λ v st. record { same = refl }) (λ v st. record { more = (as_number v % 256 ∷ [], refl) })
 
-    follows_eval_all : (es : TypedExpressions) (locals : Locals) (st : State) → Follows k (eval_all x es locals st) (eval_all y es locals (with_more k st))
+    follows_eval_all : (es : TypedExpressions) (locals : Locals) (st : State) →
+        Follows k (eval_all x es locals st) (eval_all y es locals (with_more k st))
     follows_eval_all nil locals st = record { same = refl }
     follows_eval_all (cons e es) locals st =
         follows_then k _ _ _ _ (follows_eval e locals st)
         (λ v st. follows_then k _ _ _ _ (follows_eval_all es locals st) (λ vs st. record { same = refl }) (λ vs st. grows_nothing st _ refl))
         (λ v st. grows_then st _ _ (grows_eval_all y grow es locals st) (λ vs st. grows_nothing st _ refl))
 
-  follows_eval_option : (e : Option TypedExpression) (locals : Locals) (st : State) → Follows k (eval_option x e locals st) (eval_option y e locals (with_more k st))
+  follows_eval_option : (e : Option TypedExpression) (locals : Locals) (st : State) →
+      Follows k (eval_option x e locals st) (eval_option y e locals (with_more k st))
   follows_eval_option None locals st = record { same = refl }
   follows_eval_option (Some e) locals st =
       follows_then k _ _ _ _ (follows_eval e locals st) (λ v st. record { same = refl }) (λ v st. grows_nothing st _ refl)
@@ -275,14 +277,16 @@ module _ (k : ℕ) (x : Context) (called : Definition → List Value → State �
     follows_exec breaks locals st = record { same = refl }
     follows_exec continues locals st = record { same = refl }
 
-    follows_exec_all : (ss : TypedStatements) (locals : Locals) (st : State) → Follows k (exec_all x ss locals st) (exec_all y ss locals (with_more k st))
+    follows_exec_all : (ss : TypedStatements) (locals : Locals) (st : State) →
+        Follows k (exec_all x ss locals st) (exec_all y ss locals (with_more k st))
     follows_exec_all nil locals st = record { same = refl }
     follows_exec_all (cons s ss) locals st =
         follows_then k _ _ _ _ (follows_exec s locals st)
         (λ done. follows_followed k done (exec_all x ss) (exec_all y ss) (follows_exec_all ss))
         (λ done. grows_followed done (exec_all y ss) (grows_exec_all y grow ss))
 
-    follows_exec_maybe : (s : OptionalTypedStatement) (locals : Locals) (st : State) → Follows k (exec_maybe x s locals st) (exec_maybe y s locals (with_more k st))
+    follows_exec_maybe : (s : OptionalTypedStatement) (locals : Locals) (st : State) →
+        Follows k (exec_maybe x s locals st) (exec_maybe y s locals (with_more k st))
     follows_exec_maybe absent locals st = record { same = refl }
     follows_exec_maybe (present s) locals st = follows_exec s locals st
 

@@ -60,7 +60,8 @@ pub record CallsGrow (x : Context) : Type 0 where
 pub grows_divided : (x : Context) (line : ℕ) (op : Bin) (unsigned : Bool) (a b : ℕ) (st : State) → Grows st (divided x line op unsigned a b st)
 grows_divided x line op unsigned a b = grows_choice (nat_eq b 0) _ _ (λ st. grows_nothing st _ refl) (λ st. grows_nothing st _ refl)
 
-pub grows_binary : (x : Context) (line : ℕ) (op : Bin) (unsigned : Bool) (a b : Value) (st : State) → Grows st (binary_value x line op unsigned a b st)
+pub grows_binary : (x : Context) (line : ℕ) (op : Bin) (unsigned : Bool) (a b : Value) (st : State) →
+    Grows st (binary_value x line op unsigned a b st)
 grows_binary x line Div unsigned a b st = grows_divided x line Div unsigned (as_number a) (as_number b) st
 grows_binary x line Rem unsigned a b st = grows_divided x line Rem unsigned (as_number a) (as_number b) st
 grows_binary x line Eq unsigned a b st = grows_nothing st _ refl
@@ -84,7 +85,8 @@ pub grows_next_byte : (bytes : List ℕ) (st : State) → Grows st (next_byte by
 grows_next_byte [] st = grows_nothing st _ refl
 grows_next_byte (byte ∷ rest) st = grows_nothing st _ refl
 
-pub grows_call_through : (x : Context) → CallsGrow x → (line : ℕ) (arguments : List Value) (v : Value) (st : State) → Grows st (call_through x line arguments v st)
+pub grows_call_through : (x : Context) → CallsGrow x → (line : ℕ) (arguments : List Value) (v : Value) (st : State) →
+    Grows st (call_through x line arguments v st)
 grows_call_through x c line arguments (pointer f) st = c.grows f arguments st
 grows_call_through x c line arguments null st = grows_nothing st _ refl
 grows_call_through x c line arguments (number n) st = grows_nothing st _ refl
@@ -156,7 +158,8 @@ grows_iterations iteration g zero locals st =
 grows_iterations iteration g (suc n) locals st =
     grows_then st _ _ (g locals st) (λ t. grows_after_iteration t _ (λ locals. grows_stepped _ (grows_iterations iteration g n locals)))
 
-pub grows_eval_option : (x : Context) → CallsGrow x → (e : Option TypedExpression) (locals : Locals) (st : State) → Grows st (eval_option x e locals st)
+pub grows_eval_option : (x : Context) → CallsGrow x → (e : Option TypedExpression) (locals : Locals) (st : State) →
+    Grows st (eval_option x e locals st)
 grows_eval_option x c None locals st = grows_nothing st _ refl
 grows_eval_option x c (Some e) locals st = grows_then st _ _ (grows_eval x c e locals st) (λ v st. grows_nothing st _ refl)
 
@@ -189,7 +192,8 @@ mutual
   grows_exec_all x c (cons s ss) locals st =
       grows_then st _ _ (grows_exec x c s locals st) (λ done. grows_followed done _ (grows_exec_all x c ss))
 
-  pub grows_exec_maybe : (x : Context) → CallsGrow x → (s : OptionalTypedStatement) (locals : Locals) (st : State) → Grows st (exec_maybe x s locals st)
+  pub grows_exec_maybe : (x : Context) → CallsGrow x → (s : OptionalTypedStatement) (locals : Locals) (st : State) →
+      Grows st (exec_maybe x s locals st)
   grows_exec_maybe x c absent locals st = grows_nothing st _ refl
   grows_exec_maybe x c (present s) locals st = grows_exec x c s locals st
 

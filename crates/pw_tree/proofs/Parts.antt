@@ -42,7 +42,8 @@ parts_of_while c body = of_form (kinds.While c body) (StmtKind-F.While c body) (
 pub parts_of_do : (body : Stmt) (c : Expr) → parts_of_kind (kinds.Do body c) ≡ body ∷ []
 parts_of_do body c = of_form (kinds.Do body c) (StmtKind-F.Do body c) (rolls-Do body c)
 
-pub parts_of_for : (first : Option Stmt) (c : Option Expr) (last : Option Stmt) (body : Stmt) → parts_of_kind (kinds.For first c last body) ≡ put_before first (put_before last (body ∷ []))
+pub parts_of_for : (first : Option Stmt) (c : Option Expr) (last : Option Stmt) (body : Stmt) →
+    parts_of_kind (kinds.For first c last body) ≡ put_before first (put_before last (body ∷ []))
 parts_of_for first c last body = of_form (kinds.For first c last body) (StmtKind-F.For first c last body) (rolls-For first c last body)
 
 pub parts_of_return : (value : Option Expr) → parts_of_kind (kinds.Return value) ≡ []
@@ -82,7 +83,8 @@ typed_parts_of_while c body = of_typed (typed.While c body) (TStmt-F.While c bod
 pub typed_parts_of_do : (body : TStmt) (c : TExpr) → typed_parts_of (typed.Do body c) ≡ body ∷ []
 typed_parts_of_do body c = of_typed (typed.Do body c) (TStmt-F.Do body c) (typed.rolls-Do body c)
 
-pub typed_parts_of_for : (first : Option TStmt) (c : Option TExpr) (last : Option TStmt) (body : TStmt) → typed_parts_of (typed.For first c last body) ≡ put_before first (put_before last (body ∷ []))
+pub typed_parts_of_for : (first : Option TStmt) (c : Option TExpr) (last : Option TStmt) (body : TStmt) →
+    typed_parts_of (typed.For first c last body) ≡ put_before first (put_before last (body ∷ []))
 typed_parts_of_for first c last body = of_typed (typed.For first c last body) (TStmt-F.For first c last body) (typed.rolls-For first c last body)
 
 pub typed_parts_of_return : (value : Option TExpr) → typed_parts_of (typed.Return value) ≡ []

@@ -10,7 +10,8 @@ use Rattle.pw_tree.specs.declared.expr.ExprKind.TheVariants as kinds
 use Rattle.pw_tree.specs.declared.expr.ExprKind.TheVariants.{rolls-Num, rolls-Word, rolls-Unary, rolls-Binary, rolls-Cond, rolls-Call, rolls-Index, rolls-Input, rolls-Output}
 
 -- An expression is its form at its place.
-pub phrase_of-out : (e : Expr) → expression_of e ≡ expression_form_of (out-Expr e).kind (record { first = (out-Expr e).first; last = (out-Expr e).last; line = (out-Expr e).line })
+pub phrase_of-out : (e : Expr) →
+    expression_of e ≡ expression_form_of (out-Expr e).kind (record { first = (out-Expr e).first; last = (out-Expr e).last; line = (out-Expr e).line })
 phrase_of-out e = fold_out-Expr (Span → Expression) Expression expression_form expression_step e
 
 pub form_of-Num : (value : ℕ) (unsigned : Bool) → expression_form_of (kinds.Num value unsigned) ≡ (λ at. constant at value unsigned)
@@ -25,10 +26,12 @@ form_of-Unary op e = ap expression_form_of (sym (rolls-Unary op e)) ∙ fold-rol
 pub form_of-Binary : (op : Bin) (l r : Expr) → expression_form_of (kinds.Binary op l r) ≡ (λ at. binary at op (expression_of l) (expression_of r))
 form_of-Binary op l r = ap expression_form_of (sym (rolls-Binary op l r)) ∙ fold-roll-ExprKind (Span → Expression) Expression expression_form expression_step (ExprKind-F.Binary op l r)
 
-pub form_of-Cond : (c a b : Expr) → expression_form_of (kinds.Cond c a b) ≡ (λ at. conditional at (expression_of c) (expression_of a) (expression_of b))
+pub form_of-Cond : (c a b : Expr) →
+    expression_form_of (kinds.Cond c a b) ≡ (λ at. conditional at (expression_of c) (expression_of a) (expression_of b))
 form_of-Cond c a b = ap expression_form_of (sym (rolls-Cond c a b)) ∙ fold-roll-ExprKind (Span → Expression) Expression expression_form expression_step (ExprKind-F.Cond c a b)
 
-pub form_of-Call : (callee : Expr) (es : List Expr) → expression_form_of (kinds.Call callee es) ≡ (λ at. call at (expression_of callee) (expressions_of es))
+pub form_of-Call : (callee : Expr) (es : List Expr) →
+    expression_form_of (kinds.Call callee es) ≡ (λ at. call at (expression_of callee) (expressions_of es))
 form_of-Call callee es = ap expression_form_of (sym (rolls-Call callee es)) ∙ fold-roll-ExprKind (Span → Expression) Expression expression_form expression_step (ExprKind-F.Call callee es)
 
 pub form_of-Index : (base i : Expr) → expression_form_of (kinds.Index base i) ≡ (λ at. index at (expression_of base) (expression_of i))

@@ -22,6 +22,7 @@ abbrev mutual
   names_in (input at) = []
   names_in (output at e) = names_in e
 
+  -- Those of several expressions.
   pub names_in_all : TypedExpressions → List Ref
   names_in_all nil = []
   names_in_all (cons e es) = names_in e ++ names_in_all es
@@ -48,10 +49,12 @@ abbrev mutual
   names_of breaks = []
   names_of continues = []
 
+  -- Those of several statements.
   pub names_of_all : TypedStatements → List Ref
   names_of_all nil = []
   names_of_all (cons s ss) = names_of s ++ names_of_all ss
 
+  -- Those of a statement that may be absent.
   pub names_of_maybe : OptionalTypedStatement → List Ref
   names_of_maybe absent = []
   names_of_maybe (present s) = names_of s

@@ -64,8 +64,7 @@ abbrev pub call_through : Context → ℕ → List Value → Value → State →
 call_through x line arguments (pointer f) = x.called f arguments
 call_through x line arguments _ = fails x null_call line
 
--- What an expression comes to, and what several come to, one after another; a callee that is evaluated comes after
--- the arguments.
+-- What an expression comes to; a callee that is evaluated comes after the arguments.
 abbrev mutual
   pub eval : Context → TypedExpression → Locals → State → Outcome Value
   eval x (constant at value) locals st = gives (number value) st
@@ -86,6 +85,7 @@ abbrev mutual
   eval x (output at e) locals st =
       and_then (eval x e locals st) (λ v st. gives (number 0) (with_output (as_number v) st))
 
+  -- What several expressions come to, one after another.
   pub eval_all : Context → TypedExpressions → Locals → State → Outcome (List Value)
   eval_all x nil locals st = gives [] st
   eval_all x (cons e es) locals st =

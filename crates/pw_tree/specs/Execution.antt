@@ -65,8 +65,8 @@ eval_option x (Some e) locals st = and_then (eval x e locals st) (λ v. gives (S
 abbrev pub stores : Definition → ℕ → Locals → Value → State → Outcome Completion
 stores x i locals v st = gives (normal locals) (with_element x i v st)
 
--- What a statement does, what several do one after another, and what one does that may be absent. An index is
--- evaluated and tested before the value that is assigned; a declaration without initialiser sets 0 or null.
+-- What a statement does. An index is evaluated and tested before the value that is assigned; a declaration without
+-- initialiser sets 0 or null.
 abbrev mutual
   pub exec : Context → TypedStatement → Locals → State → Outcome Completion
   exec x (evaluate e) locals st = and_then (eval x e locals st) (λ v. gives (normal locals))
@@ -86,10 +86,12 @@ abbrev mutual
   exec x breaks locals st = gives (broke locals) st
   exec x continues locals st = gives (continued locals) st
 
+  -- What several statements do, one after another.
   pub exec_all : Context → TypedStatements → Locals → State → Outcome Completion
   exec_all x nil locals st = gives (normal locals) st
   exec_all x (cons s ss) locals st = and_then (exec x s locals st) (λ done. followed done (exec_all x ss))
 
+  -- What a statement does that may be absent.
   pub exec_maybe : Context → OptionalTypedStatement → Locals → State → Outcome Completion
   exec_maybe x absent locals st = gives (normal locals) st
   exec_maybe x (present s) locals st = exec x s locals st

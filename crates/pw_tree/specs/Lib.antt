@@ -1,3 +1,5 @@
+-- Trees as data: untyped ones and where they stand, typed ones and when they are well typed; then what a project means, in
+-- the order of the rules, and the laws; last the words of private contracts.
 pub mod Expressions
 pub mod Statements
 pub mod Declarations

@@ -57,10 +57,11 @@ resolved project m u (LocalVar i) = Some (object (record { in_module = m; in_uni
 abbrev pub unit_at : Project → Definition → Option TypedUnit
 unit_at project d = option_and_then (λ units. slice_get units d.in_unit) (slice_get project d.in_module)
 
--- The function that a definition is, and the variable.
+-- The function that a definition is.
 abbrev pub function_at : Project → Definition → Option Function
 function_at project d = option_and_then (λ unit. slice_get unit.functions d.number) (unit_at project d)
 
+-- The variable that a definition is.
 abbrev pub variable_at : Project → Definition → Option TVar
 variable_at project d = option_and_then (λ unit. slice_get unit.variables d.number) (unit_at project d)
 

@@ -91,6 +91,7 @@ IsShort d (variable ty size init) = ⊤
 
 -- ---- initialisers
 
+-- the form of a declaration has no initialiser
 abbrev pub HasNoInitialiser : DeclarationForm → Type 0
 HasNoInitialiser (variable ty size None) = ⊤
 HasNoInitialiser (variable ty size (Some items)) = ⊥

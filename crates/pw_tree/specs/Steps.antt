@@ -1,1 +1,2 @@
+-- What copying a tree by a loop has done so far.
 pub mod Nested

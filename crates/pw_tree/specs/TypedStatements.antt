@@ -56,7 +56,8 @@ typed_statement_form (TStmt-F.Block body) = block (typed_statements body)
 typed_statement_form (TStmt-F.If c a b) = if_else (typed_expression_of c) a (optional_typed_statement b)
 typed_statement_form (TStmt-F.While c body) = while_loop (typed_expression_of c) body
 typed_statement_form (TStmt-F.Do body c) = do_loop body (typed_expression_of c)
-typed_statement_form (TStmt-F.For first c last body) = for_loop (optional_typed_statement first) (option_map typed_expression_of c) (optional_typed_statement last) body
+typed_statement_form (TStmt-F.For first c last body) =
+    for_loop (optional_typed_statement first) (option_map typed_expression_of c) (optional_typed_statement last) body
 typed_statement_form (TStmt-F.Return value) = returns (option_map typed_expression_of value)
 typed_statement_form TStmt-F.Break = breaks
 typed_statement_form TStmt-F.Continue = continues

@@ -69,7 +69,8 @@ unfolding before
 before_nothing [] = refl
 before_nothing (d ∷ ds) = ap (λ (u : TypedStatements). tree.cons d u) (before_nothing ds)
 
-pub block_goes_on : (x : Setting) (out : Block → Block) (done : List TypedStatement) (s : Statement) (ss : Statements) (c : TypedStatement) (b : Block) (u : List ℕ) (h : ℕ)
+pub block_goes_on : (x : Setting) (out : Block → Block) (done : List TypedStatement) (s : Statement) (ss : Statements)
+    (c : TypedStatement) (b : Block) (u : List ℕ) (h : ℕ)
     → rest_of_block x out done (cons s ss) (judged c b u h) ≡ rest_of_block x out (done ++ c ∷ []) ss (outcome (part x) b u h s)
 unfolding faults_by_all typed_statements uses_by_all held_by_all after_all
 block_goes_on x out done s ss c b u h =
@@ -115,7 +116,8 @@ tree_is scope e t is = ap (λ (o : Option TypedExpression). unwrap_or o no_expre
 pub on_left : {xs ys : List Fault} → xs ≡ [] → xs ++ ys ≡ ys
 on_left {ys} none = ap (λ (zs : List Fault). zs ++ ys) none
 
-pub if_begins : (x : Setting) (b : Block) (u : List ℕ) (h : ℕ) (at : Span) (c : Expression) (a : Statement) (d : OptionalStatement) (t : TypedExpression)
+pub if_begins : (x : Setting) (b : Block) (u : List ℕ) (h : ℕ) (at : Span) (c : Expression) (a : Statement)
+    (d : OptionalStatement) (t : TypedExpression)
     → faults_of_whole b.scope roles.Value c ≡ [] → typed_expression b.scope c ≡ t
     → outcome x b u h (if_else at c a d) ≡ rest_of_if x (out_of b) t d (outcome (part x) b (u ++ uses b.scope c) (max h (held t)) a)
 unfolding faults_by typed_statement uses_by held_by locals_in
@@ -182,20 +184,23 @@ for_leaves b first last s =
     let three = keeps n s (after_maybe last (after_maybe first (inner b))) two.within in
     left_inner b _ _ (then_keeps n _ _ _ _ _ one (then_keeps n _ _ _ _ _ two three))
 
-pub for_begins : (x : Setting) (b : Block) (u : List ℕ) (h : ℕ) (at : Span) (first : Statement) (c : Option Expression) (last : OptionalStatement) (s : Statement)
+pub for_begins : (x : Setting) (b : Block) (u : List ℕ) (h : ℕ) (at : Span) (first : Statement) (c : Option Expression)
+    (last : OptionalStatement) (s : Statement)
     → let w : WalkResult = outcome (head x) (inner b) u h first in
     outcome x b u h (for_loop at (present first) c last s) ≡ after_first x (out_of b) (tree.present w.typed) c last s w
 unfolding faults_by faults_by_maybe typed_statement optional_typed_statement uses_by uses_by_maybe held_by held_by_maybe locals_in locals_in_maybe
 for_begins x b u h at first c last s =
     same refl refl (used_by_both u _ _) (max_assoc h _ _) (sym (for_leaves b (present first) last s))
 
-pub for_begins_bare : (x : Setting) (b : Block) (u : List ℕ) (h : ℕ) (at : Span) (c : Option Expression) (last : OptionalStatement) (s : Statement) (old : TypedStatement)
+pub for_begins_bare : (x : Setting) (b : Block) (u : List ℕ) (h : ℕ) (at : Span) (c : Option Expression)
+    (last : OptionalStatement) (s : Statement) (old : TypedStatement)
     → outcome x b u h (for_loop at absent c last s) ≡ after_first x (out_of b) tree.absent c last s (judged old (inner b) u h)
 unfolding faults_by faults_by_maybe typed_statement optional_typed_statement uses_by uses_by_maybe held_by held_by_maybe locals_in locals_in_maybe
 for_begins_bare x b u h at c last s old =
     same refl refl refl (ap (λ (n : ℕ). max h n) (zero-max _)) (sym (for_leaves b absent last s))
 
-pub for_goes_on : (x : Setting) (out : Block → Block) (first : tree.OptionalTypedStatement) (c : Option Expression) (last s : Statement) (old : TypedStatement) (b : Block) (u : List ℕ) (h : ℕ) (t : Option TypedExpression)
+pub for_goes_on : (x : Setting) (out : Block → Block) (first : tree.OptionalTypedStatement) (c : Option Expression)
+    (last s : Statement) (old : TypedStatement) (b : Block) (u : List ℕ) (h : ℕ) (t : Option TypedExpression)
     → faults_of_option b.scope roles.Value c ≡ [] → option_map (typed_expression b.scope) c ≡ t
     → let w : WalkResult = outcome (head x) b (u ++ uses_of_option b.scope c) (max h (held_option t)) last in
     after_first x out first c (present last) s (judged old b u h) ≡ rest_of_for x out first t (tree.present w.typed) s w
@@ -204,7 +209,8 @@ for_goes_on x out first c last s old b u h t none is =
     same (on_left none) (same_for is) (used_by_three u _ _ _)
     (held_after_option h _ is ∙ max_assoc (max h (held_option t)) _ _) refl
 
-pub for_has_no_last : (x : Setting) (out : Block → Block) (first : tree.OptionalTypedStatement) (c : Option Expression) (s : Statement) (old : TypedStatement) (b : Block) (u : List ℕ) (h : ℕ) (t : Option TypedExpression)
+pub for_has_no_last : (x : Setting) (out : Block → Block) (first : tree.OptionalTypedStatement) (c : Option Expression)
+    (s : Statement) (old : TypedStatement) (b : Block) (u : List ℕ) (h : ℕ) (t : Option TypedExpression)
     → faults_of_option b.scope roles.Value c ≡ [] → option_map (typed_expression b.scope) c ≡ t
     → let w : WalkResult = outcome (body x) b (u ++ uses_of_option b.scope c) (max h (held_option t)) s in
     after_first x out first c absent s (judged old b u h) ≡ closed out (tree.for_loop first t tree.absent w.typed) w
@@ -213,7 +219,8 @@ for_has_no_last x out first c s old b u h t none is =
     same (on_left none) (same_for is) (used_by_both u _ _)
     (held_after_option h _ is ∙ ap (λ (n : ℕ). max (max h (held_option t)) n) (zero-max _)) refl
 
-pub for_ends : (x : Setting) (out : Block → Block) (first : tree.OptionalTypedStatement) (t : Option TypedExpression) (last : tree.OptionalTypedStatement) (s : Statement) (old : TypedStatement) (b : Block) (u : List ℕ) (h : ℕ)
+pub for_ends : (x : Setting) (out : Block → Block) (first : tree.OptionalTypedStatement) (t : Option TypedExpression)
+    (last : tree.OptionalTypedStatement) (s : Statement) (old : TypedStatement) (b : Block) (u : List ℕ) (h : ℕ)
     → let w : WalkResult = outcome (body x) b u h s in
     rest_of_for x out first t last s (judged old b u h) ≡ closed out (tree.for_loop first t last w.typed) w
 for_ends x out first t last s old b u h = refl

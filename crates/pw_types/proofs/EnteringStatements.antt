@@ -155,7 +155,8 @@ is_present m s t m_is t_is = ap (λ (o : Option Stmt). optional_statement (optio
 pub is_absent : (m : Option Stmt) → m ≡ None → optional_statement (option_map statement_of m) ≡ absent
 is_absent m m_is = ap (λ (o : Option Stmt). optional_statement (option_map statement_of o)) m_is
 
-pub enters_for : (x x' : Given) (o : Outer) (old : Walk) (at : Span) (m : OptionalStatement) (first : Stmt) (c : Bor (Option Expr)) (last : Bor (Option Stmt)) (s : Bor Stmt)
+pub enters_for : (x x' : Given) (o : Outer) (old : Walk) (at : Span) (m : OptionalStatement) (first : Stmt)
+    (c : Bor (Option Expr)) (last : Bor (Option Stmt)) (s : Bor Stmt)
     → m ≡ present (statement_of first) → o ≡ outer_at x old → x' ≡ record x { in_head = true }
     → outcome_at x old (for_loop at m (option_map expression_of c.now) (optional_statement (option_map statement_of last.now)) (statement_of s.now))
     ≡ resumed_at o (forms.First c last s) (outcome_at x' (record old { start = o.visible }) (statement_of first))
@@ -175,7 +176,8 @@ enters_bare_for x o old at m c last s m_is o_is =
     ∙ (for_begins_bare (setting_of x) (block_of old) old.used.items old.held at c last s (tree.block tree.nil)
     ∙ ap (λ (p : Outer). after_first_at p tree.absent c last s (record old { start = p.visible })) (sym o_is))
 
-pub goes_to_last : (o : Outer) (x' : Given) (old new : Walk) (first : Option TStmt) (c : Option Expression) (m : OptionalStatement) (last : Stmt) (s : Bor Stmt) (t : Option TExpr)
+pub goes_to_last : (o : Outer) (x' : Given) (old new : Walk) (first : Option TStmt) (c : Option Expression)
+    (m : OptionalStatement) (last : Stmt) (s : Bor Stmt) (t : Option TExpr)
     → m ≡ present (statement_of last) → faults_of_option old.scope roles.Value c ≡ [] → IsMaybeValue c old new t → x' ≡ record o.setting { in_head = true }
     → after_first_at o (typed_maybe first) c m (statement_of s.now) old
     ≡ resumed_at o (forms.Last first t s) (outcome_at x' new (statement_of last))
@@ -186,7 +188,8 @@ goes_to_last o x' old new first c m last s t m_is none value x_is =
     ∙ (ap (resumed_at o (forms.Last first t s)) (noted_part (head (setting_of o.setting)) _ _ old new (statement_of last) value.notes)
     ∙ ap (λ (z : Given). resumed_at o (forms.Last first t s) (outcome_at z new (statement_of last))) (sym x_is)))
 
-pub goes_to_body : (o : Outer) (x' : Given) (old new : Walk) (first : Option TStmt) (c : Option Expression) (m : OptionalStatement) (s : Stmt) (t : Option TExpr)
+pub goes_to_body : (o : Outer) (x' : Given) (old new : Walk) (first : Option TStmt) (c : Option Expression)
+    (m : OptionalStatement) (s : Stmt) (t : Option TExpr)
     → m ≡ absent → faults_of_option old.scope roles.Value c ≡ [] → IsMaybeValue c old new t → x' ≡ record o.setting { in_loop = true; in_head = false }
     → after_first_at o (typed_maybe first) c m (statement_of s) old
     ≡ resumed_at o (forms.For first t None) (outcome_at x' new (statement_of s))

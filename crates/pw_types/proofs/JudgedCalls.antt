@@ -123,7 +123,8 @@ by_callee {us} {p} scope role at es aim c params takes makes h =
     subst (λ o. Whole scope role at es us p o (option_and_then (called at c) (typed_all scope es)) (is_some (typed_all scope es) && option_map_or (λ l. is_other_count l es) o false)) (sym takes)
     (subst (λ t. Whole scope role at es us p (Some params) t (is_some (typed_all scope es) && is_other_count params es)) tree h)
 
-pub whole_call : {us : List ℕ} {p : Judge Valued} (scope : Scope) (role : Role) (at : Span) (f : Expression) (es : Expressions) (aim : Aim) (c : Called) (params : List Ty)
+pub whole_call : {us : List ℕ} {p : Judge Valued} (scope : Scope) (role : Role) (at : Span) (f : Expression)
+    (es : Expressions) (aim : Aim) (c : Called) (params : List Ty)
     → callee_in scope f ≡ c → parameters_of c ≡ Some params → ((ts : TypedExpressions) → called at c ts ≡ Some (call_tree (head role at) aim ts))
     → Whole scope role at es us p (Some params) (call_of role at aim [] (typed_all scope es)) (is_some (typed_all scope es) && is_other_count params es)
     → Judged role (faults_of_arguments scope (parameters_of (callee_in scope f)) es ++ own scope role (phrase.call at f es)) (typed scope (phrase.call at f es)) us p

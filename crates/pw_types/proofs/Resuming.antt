@@ -50,7 +50,8 @@ size_last (g ∷ fs) f = ap (λ n. frame_size g + n) (size_last fs f) ∙ sym (a
 -- ---- turns of the loop
 
 -- w is the outcome of the whole: a part is judged with one frame more
-pub at_part : {w : JudgeResult Valued} (scope : Scope) (fs gs : List ExpressionFrame) (step : ExpressionStep) (used : List ℕ) (f : ExpressionFrame) (role : Role) (e : Bor Expr)
+pub at_part : {w : JudgeResult Valued} (scope : Scope) (fs gs : List ExpressionFrame) (step : ExpressionStep)
+    (used : List ℕ) (f : ExpressionFrame) (role : Role) (e : Bor Expr)
     → w ≡ resume scope fs (continued scope step used) → step ≡ Part f role e → gs ≡ fs ++ f ∷ []
     → w ≡ resume scope gs (checked scope role (expression_of e.now) used)
 at_part scope fs gs step used f role e h is more =
@@ -58,12 +59,14 @@ at_part scope fs gs step used f role e h is more =
     ∙ sym (ap (λ l. resume scope l (checked scope role (expression_of e.now) used)) more ∙ resume_last scope fs f (checked scope role (expression_of e.now) used))
 
 -- another expression is judged instead
-pub at_instead : {w : JudgeResult Valued} (scope : Scope) (fs : List ExpressionFrame) (step : ExpressionStep) (used : List ℕ) (role : Role) (e : Bor Expr)
+pub at_instead : {w : JudgeResult Valued} (scope : Scope) (fs : List ExpressionFrame) (step : ExpressionStep)
+    (used : List ℕ) (role : Role) (e : Bor Expr)
     → w ≡ resume scope fs (continued scope step used) → step ≡ Instead role e → w ≡ resume scope fs (checked scope role (expression_of e.now) used)
 at_instead scope fs step used role e h is = h ∙ ap (λ s. resume scope fs (continued scope s used)) is
 
 -- the innermost frame goes on
-pub at_done : {w : JudgeResult Valued} (scope : Scope) (fs gs : List ExpressionFrame) (step : ExpressionStep) (used : List ℕ) (f : ExpressionFrame) (t : Typed)
+pub at_done : {w : JudgeResult Valued} (scope : Scope) (fs gs : List ExpressionFrame) (step : ExpressionStep)
+    (used : List ℕ) (f : ExpressionFrame) (t : Typed)
     → w ≡ resume scope fs (continued scope step used) → step ≡ Done t → fs ≡ gs ++ f ∷ []
     → w ≡ resume scope gs (resumed scope f (valued t) used)
 at_done scope fs gs step used f t h is less =
@@ -81,7 +84,8 @@ pub goes_on : {w : JudgeResult Valued} (scope : Scope) (fs : List ExpressionFram
     → w ≡ resume scope fs (p old) → ContinuesWith scope p old new (Ok step) → w ≡ resume scope fs (continued scope step new)
 goes_on scope fs p old new step h on = h ∙ ap (resume scope fs) on
 
-pub refusals : (scope : Scope) (fs : List ExpressionFrame) (q p : Judge Valued) (start end old new : List ℕ) (stop : Refusal) (result : Result Typed Refusal)
+pub refusals : (scope : Scope) (fs : List ExpressionFrame) (q p : Judge Valued) (start end old new : List ℕ)
+    (stop : Refusal) (result : Result Typed Refusal)
     → result ≡ Err stop → q start ≡ resume scope fs (p old) → ContinuesWith scope p old new (Err stop) → GivesWith q start end result
 refusals scope fs q p start end old new (stop.Fault f) result is h on =
     let P : Result Typed Refusal → Type 0 = λ r. GivesWith q start end r in

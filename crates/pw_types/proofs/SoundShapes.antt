@@ -26,7 +26,8 @@ use Rattle.pw_types.proofs.SoundStatements.{IsOptionWhole, SoundSet, set_to_loca
 
 -- ---- loops
 
-set_leaves : {x : Setting} {scope : Scope} {at : Span} {name : List ℕ} {i : Option Expression} {e : Expression} {t : TypedStatement} (in_loop : Bool) →
+set_leaves : {x : Setting} {scope : Scope} {at : Span} {name : List ℕ} {i : Option Expression} {e : Expression}
+    {t : TypedStatement} (in_loop : Bool) →
     SoundSet x scope at name i e t → LeavesLoops in_loop t
 unfolding LeavesLoops
 set_leaves in_loop (set_to_local name l e is typed_as few) = tt

@@ -57,7 +57,8 @@ frames_fail (f ∷ fs) w stop is = frames_fail fs (resumed f w) stop (frame_fail
 
 -- ---- each turn
 
-pub part_leads : (whole : WalkResult) (fs fs' : List StatementFrame) (f : StatementFrame) (x : Given) (s : Bor Stmt) (old new : Walk) (step : StatementStep)
+pub part_leads : (whole : WalkResult) (fs fs' : List StatementFrame) (f : StatementFrame) (x : Given) (s : Bor Stmt)
+    (old new : Walk) (step : StatementStep)
     → whole ≡ resume (reverse fs) (of_step (steps.Part f x s) old) → fs' ≡ fs ++ f ∷ [] → Leads (outcome_at x old (statement_of s.now)) new step
     → whole ≡ resume (reverse fs') (of_step step new)
 part_leads whole fs fs' f x s old new step is more leads =

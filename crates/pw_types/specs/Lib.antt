@@ -1,3 +1,5 @@
+-- The types of a unit, in the order to read: what is visible, the typed tree, the rules, the typed unit, all faults of a unit,
+-- the laws, and the messages; last the words of private contracts.
 pub mod Scopes
 pub mod Typed
 pub mod Reserved

@@ -1,3 +1,4 @@
+-- How the checker works: the faults as it meets them, and what each of its steps answers.
 pub mod ExpressionFaults
 pub mod StatementFaults
 pub mod UnitFaults

@@ -15,7 +15,7 @@ pub enum TypeError {
         at: Pos,
         name: Option<Name>,
     },
-    /// Memory was refused.
+    /// Out of memory.
     NoMemory,
 }
 

@@ -20,7 +20,7 @@ pub struct Fault {
 pub enum Refusal {
     /// Its first fault.
     Fault(Fault),
-    /// Memory was refused.
+    /// Out of memory.
     NoMemory,
 }
 

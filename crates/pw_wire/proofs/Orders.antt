@@ -30,7 +30,8 @@ unfolding field
 bytes_are_field n value = low_first_is_le_bytes 0 n value ∙ ap (le_bytes n) (div-one value)
 
 -- what is read, where the bytes are all there
-pub number_is_field : (n off : ℕ) (bytes rest : List ℕ) → rest ≡ drop off bytes → off + n ≤ length bytes → Some (little_from 0 n rest) ≡ field_at n bytes off
+pub number_is_field : (n off : ℕ) (bytes rest : List ℕ) → rest ≡ drop off bytes → off + n ≤ length bytes →
+    Some (little_from 0 n rest) ≡ field_at n bytes off
 unfolding first_field
 number_is_field n off bytes rest is long =
     let enough = le-leb (0 + n) (length (drop off bytes)) (omega (arith, length-drop off bytes)) in

@@ -1,7 +1,7 @@
 //! Little-endian fields of 2, 4 and 8 bytes, read at an offset and appended (gABI, "Data Encoding", ELFDATA2LSB).
 //!
 //! A reader answers `None` exactly where the field passes the end, and takes no memory. A writer leaves the vector as it was
-//! where memory is refused.
+//! where memory runs out.
 #![tactic(auto)]
 
 mod read;

@@ -5,7 +5,7 @@ ghost use Rattle.pw_base.specs.Field.{field};
 use byteorder::{ByteOrder, LittleEndian};
 use pw_base::NoMemory;
 
-/// Appends the 2 bytes of the number; where memory is refused, nothing.
+/// Appends the 2 bytes of the number; where memory runs out, nothing.
 pub fn put_u16(to: &mut Vec<u8>, n: u16) -> Result<(), NoMemory>
     ensures ok { OnOk result (to.new.items ≡ to.old.items ++ field 2 n) }
     ensures err { OnErr result (to.new.items ≡ to.old.items) }
@@ -16,7 +16,7 @@ pub fn put_u16(to: &mut Vec<u8>, n: u16) -> Result<(), NoMemory>
     Ok(())
 }
 
-/// Appends the 4 bytes of the number; where memory is refused, nothing.
+/// Appends the 4 bytes of the number; where memory runs out, nothing.
 pub fn put_u32(to: &mut Vec<u8>, n: u32) -> Result<(), NoMemory>
     ensures ok { OnOk result (to.new.items ≡ to.old.items ++ field 4 n) }
     ensures err { OnErr result (to.new.items ≡ to.old.items) }
@@ -27,7 +27,7 @@ pub fn put_u32(to: &mut Vec<u8>, n: u32) -> Result<(), NoMemory>
     Ok(())
 }
 
-/// Appends the 8 bytes of the number; where memory is refused, nothing.
+/// Appends the 8 bytes of the number; where memory runs out, nothing.
 pub fn put_u64(to: &mut Vec<u8>, n: u64) -> Result<(), NoMemory>
     ensures ok { OnOk result (to.new.items ≡ to.old.items ++ field 8 n) }
     ensures err { OnErr result (to.new.items ≡ to.old.items) }

@@ -3,6 +3,7 @@ use Rattle.std.specs.Prelude.{◌≡◌, ℕ, suc, ◌+◌, ◌<◌, ◌≤◌, 
 use Rattle.pw_base.specs.Limits.{function_tokens, parameters}
 use Rattle.pw_isa.specs.declared.instruction.Inst.TheVariants.{Ld, Addi, Slli, Add, Jalr, Bne}
 use Rattle.pw_isa.specs.Registers.{x0, ra, sp, t0, a0}
+use Rattle.pw_isa.specs.EnvironmentCalls.{null_call_fault}
 use Rattle.pw_tree.specs.declared.operator.Bin.{Bin}
 use Rattle.pw_tree.specs.declared.operator.Bin.TheVariants.{AndAnd, OrOr}
 use Rattle.pw_tree.specs.declared.ty.Ref.{Ref}
@@ -12,7 +13,7 @@ use Rattle.pw_tree.specs.WellTypedExpressions.{Throughout, ThroughoutAll, expres
 use Rattle.pw_code.specs.declared.frame.Frame.{Frame}
 use Rattle.pw_code.specs.Items.{CodePart, instruction, address}
 use Rattle.pw_code.specs.Frames.{held_slot}
-use Rattle.pw_code.specs.Pieces.{skip, unless_zero, unless_nonzero, past, fault, null_call_fault, check_index, truth_code, hold, load_held}
+use Rattle.pw_code.specs.Pieces.{skip, unless_zero, unless_nonzero, past, fault, check_index, truth_code, hold, load_held}
 use Rattle.pw_code.specs.ExpressionCode.{expression_words, expression_code, operator_code, right_slot}
 use Rattle.pw_code.specs.Bounds.{HasSmallOperands, HasShortCode}
 use Rattle.pw_genexpr.specs.declared.operators.Logical.{Logical}

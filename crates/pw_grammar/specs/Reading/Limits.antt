@@ -28,6 +28,7 @@ pub record Walk : Type 0 where
 abbrev pub is_inside : Walk → Token → Bool
 is_inside w t = w.in_body || (is_same (sort t) s.LeftBrace && w.depth == 0 && w.behind_list)
 
+-- whether the token stands in a body after as many others of its function as there may be
 abbrev pub is_late : Walk → Token → Bool
 is_late w t = is_inside w t && nat_le (w.start + function_tokens) w.at
 
@@ -35,9 +36,11 @@ is_late w t = is_inside w t && nat_le (w.start + function_tokens) w.at
 abbrev pub is_last : Walk → Token → Bool
 is_last w t = bracket w.depth t == 0 && (is_same (sort t) s.Semicolon || (is_same (sort t) s.RightBrace && w.in_body))
 
+-- a declaration begins with the token of this number
 abbrev pub anew : ℕ → Walk
 anew at = record { at = at; depth = 0; start = at; in_body = false; behind_list = false }
 
+-- the same declaration goes on after the token
 abbrev pub onward : Walk → Token → Walk
 onward w t = record {
   at = suc w.at;
@@ -47,6 +50,7 @@ onward w t = record {
   behind_list = is_same (sort t) s.RightParen && bracket w.depth t == 0;
 }
 
+-- where the next token stands
 unfoldable pub step : Walk → Token → Walk
 step w t = if is_last w t then anew (suc w.at) else onward w t
 

@@ -17,30 +17,36 @@ use Rattle.pw_tree.specs.declared.stmt.StmtKind.TheVariants as k
 
 -- ---- types
 
+-- this type, if it is one
 abbrev pub type_by : Option Ty → Parser Ty
 type_by None = refuse
 type_by (Some x) = do
   line ← skip
   pure x
 
+-- `unsigned long`
 unfoldable pub unsigned_long : Parser Ty
 unsigned_long = do
   u ← skip
   l ← expect s.Long
   pure Ulong
 
+-- a type
 unfoldable pub type_name : Parser Ty
 type_name = λ i. if sees s.Unsigned i then unsigned_long i else type_by (type_of_keyword (next_sort i)) i
 
+-- whether a value is there
 abbrev pub is_some : {A : Type 0} → Option A → Bool
 is_some None = false
 is_some (Some a) = true
 
+-- whether a type begins with this symbol
 unfoldable pub begins_type : Sort → Bool
 begins_type x = is_same x s.Unsigned || is_some (type_of_keyword x)
 
 -- ---- parts that may be left out
 
+-- `= e`
 unfoldable pub value : Parser Expr → Parser (Option Expr)
 value expr = do
   o ← skip
@@ -51,6 +57,7 @@ value expr = do
 unfoldable pub maybe_value : Parser Expr → Parser (Option Expr)
 maybe_value expr = either s.Assign (value expr) (pure None)
 
+-- what this reader reads, which is there
 unfoldable pub some : {A : Type 0} → Parser A → Parser (Option A)
 some p = do
   a ← p
@@ -62,6 +69,7 @@ maybe_before x p = either x (pure None) (some p)
 
 -- ---- locals and assignments
 
+-- a local's declaration
 unfoldable pub local : Parser Expr → Parser Stmt
 local expr = do
   first ← here
@@ -77,21 +85,25 @@ abbrev pub unbracketed_word : ℕ → ℕ → ExprKind-F ExprKind Expr → Optio
 unbracketed_word first at (ExprKind-F.Word x) = if at == first then Some x else None
 unbracketed_word first at _ = None
 
+-- the name that an expression is, if no brackets stand round it
 abbrev pub word_of : ℕ → Expr → Option (List ℕ)
 word_of first a = unbracketed_word first (out-Expr a).first (out-ExprKind (out-Expr a).kind)
 
+-- a name, if it is one, with an index or without
 abbrev pub with_index : Option Expr → Option (List ℕ) → Option (List ℕ × Option Expr)
 with_index x None = None
 with_index x (Some name) = Some (name, x)
 
+-- a name or an element of an array, if the expression is one without brackets round it
 abbrev pub target_of : ℕ → Expr → ExprKind-F ExprKind Expr → Option (List ℕ × Option Expr)
 target_of first a (ExprKind-F.Index base x) = if (out-Expr a).first == first then with_index (Some x) (word_of first base) else None
 target_of first a _ = with_index None (word_of first a)
 
--- the name, or the name and the index, that an expression assigns to where it stands at the front of a statement
+-- the name, or the name and the index, that an expression assigns to where it stands at the beginning of a statement
 unfoldable pub target : ℕ → Expr → Option (List ℕ × Option Expr)
 target first a = target_of first a (out-ExprKind (out-Expr a).kind)
 
+-- `= e` after what is assigned to
 abbrev pub assigned : Parser Expr → Option (List ℕ × Option Expr) → Parser StmtKind
 assigned expr None = refuse
 assigned expr (Some to) = do
@@ -99,12 +111,14 @@ assigned expr (Some to) = do
   a ← expr
   pure (k.Set to.0 to.1 a)
 
+-- an assignment or an expression
 unfoldable pub simple : Parser Expr → Parser StmtKind
 simple expr = do
   first ← here
   a ← expr
   either s.Assign (assigned expr (target first a)) (pure (k.Eval a))
 
+-- an assignment or an expression as a statement
 unfoldable pub simple_statement : Parser Expr → Parser Stmt
 simple_statement expr = do
   first ← here
@@ -114,15 +128,18 @@ simple_statement expr = do
 
 -- ---- statements
 
+-- a local's declaration or a statement
 unfoldable pub element : Parser Expr → Parser Stmt → Parser Stmt
 element expr stmt = λ i. if begins_type (next_sort i) then local expr i else stmt i
 
+-- what stands in a block, up to its `}`
 unfoldable pub elements : Parser Expr → Parser Stmt → ℕ → List Stmt → Parser (List Stmt)
 elements expr stmt zero found = pure found
 elements expr stmt (suc n) found = either s.RightBrace (pure found) (do
   y ← element expr stmt
   elements expr stmt n (found ++ y ∷ []))
 
+-- `{ .. }`
 unfoldable pub block : Parser Expr → Parser Stmt → ℕ → Parser StmtKind
 block expr stmt n = do
   o ← skip
@@ -138,15 +155,18 @@ test expr = do
   c ← expect s.RightParen
   pure a
 
+-- `else` and its statement
 unfoldable pub alternative : Parser Stmt → Parser (Option Stmt)
 alternative stmt = do
   o ← skip
   y ← stmt
   pure (Some y)
 
+-- `else` and its statement, if it comes next
 unfoldable pub maybe_else : Parser Stmt → Parser (Option Stmt)
 maybe_else stmt = either s.Else (alternative stmt) (pure None)
 
+-- `if`, with `else` or without
 unfoldable pub conditional : Parser Expr → Parser Stmt → Parser StmtKind
 conditional expr stmt = do
   o ← skip
@@ -155,6 +175,7 @@ conditional expr stmt = do
   n ← maybe_else stmt
   pure (k.If a y n)
 
+-- `while ( e )` and its body
 unfoldable pub while_loop : Parser Expr → Parser Stmt → Parser StmtKind
 while_loop expr stmt = do
   o ← skip
@@ -162,6 +183,7 @@ while_loop expr stmt = do
   y ← stmt
   pure (k.While a y)
 
+-- `do`, its body, and `while ( e ) ;`
 unfoldable pub do_loop : Parser Expr → Parser Stmt → Parser StmtKind
 do_loop expr stmt = do
   o ← skip
@@ -171,21 +193,25 @@ do_loop expr stmt = do
   e ← expect s.Semicolon
   pure (k.Do y a)
 
+-- the first part of a `for` that has none: its `;`
 unfoldable pub no_start : Parser (Option Stmt)
 no_start = do
   e ← skip
   pure None
 
+-- the first part of a `for`, where it declares nothing
 unfoldable pub simple_start : Parser Expr → Parser (Option Stmt)
 simple_start expr = do
   a ← simple_statement expr
   e ← expect s.Semicolon
   pure (Some a)
 
+-- the first part of a `for`
 unfoldable pub start : Parser Expr → Parser (Option Stmt)
 start expr = λ i. if sees s.Semicolon i then no_start i
     else (if begins_type (next_sort i) then some (local expr) i else simple_start expr i)
 
+-- `for`, with its parts and its body
 unfoldable pub for_loop : Parser Expr → Parser Stmt → Parser StmtKind
 for_loop expr stmt = do
   t ← skip
@@ -198,6 +224,7 @@ for_loop expr stmt = do
   y ← stmt
   pure (k.For first a last y)
 
+-- `return`, with a value or without
 unfoldable pub leave : Parser Expr → Parser StmtKind
 leave expr = do
   o ← skip
@@ -212,17 +239,20 @@ jump kind = do
   e ← expect s.Semicolon
   pure kind
 
+-- `;`
 unfoldable pub empty : Parser StmtKind
 empty = do
   e ← skip
   pure k.Empty
 
+-- an assignment or an expression, and `;`
 unfoldable pub evaluated : Parser Expr → Parser StmtKind
 evaluated expr = do
   a ← simple expr
   e ← expect s.Semicolon
   pure a
 
+-- the form of a statement, by its first symbol
 abbrev pub form_by : Parser Expr → Parser Stmt → ℕ → Sort → Parser StmtKind
 form_by expr stmt n s.Semicolon = empty
 form_by expr stmt n s.LeftBrace = block expr stmt n
@@ -235,9 +265,11 @@ form_by expr stmt n s.Break = jump k.Break
 form_by expr stmt n s.Continue = jump k.Continue
 form_by expr stmt n _ = evaluated expr
 
+-- the form of a statement
 unfoldable pub form : Parser Expr → Parser Stmt → ℕ → Parser StmtKind
 form expr stmt n = λ i. form_by expr stmt n (next_sort i) i
 
+-- a statement
 unfoldable pub whole : Parser Expr → Parser Stmt → ℕ → Parser Stmt
 whole expr stmt n = do
   first ← here
@@ -245,6 +277,7 @@ whole expr stmt n = do
   kind ← form expr stmt n
   finish_statement first line kind
 
+-- a statement, with statements in it nested fewer than so many deep
 unfoldable pub statement : ℕ → Parser Stmt
 statement zero = refuse
 statement (suc n) = whole (expression (suc n)) (statement n) (suc n)

@@ -32,10 +32,12 @@ abbrev pub judged_by : SyntaxError → ReadResult (List Decl) → Result (List D
 judged_by limit (Ok p) = Err limit
 judged_by limit (Err fault) = Err (if nat_le (token_of fault) (token_of limit) then fault else limit)
 
+-- the declarations that were read, or the fault
 abbrev pub value_of : ReadResult (List Decl) → Result (List Decl) SyntaxError
 value_of (Ok p) = Ok p.0
 value_of (Err fault) = Err fault
 
+-- the answer, by the first token that passes a limit, if any
 abbrev pub judged : Option SyntaxError → ReadResult (List Decl) → Result (List Decl) SyntaxError
 judged None outcome = value_of outcome
 judged (Some limit) outcome = judged_by limit outcome

@@ -1,5 +1,6 @@
 -- One instruction at a time: what it takes from an input that may have come to its end, what it appends to an output, and how it moves the run on.
-use Rattle.std.specs.Prelude.{◌≡◌, ℕ, Bool, true, List, [], ◌∷◌, ◌++◌, Option, Some, None}
+use Rattle.std.specs.Prelude.{◌≡◌, ℕ, Bool, true, List, [], ◌∷◌, ◌++◌, Option, Some, None, IfSome}
+use Rattle.pw_base.specs.Bytes.{AreBytes}
 use Rattle.pw_isa.specs.declared.instruction.Inst.TheVariants.{Ecall}
 use Rattle.pw_isa.specs.Registers.{a7}
 use Rattle.pw_isa.specs.EnvironmentCalls.{input_call, output_call}
@@ -29,14 +30,16 @@ pub record Ports : Type 0 where
   pub used_up : Bool
   pub out : SinkState
 
--- these bytes may be what is left in an input, which came to its end before or did not
-pub record CanBeLeft (input : SourceState) (used_up : Bool) (bytes : List ℕ) : Type 0 where
-  pub is_left : IsLeft bytes input
-  pub none : used_up ≡ true → bytes ≡ []
+-- these numbers may be what is left in an input, which came to its end before or did not: bytes, where those that are reported are
+pub record CanBeLeft (input : SourceState) (used_up : Bool) (left : List ℕ) : Type 0 where
+  pub is_left : IsLeft left input
+  pub none : used_up ≡ true → left ≡ []
+  pub bytes : IfSome input.left AreBytes → AreBytes left
 
 -- what an instruction does with bytes that were taken from the input and appended to the output, whatever is left in the
 -- input after them and was put before
-pub record Uses (instruction : MachineState → Next) (old : Ports) (hart : Hart) (mem : Mem) (new : Ports) (hart' : Hart) (mem' : Mem) (next : MachineState → Next) : Type 0 where
+pub record Uses (instruction : MachineState → Next) (old : Ports) (hart : Hart) (mem : Mem) (new : Ports)
+    (hart' : Hart) (mem' : Mem) (next : MachineState → Next) : Type 0 where
   pub taken : List ℕ
   pub put : List ℕ
   pub input : new.input ≡ after taken old.input

@@ -60,9 +60,11 @@ abbrev pub faults_of_declarator : Option File → ℕ → Declaration → List F
 faults_of_declarator before elements d =
     broken_by rules.Conflict d.declarator d.name (conflicts d before) ++ broken rules.ArraySize d.declarator (is_too_large elements d)
 
+-- the faults of the parameters of a declaration
 abbrev pub faults_in_parameters : DeclarationForm → List Fault
 faults_in_parameters form = faults_of_parameters (is_definition_of_function form) [] (parameters_in form)
 
+-- the faults of a declaration up to the end of its declarator
 abbrev pub faults_of_head : List File → ℕ → Declaration → List Fault
 faults_of_head files elements d =
     faults_of_name (file_named d.name files) d
@@ -119,11 +121,13 @@ function_with d sig body = record {
 abbrev pub variable_with : Declaration → Ty → Option ℕ → Option (List Init) → TVar
 variable_with d ty size init = record { name = d.name; global = is_external d.linkage; ty = ty; count = size; init = init }
 
+-- the function that was defined, if one was
 abbrev pub functions_in : Defined → List Function
 functions_in Nothing = []
 functions_in (AFunction f) = typed_function_of f ∷ []
 functions_in (AVariable v) = []
 
+-- the variable that was defined, if one was
 abbrev pub variables_in : Defined → List TVar
 variables_in Nothing = []
 variables_in (AFunction f) = []

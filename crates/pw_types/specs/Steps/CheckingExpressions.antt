@@ -34,6 +34,7 @@ pub record Valued : Type 0 where
   pub tree : TypedExpression
   pub held : ℕ
 
+-- a number of held values, or one more than the limit
 abbrev pub capped : ℕ → ℕ
 capped n = min n (suc limits.held_values)
 
@@ -41,6 +42,7 @@ capped n = min n (suc limits.held_values)
 abbrev pub head : Role → Span → Head
 head role at = record { role = role; last = at.last; line = at.line }
 
+-- the mark of an expression of this type
 abbrev pub mark_under : Head → Ty → Mark
 mark_under h ty = record { ty = ty; line = h.line }
 
@@ -50,10 +52,12 @@ fault_under h rule = record { rule = rule; at = h.last; name = None }
 
 -- ---- what a place asks of an expression that has a type
 
+-- a value of the type does not convert to the type that is wanted, if one is
 abbrev pub does_not_become : Option Ty → Ty → Bool
 does_not_become None ty = false
 does_not_become (Some to) ty = not (converts ty to)
 
+-- the place is that of an argument, to which the type does not convert
 abbrev pub is_other_argument : Role → Ty → Bool
 is_other_argument (Argument want) ty = does_not_become want ty
 is_other_argument Written ty = is_pointer ty
@@ -63,6 +67,7 @@ is_other_argument Callee ty = false
 is_other_argument Base ty = false
 is_other_argument (Assigned want) ty = false
 
+-- the place is that of an assigned value, to which the type does not convert
 abbrev pub is_other_value : Role → Ty → Bool
 is_other_value (Assigned want) ty = does_not_become want ty
 is_other_value Statement ty = false
@@ -87,10 +92,12 @@ first_rule role other_count ty =
     (rule_where rules.NotArray (is_base role)
     (rule_where rules.AssignType (is_other_value role ty) None)))))
 
+-- an expression whose parts are judged, unless it breaks a rule of its place; whether it is a call with another number of arguments
 abbrev pub finished_by : Head → Bool → Valued → Judge Valued
 finished_by h other_count v =
     on_option (first_rule h.role other_count (type_of v.tree)) (pure v) (λ rule. refuse (fault_under h rule))
 
+-- an expression that is no call, unless it breaks a rule of its place
 abbrev pub finished : Head → Valued → Judge Valued
 finished h v = finished_by h false v
 
@@ -107,27 +114,34 @@ array_rule Base = rules.NotArray
 array_rule Written = rules.NeedsIndex
 array_rule (Assigned want) = rules.NeedsIndex
 
+-- the rule that a function's name breaks which has no value
 abbrev pub function_rule : Role → Rule
 function_rule role = if is_base role then rules.NotArray else rules.NotValue
 
+-- an expression without parts
 abbrev pub leaf : Head → TypedExpression → Judge Valued
 leaf h t = finished h (record { tree = t; held = 0 })
 
+-- a function's name, by the pointer type that fits it, if one does
 abbrev pub function_value : Scope → Head → File → Option Ty → Judge Valued
 function_value scope h f None = refuse (fault_under h (function_rule h.role))
 function_value scope h f (Some ty) = leaf h (tree.designator (mark_under h ty) (function_reference scope f))
 
+-- a variable's name, which is no array's where it is a value
 abbrev pub variable_value : Scope → Head → File → Ty → Option ℕ → Judge Valued
 variable_value scope h f ty None = leaf h (tree.variable (mark_under h ty) (variable_reference scope f))
 variable_value scope h f ty (Some size) = refuse (fault_under h (array_rule h.role))
 
+-- a name that is declared at file scope
 abbrev pub file_value : Scope → Head → File → Kind → Judge Valued
 file_value scope h f (Function sig) = function_value scope h f (pointer_to sig)
 file_value scope h f (Variable ty size) = variable_value scope h f ty size
 
+-- a local's name
 abbrev pub local_value : Head → Ty → ℕ → Judge Valued
 local_value h ty number = leaf h (tree.local (mark_under h ty) number)
 
+-- a name, by what it means
 abbrev pub named_value : Scope → Head → List ℕ → Meaning → Judge Valued
 named_value scope h name missing = refuse (record { rule = rules.Unknown; at = h.last; name = Some name })
 named_value scope h name (a_local l) = local_value h l.ty l.number
@@ -135,9 +149,11 @@ named_value scope h name (declared f) = noting (file_number f.name scope.files �
 
 -- ---- forms without parts
 
+-- a constant
 abbrev pub constant_value : Head → ℕ → Bool → Judge Valued
 constant_value h value unsigned = leaf h (tree.constant (mark_under h (constant_type unsigned)) value)
 
+-- `__in()`
 abbrev pub input_value : Head → Judge Valued
 input_value h = leaf h (tree.input (mark_under h Long))
 
@@ -147,31 +163,37 @@ input_value h = leaf h (tree.input (mark_under h Long))
 abbrev pub of_type : {A : Type 0} → Head → Option A → (A → Valued) → Judge Valued
 of_type h ty v = on_option ty (refuse (fault_under h rules.Operands)) (λ a. finished h (v a))
 
+-- an expression of a unary operator
 abbrev pub unary_operation_value : Head → Un → Valued → Judge Valued
 unary_operation_value h op e =
     of_type h (unary_type op (type_of e.tree)) (λ ty. record { tree = tree.unary (mark_under h ty) op e.tree; held = e.held })
 
+-- an expression of a binary operator
 abbrev pub binary_operation_value : Head → Bin → Valued → Valued → Judge Valued
 binary_operation_value h op l r = of_type h (binary_type op (type_of l.tree) (type_of r.tree)) (λ o. record {
   tree = tree.binary (mark_under h o.ty) op o.unsigned l.tree r.tree;
   held = capped (held_both (holds_left op) l.held r.held);
 })
 
+-- a choice
 abbrev pub choice_value : Head → Valued → Valued → Valued → Judge Valued
 choice_value h c a b = of_type h (choice_type (type_of a.tree) (type_of b.tree)) (λ ty. record {
   tree = tree.conditional (mark_under h ty) c.tree a.tree b.tree;
   held = max c.held (max a.held b.held);
 })
 
+-- the type of an element, where the index is a number
 abbrev pub element_type : Array → Ty → Option Ty
 element_type a ty = if is_number ty then Some a.ty else None
 
+-- an element of an array
 abbrev pub element_value : Head → Array → Valued → Judge Valued
 element_value h a i = of_type h (element_type a (type_of i.tree)) (λ ty. record {
   tree = tree.element (mark_under h ty) a.reference a.size i.tree;
   held = i.held;
 })
 
+-- `__out` of an expression
 abbrev pub output_value : Head → Valued → Judge Valued
 output_value h e = finished h (record { tree = tree.output (mark_under h Void) e.tree; held = e.held })
 
@@ -193,6 +215,7 @@ pub record Taken : Type 0 where
   pub trees : List TypedExpression
   pub held : ℕ
 
+-- no argument yet
 abbrev pub none_taken : Taken
 none_taken = record { trees = []; held = 0 }
 
@@ -203,20 +226,25 @@ taking taken v = record {
   held = max taken.held (capped (length taken.trees + max v.held 1));
 }
 
+-- the typed tree of a call
 abbrev pub call_tree : Head → Aim → TypedExpressions → TypedExpression
 call_tree h (named f ty) es = tree.call (mark_under h ty) f es
 call_tree h (through v) es = tree.call_pointer (mark_under h Long) v.tree es
 
+-- how many values a call holds: a callee that is evaluated comes after the arguments
 abbrev pub call_held : Aim → Taken → ℕ
 call_held (named f ty) taken = taken.held
 call_held (through v) taken = max taken.held (capped (length taken.trees + v.held))
 
+-- a call with all of its arguments
 abbrev pub called : Aim → Head → Taken → Valued
 called aim h taken = record { tree = call_tree h aim (typed_expressions taken.trees); held = call_held aim taken }
 
+-- a call whose arguments are judged
 abbrev pub call_value : Calling → Taken → Judge Valued
 call_value c taken = finished_by c.head c.other_count (called c.aim c.head taken)
 
+-- a call of a callee that takes parameters of these types
 abbrev pub calling : Head → Aim → List Ty → Expressions → Calling
 calling h aim params es = record { head = h; aim = aim; other_count = not (nat_eq (length params) (how_many es)) }
 
@@ -231,18 +259,22 @@ pointer_parameters Ulong = None
 abbrev pub After : Type 0
 After = Calling → List Ty → Judge Valued
 
+-- a call of a function by its name
 abbrev pub direct_call : Head → Expressions → After → Designated → Judge Valued
 direct_call h es after d = after (calling h (named d.reference d.sig.result) d.sig.params es) d.sig.params
 
+-- a call through a value, which has to be a pointer
 abbrev pub pointer_call : Head → Expressions → After → Valued → Judge Valued
 pointer_call h es after v = on_option (pointer_parameters (type_of v.tree)) (refuse (fault_under h rules.NotCallable))
     (λ k. after (calling h (through v) (replicate k Long) es) (replicate k Long))
 
 -- ---- all forms
 
+-- the place of the first of the arguments that are left
 abbrev pub first_wanted : List Ty → Role
 first_wanted params = Argument (first_parameter (Some params))
 
+-- the types that the arguments after it have to convert to
 abbrev pub others_wanted : List Ty → List Ty
 others_wanted [] = []
 others_wanted (ty ∷ tys) = tys

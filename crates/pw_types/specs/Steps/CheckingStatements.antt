@@ -58,6 +58,7 @@ judged c b used most = record { faults = []; typed = c; used = used; held = most
 abbrev pub leave : ℕ → ℕ → Block → Block
 leave start visible b = record b { scope = record b.scope { locals = take visible b.scope.locals }; start = start }
 
+-- where what follows several statements stands
 unfoldable pub after_all : Statements → Block → Block
 after_all nil b = b
 after_all (cons s ss) b = after_all ss (after s b)
@@ -150,12 +151,15 @@ resumed_form x out (forms.Last first c s) w =
 resumed_form x out (forms.For first c last) w =
     closed out (tree.for_loop (typed_maybe first) (option_map typed_expression_of c) (typed_maybe last) w.typed) w
 
+-- the setting, as a plain value
 abbrev pub setting_of : Given → Setting
 setting_of x = record { result = x.result; lines = x.lines.now; in_loop = x.in_loop; in_head = x.in_head }
 
+-- what a statement comes to whose part comes to `w`, by what stands round the statement
 abbrev pub resumed_at : Outer → StatementForm → WalkResult → WalkResult
 resumed_at o form w = resumed_form (setting_of o.setting) (leave o.start o.visible) form w
 
+-- what it comes to, by the frame that waits
 abbrev pub resumed : StatementFrame → WalkResult → WalkResult
 resumed f w = resumed_at f.outer f.form w
 
@@ -166,9 +170,11 @@ resume (f ∷ fs) w = resume fs (resumed f w)
 
 -- ---- what judging answers
 
+-- the span, as a plain value
 abbrev pub span_of_statement : StatementSpan → Span
 span_of_statement at = record { first = at.first; last = at.last; line = at.line }
 
+-- where a statement stands in this state
 abbrev pub block_of : Walk → Block
 block_of w = record { scope = w.scope; start = w.start; count = w.count }
 
@@ -180,6 +186,7 @@ outcome_at x w s = outcome (setting_of x) (block_of w) w.used.items w.held s
 abbrev pub outer_at : Given → Walk → Outer
 outer_at x w = record { setting = x; start = w.start; visible = length w.scope.locals }
 
+-- a typed statement, in this state
 abbrev pub judged_at : TypedStatement → Walk → WalkResult
 judged_at c w = judged c (block_of w) w.used.items w.held
 
@@ -210,6 +217,7 @@ abbrev pub of_step : StatementStep → Walk → WalkResult
 of_step (steps.Part f x s) w = resumed f (outcome_at x w (statement_of s.now))
 of_step (steps.Done t) w = judged_at (tree.typed_statement_of t) w
 
+-- the answer is that of this step, in this state
 abbrev pub Leads : WalkResult → Walk → StatementStep → Type 0
 Leads w new step = w ≡ of_step step new
 
@@ -235,6 +243,7 @@ pub record Sequence : Type 0 where
   pub held : ℕ
   pub count : ℕ
 
+-- what several statements come to, after those that are done
 abbrev pub sequence : Setting → Block → List ℕ → ℕ → List TypedStatement → Statements → Sequence
 sequence x b used most done ss = record {
   faults = faults_by_all x b ss;
@@ -244,6 +253,7 @@ sequence x b used most done ss = record {
   count = b.count + locals_in_all ss;
 }
 
+-- the same from this state on
 abbrev pub sequence_at : Given → Walk → List TStmt → Statements → Sequence
 sequence_at x w done ss = sequence (setting_of x) (block_of w) w.used.items w.held (map tree.typed_statement_of done) ss
 

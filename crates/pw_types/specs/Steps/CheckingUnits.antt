@@ -60,6 +60,7 @@ pub record IsAll (w : Whole) (ds : List Declaration) (p : Progress) : Type 0 whe
 abbrev pub faults_of_all : UntypedUnit → List Fault
 faults_of_all u = faults_of_declarations (whole_of u) [] 0 u.declarations
 
+-- the faults of the whole unit
 abbrev pub faults_at_end : UntypedUnit → List Fault
 faults_at_end u = faults_of_lacking (length u.lines - 1) (find lacks_definition (files_after [] u.declarations))
 

@@ -25,6 +25,7 @@ pub record IsTypedTree (scope : Scope) (e : Expression) (old new : List ℕ) (t 
   pub held : t.held ≡ min (held (typed_expression_of t.tree)) (suc limits.held_values)
   pub used : new ≡ old ++ uses scope e
 
+-- the typed tree of an expression, or its first fault
 abbrev pub JudgesExpression : Scope → Role → Expression → (old new : List ℕ) → Result Typed Refusal → Type 0
 JudgesExpression scope role e old new = Judges (faults scope role e) (IsTypedTree scope e old new)
 
@@ -35,5 +36,6 @@ pub record IsTypedBody (x : Setting) (b : Block) (ss : Statements) (old new : Li
   pub count : body.count ≡ b.count + locals_in_all ss
   pub used : new ≡ old ++ uses_by_all b ss
 
+-- the typed statements of a body, or its first fault
 abbrev pub JudgesBody : Setting → Block → Statements → (old new : List ℕ) → Result Body Refusal → Type 0
 JudgesBody x b ss old new = Judges (faults_by_all x b ss) (IsTypedBody x b ss old new)

@@ -3,6 +3,7 @@ use Rattle.std.specs.Prelude.{◌≡◌, Option, option_map}
 use Rattle.pw_types.specs.declared.types.Operation as rust
 use Rattle.pw_tree.specs.Types.{Operation}
 
+-- an operation, as a plain value
 abbrev pub operation_of : rust.Operation → Operation
 operation_of o = record { ty = o.ty; unsigned = o.unsigned }
 

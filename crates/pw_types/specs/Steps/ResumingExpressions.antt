@@ -29,22 +29,28 @@ use Rattle.pw_types.specs.Steps.CheckingExpressions.{Valued, Aim, named, through
 
 -- ---- plain values
 
+-- a typed expression
 abbrev pub valued : Typed → Valued
 valued t = record { tree = typed_expression_of t.tree; held = t.held }
 
+-- an array
 abbrev pub plain_array : rust_array.Array → Array
 plain_array a = record { reference = a.reference; ty = a.ty; size = a.size }
 
+-- what is called
 abbrev pub aim_of : CallTarget → Aim
 aim_of (Direct f ty) = named f ty
 aim_of (Through t) = through (valued t)
 
+-- a call
 abbrev pub calling_of : Call → Calling
 calling_of c = record { head = c.head; aim = aim_of c.target; other_count = c.other_count }
 
+-- arguments that were judged
 abbrev pub taken_of : Arguments → Taken
 taken_of a = record { trees = map typed_expression_of a.trees; held = a.held }
 
+-- the types of the parameters that are left
 abbrev pub listed : Parameters → List Ty
 listed (Listed tys) = tys.now
 listed (Longs k) = replicate k Long
@@ -55,10 +61,11 @@ listed (Longs k) = replicate k Long
 abbrev pub begun : Scope → Head → Aim → List Ty → Expressions → Judge Valued
 begun scope h aim params es = checked_arguments scope (calling h aim params es) none_taken params es
 
--- a call whose callee is a function's name, and one through a pointer
+-- a call of a function by its name, from its first argument on
 abbrev pub direct_call_from : Scope → Head → Designated → Expressions → Judge Valued
 direct_call_from scope h d es = direct_call h es (λ c params. checked_arguments scope c none_taken params es) d
 
+-- a call through a pointer, from its first argument on
 abbrev pub pointer_call_from : Scope → Head → Expressions → Valued → Judge Valued
 pointer_call_from scope h es v = pointer_call h es (λ c params. checked_arguments scope c none_taken params es) v
 
@@ -131,6 +138,7 @@ ContinuesWith scope p old new (Err refusals.NoMemory) = ⊤
 -- ---- how much is still to be done
 
 unfoldable mutual
+  -- of an expression
   pub size : Expression → ℕ
   size (constant at value unsigned) = 1
   size (word at name) = 1
@@ -142,10 +150,12 @@ unfoldable mutual
   size (input at) = 1
   size (output at e) = 2 + size e
 
+  -- of several expressions
   pub sizes : Expressions → ℕ
   sizes nil = 0
   sizes (cons e es) = 2 + (size e + sizes es)
 
+-- of a frame that waits
 abbrev pub frame_size : ExpressionFrame → ℕ
 frame_size (Operand h op) = 1
 frame_size (Left h op r) = 2 + size (expression_of r.now)
@@ -158,11 +168,13 @@ frame_size (Argument c taken params rest) = 1 + sizes (expressions_of rest.now)
 frame_size (Index h a) = 1
 frame_size (Written h) = 1
 
+-- of a step
 abbrev pub step_size : ExpressionStep → ℕ
 step_size (Part frame role e) = frame_size frame + size (expression_of e.now)
 step_size (Instead role e) = size (expression_of e.now)
 step_size (Done t) = 0
 
+-- of several frames
 unfoldable pub frames_size : List ExpressionFrame → ℕ
 frames_size [] = 0
 frames_size (f ∷ fs) = frame_size f + frames_size fs

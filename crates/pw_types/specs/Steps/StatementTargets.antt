@@ -68,9 +68,11 @@ abbrev pub faults_of_index : Scope → Span → Expression → List Fault
 faults_of_index scope at i =
     faults scope roles.Value i ++ broken rules.Operands (index_end at i) (has_type (λ t. not (is_number t)) (typed scope i))
 
+-- the index of a target, or its first fault
 abbrev pub JudgesIndex : Span → Expression → (old new : Walk) → Result Typed Refusal → Type 0
 JudgesIndex at i old new = Judges (faults_of_index old.scope at i) (IsIndex i old new)
 
+-- the value that an element is assigned, and the names that it uses
 pub record IsElementValue (beside : ℕ) (e : Expression) (old new : Walk) (t : TExpr) : Type 0 where
   pub tree : typed old.scope e ≡ Some (typed_expression_of t)
   pub notes : Notes (uses old.scope e) (max beside (1 + held (typed_expression_of t))) old new
@@ -79,6 +81,7 @@ pub record IsElementValue (beside : ℕ) (e : Expression) (old new : Walk) (t : 
 abbrev pub holds_too_many_beside : ℕ → Option TypedExpression → Bool
 holds_too_many_beside beside t = option_map_or (λ v. nat_lt limits.held_values (max beside (1 + held v))) t false
 
+-- the faults of that value, and of the assignment where it holds too many
 abbrev pub faults_of_element_value : Scope → ℕ → Ty → Expression → ℕ → List Fault
 faults_of_element_value scope beside ty e end =
     faults scope (roles.Assigned (Some ty)) e ++ broken rules.TooDeep end (holds_too_many_beside beside (typed scope e))

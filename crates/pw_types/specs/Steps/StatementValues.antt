@@ -27,6 +27,7 @@ pub record Notes (uses : List ℕ) (most : ℕ) (old new : Walk) : Type 0 where
   pub used : new.used.items ≡ old.used.items ++ uses
   pub held : new.held ≡ max old.held most
 
+-- the typed tree of an expression, and the names that it uses
 pub record IsJudgedValue (e : Expression) (old new : Walk) (t : TExpr) : Type 0 where
   pub tree : typed old.scope e ≡ Some (typed_expression_of t)
   pub notes : Notes (uses old.scope e) (held (typed_expression_of t)) old new
@@ -40,6 +41,7 @@ JudgesWhole role e end old new =
 abbrev pub JudgesValue : Role → Expression → (old new : Walk) → Result TExpr Refusal → Type 0
 JudgesValue role e old new = Judges (faults_of_whole old.scope role e) (IsJudgedValue e old new)
 
+-- the same of an expression that may be absent
 pub record IsMaybeValue (e : Option Expression) (old new : Walk) (t : Option TExpr) : Type 0 where
   pub tree : option_map (typed_expression old.scope) e ≡ option_map typed_expression_of t
   pub notes : Notes (uses_of_option old.scope e) (held_option (option_map typed_expression_of t)) old new

@@ -23,10 +23,12 @@ unfoldable mutual
   weight (breaks at) = 1
   weight (continues at) = 1
 
+  -- of several statements
   pub weight_of_all : Statements → ℕ
   weight_of_all nil = 0
   weight_of_all (cons s ss) = suc (weight s + weight_of_all ss)
 
+  -- of a statement that may be absent
   pub weight_of_maybe : OptionalStatement → ℕ
   weight_of_maybe absent = 0
   weight_of_maybe (present s) = weight s
@@ -42,10 +44,12 @@ weight_of_form (forms.First c last s) = weight_of_maybe (optional_statement (opt
 weight_of_form (forms.Last first c s) = weight (statement_of s.now) + 2
 weight_of_form (forms.For first c last) = 1
 
+-- of a step
 abbrev pub weight_of_step : StatementStep → ℕ
 weight_of_step (steps.Part f x s) = weight_of_form f.form + weight (statement_of s.now)
 weight_of_step (steps.Done t) = 0
 
+-- of several frames
 unfoldable pub weight_of_frames : List StatementFrame → ℕ
 weight_of_frames [] = 0
 weight_of_frames (f ∷ fs) = weight_of_form f.form + weight_of_frames fs

@@ -23,6 +23,7 @@ pub record Designates (scope : Scope) (d : Option Designated) (uses : List ℕ) 
   pub function : d ≡ Some (record { reference = function_reference scope f.file.now; sig = f.sig.now })
   pub used : uses ≡ f.number ∷ []
 
+-- the function that a name designates, if it designates one
 abbrev pub IsNamedFunction : Scope → Option Designated → List ℕ → Option NamedFunction → Type 0
 IsNamedFunction scope d uses None = d ≡ None
 IsNamedFunction scope d uses (Some f) = Designates scope d uses f
@@ -32,6 +33,7 @@ pub record HasElements (scope : Scope) (a : Option Array) (uses : List ℕ) (e :
   pub array : a ≡ Some (record { reference = variable_reference scope e.file.now; ty = e.ty; size = e.size })
   pub used : uses ≡ e.number ∷ []
 
+-- the array that a name designates, if it designates one
 abbrev pub IsNamedArray : Scope → Option Array → List ℕ → Option NamedArray → Type 0
 IsNamedArray scope a uses None = a ≡ None
 IsNamedArray scope a uses (Some e) = HasElements scope a uses e

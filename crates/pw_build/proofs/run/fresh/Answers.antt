@@ -1,7 +1,7 @@
 -- The registers are those of a fresh processor.
 use Rattle.std.proofs.Common.{refl}
-use Rattle.pw_build.proofs.Ending.{fresh_registers}
+use Rattle.pw_build.proofs.Starting.{fresh_registers}
 use Rattle.pw_build.proofs.run.fresh.Goals as goal
 
 pub returns : goal.returns
-returns c = record { pc = refl; steps_left = refl; x = fresh_registers 4297064448 }
+returns c = record { pc = refl; steps_left = refl; x = fresh_registers c.from.result _ c.from.ensures }

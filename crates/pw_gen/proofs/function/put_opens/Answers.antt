@@ -2,8 +2,9 @@
 use Rattle.std.proofs.Common.{◌≡◌, ◌++◌, length, refl, ap, subst, append_assoc}
 use Rattle.pw_isa.specs.declared.instruction.Inst.TheVariants.{Bne}
 use Rattle.pw_isa.specs.Registers.{x0, s1}
+use Rattle.pw_isa.specs.EnvironmentCalls.{depth_fault}
 use Rattle.pw_tree.specs.Units.{typed_function_of}
-use Rattle.pw_code.specs.Pieces.{past, fault, depth_fault}
+use Rattle.pw_code.specs.Pieces.{past, fault}
 use Rattle.pw_code.specs.FunctionCode.{frame_of, store_parameters}
 use Rattle.pw_genexpr.specs.Appends.{Appends}
 use Rattle.pw_gen.specs.Steps.Functions.{open_frame}

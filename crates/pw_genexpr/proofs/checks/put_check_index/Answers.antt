@@ -2,9 +2,10 @@
 use Rattle.std.proofs.Common.{◌≡◌, ℕ, Ok, suc, ◌+◌, ◌*◌, ◌++◌, List, [], ◌∷◌, pos, subst, ◌∙◌}
 use Rattle.pw_isa.specs.declared.instruction.Inst.TheVariants.{Bltu}
 use Rattle.pw_isa.specs.Registers.{a0, t1}
+use Rattle.pw_isa.specs.EnvironmentCalls.{index_fault}
 use Rattle.pw_code.specs.Items.{CodePart, instruction, size}
 use Rattle.pw_code.specs.LoadImmediate.{load_immediate}
-use Rattle.pw_code.specs.Pieces.{fault, index_fault, past, bytes_of_words}
+use Rattle.pw_code.specs.Pieces.{fault, past, bytes_of_words}
 use Rattle.pw_genexpr.specs.Appends.{AppendsPrefix, Appends}
 use Rattle.pw_genexpr.proofs.Distances.{past_fault}
 use Rattle.pw_genexpr.proofs.Appending.{prefix_of_more, prefix_after, appends_after, gave_up}

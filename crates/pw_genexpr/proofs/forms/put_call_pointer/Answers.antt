@@ -2,8 +2,9 @@
 use Rattle.std.proofs.Common.{◌≡◌, ◌++◌, ℕ, Ok, List, [], ◌∷◌, pos}
 use Rattle.pw_isa.specs.declared.instruction.Inst.TheVariants.{Addi, Bne, Jalr}
 use Rattle.pw_isa.specs.Registers.{x0, ra, t0, a0}
+use Rattle.pw_isa.specs.EnvironmentCalls.{null_call_fault}
 use Rattle.pw_code.specs.Items.{CodePart, instruction}
-use Rattle.pw_code.specs.Pieces.{past, fault, null_call_fault, load_held}
+use Rattle.pw_code.specs.Pieces.{past, fault, load_held}
 use Rattle.pw_genexpr.proofs.Appending.{prefix_of_more, prefix_after, appends_after, gave_up}
 use Rattle.pw_genexpr.proofs.forms.put_call_pointer.Goals as goal
 

@@ -1,4 +1,4 @@
-use Rattle.pw_image.proofs.Data.{relocated_data_are_image}
+use Rattle.pw_image.proofs.RelocatedData.{relocated_data_are_image}
 use Rattle.pw_image.proofs.laws.relocated_data_are_image.Goals as goal
 
 pub returns : goal.returns

@@ -1,0 +1,9 @@
+//! The program `pw`, with a stored run of the example `primes`.
+#![tactic(auto)]
+
+use pw_cmd::run_on_system;
+use std::process::ExitCode;
+
+fn main(rt: HostRuntime) -> ExitCode {
+    run_on_system(&rt, rt.stdin(), rt.stdout(), rt.stderr())
+}

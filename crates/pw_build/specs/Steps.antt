@@ -1,0 +1,3 @@
+-- The words of this crate's private contracts.
+pub mod Parts
+pub mod Memories

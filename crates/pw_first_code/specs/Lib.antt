@@ -1,3 +1,0 @@
-pub mod Items
-pub mod Scheme
-pub mod Appends

@@ -1,0 +1,1 @@
+../../crates/pw/data/main.c

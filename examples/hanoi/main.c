@@ -1,0 +1,1 @@
+../../crates/example_hanoi/data/main.c

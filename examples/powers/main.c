@@ -1,0 +1,1 @@
+../../crates/example_powers/data/main.c

@@ -1,0 +1,1 @@
+../../crates/example_primes/data/main.c

@@ -1,0 +1,1 @@
+../../crates/example_words/data/main.c
