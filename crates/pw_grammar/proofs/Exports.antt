@@ -4,7 +4,6 @@ pub use Rattle.pw_grammar.proofs.OneReading.{has_reading, not_both, one_fault}
 pub use Rattle.pw_grammar.proofs.Written.{trees_are_written}
 pub use Rattle.pw_grammar.proofs.ReadUnits.{trees_are_read}
 pub use Rattle.pw_grammar.proofs.TextTokens.{token_ends, tokens_are_small}
-pub use Rattle.pw_grammar.proofs.Weighed.{units_are_no_longer}
 pub use Rattle.pw_grammar.proofs.Lawful.{Leaves, leaves_fewer}
 pub use Rattle.pw_grammar.proofs.Tokens.{skip_shrinks, expect_shrinks}
 pub use Rattle.pw_grammar.proofs.Parts.{AnExpression}

@@ -54,7 +54,6 @@ pub mod PlacedParts
 pub mod PlacedDeclarations
 pub mod Typed
 pub mod Written
-pub mod Weighed
 pub mod Exports
 pub mod SmallTokens
 pub mod TextTokens

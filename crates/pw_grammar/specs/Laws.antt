@@ -1,18 +1,17 @@
 -- Laws of the grammar: each list of tokens has one tree or one first fault, and what holds of each tree.
-use Rattle.std.specs.Prelude.{◌≡◌, ◌^◌, ◌<◌, ◌≤◌, ◌⊎◌, List, length, take, sum_by}
+use Rattle.std.specs.Prelude.{◌≡◌, ◌^◌, ◌<◌, ◌⊎◌, List, length, take}
 use Rattle.std.specs.List.{AllByRecursion}
 use Rattle.pw_grammar.specs.declared.error.SyntaxError.{SyntaxError}
 use Rattle.pw_grammar.specs.Declarations.{Derives}
 use Rattle.pw_grammar.specs.Expressions.{value_in}
 use Rattle.pw_grammar.specs.Faults.{IsFaultless, IsFirstFault}
-use Rattle.pw_grammar.specs.Weights.{weight}
 use Rattle.pw_grammar.specs.Terminals.{word_texts, keyword_words, punctuator_words}
 use Rattle.pw_lex.specs.Spellings as spellings
 use Rattle.pw_lex.specs.Bytes.{Text}
 use Rattle.pw_lex.specs.Text.{HasTokens}
 use Rattle.pw_lex.specs.declared.token.Token.{Token}
 use Rattle.pw_tree.specs.declared.decl.Unit.{Unit}
-use Rattle.pw_tree.specs.Declarations.{declarations_of, untyped_unit_of}
+use Rattle.pw_tree.specs.Declarations.{untyped_unit_of}
 use Rattle.pw_tree.specs.Placed.{IsParsed}
 use Rattle.pw_tree.specs.Proper.{IsRead}
 
@@ -48,10 +47,6 @@ OneFault = (tokens : List Token) (fault other : SyntaxError) → IsFirstFault to
 -- the trees of a unit stand in its tokens, of which there are fewer than 2 to the 32nd
 abbrev pub TreesAreWritten : Type 0
 TreesAreWritten = (tokens : List Token) (unit : Unit) → Derives tokens unit → length tokens < 2 ^ 32 → IsParsed (untyped_unit_of unit)
-
--- a unit has no fewer tokens than the definitions of its functions need
-abbrev pub UnitsAreNoLonger : Type 0
-UnitsAreNoLonger = (tokens : List Token) (unit : Unit) → Derives tokens unit → sum_by weight (declarations_of unit) ≤ length tokens
 
 -- a token has a line of 32 bits, and a value of 64 where it is a constant
 pub record IsSmallToken (token : Token) : Type 0 where

@@ -5,6 +5,5 @@ pub mod Expressions
 pub mod Statements
 pub mod Declarations
 pub mod Faults
-pub mod Weights
 pub mod Laws
 pub mod Reading

@@ -1,5 +1,5 @@
 //! Laws of the grammar, each the contract of a function.
-ghost use Rattle.pw_grammar.specs.Laws.{KeywordsByText, PunctuatorsByText, HasReading, NotBoth, OneTree, OneFault, TokensAreSmall, TreesAreRead, TreesAreWritten, UnitsAreNoLonger};
+ghost use Rattle.pw_grammar.specs.Laws.{KeywordsByText, PunctuatorsByText, HasReading, NotBoth, OneTree, OneFault, TokensAreSmall, TreesAreRead, TreesAreWritten};
 ghost use Rattle.pw_grammar.specs.Reading.Whole.{ReadingTells};
 
 /// A keyword and a punctuator, which a token gives by its number, have the symbol that stands beside their text.
@@ -33,11 +33,6 @@ pub fn tokens_are_small()
 /// `for` are simple; a function's body has at most 8,192 tokens; an `extern` variable has no initialiser.
 pub fn trees_are_read()
     ensures { TreesAreRead }
-{}
-
-/// A unit has at least six tokens for each definition of a function, and one more for each statement of its body.
-pub fn units_are_no_longer()
-    ensures { UnitsAreNoLonger }
 {}
 
 /// For the parser: reading a list of tokens from left to right gives its tree, if it has one, and else exactly its first

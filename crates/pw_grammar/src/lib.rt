@@ -9,6 +9,5 @@ pub use error::SyntaxError;
 pub use laws::{
     a_list_has_a_tree_or_a_first_fault, reading_tells_the_tree_or_the_first_fault,
     symbols_stand_beside_their_texts, tokens_are_small, trees_are_read, trees_are_written,
-    units_are_no_longer,
 };
 pub use sort::{Sort, is_same, sort_of, word_of};

@@ -26,12 +26,15 @@ in_loop end next place = record place { targets = record { break_to = end; conti
 abbrev pub code_at : Place → TypedStatement → List CodePart
 code_at place s = statement_code place.frame (targets_of place.targets) place.at s
 
+-- the code of a list of statements at a place
 abbrev pub code_of_all_at : Place → TypedStatements → List CodePart
 code_of_all_at place ss = statements_code place.frame (targets_of place.targets) place.at ss
 
+-- the code of a statement that may be absent
 abbrev pub optional_code_at : Place → OptionalTypedStatement → List CodePart
 optional_code_at place s = optional_code place.frame (targets_of place.targets) place.at s
 
+-- the code of an `else` part that may be absent
 abbrev pub else_code_at : Place → OptionalTypedStatement → List CodePart
 else_code_at place s = else_code place.frame (targets_of place.targets) place.at s
 
