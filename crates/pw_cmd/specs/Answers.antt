@@ -1,13 +1,9 @@
 -- What the call that the program is answers and leaves: the words' command does its stages, and its answer is reported.
 use Rattle.std.specs.Prelude.{ℕ, List}
-use Rattle.pw_hart.specs.Outside.{Outside, with_messages}
+use Rattle.pw_hart.specs.Outside.{Outside}
 use Rattle.pw_cmd.specs.Answer.{Answer, message_line, status_of}
-use Rattle.pw_cmd.specs.Message.{Reports}
+use Rattle.pw_cmd.specs.Message.{Reports, unreported}
 use Rattle.pw_cmd.specs.Commands.{performs}
-
--- the outside once the words are carried out, before the answer is reported
-abbrev pub unreported : Outside → Outside → Outside
-unreported old new = with_messages new old.messages
 
 -- The words are carried out with this answer, and it is reported: its line stands on the messages and the status is its own,
 -- or the reporting failed and the status is 7.

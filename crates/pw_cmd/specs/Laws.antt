@@ -9,6 +9,7 @@ use Rattle.pw_cmd.specs.declared.answer.Stop.{Stop}
 use Rattle.pw_cmd.specs.declared.answer.Stop.TheVariants.{Usage, Refused, ReadFailed, WriteFailed, NoMemory}
 use Rattle.pw_cmd.specs.Stages.{Stage, each}
 use Rattle.pw_cmd.specs.Primitives.{reads}
+use Rattle.pw_cmd.specs.declared.words.Request.{Request}
 use Rattle.pw_cmd.specs.Commands.{one, performs}
 
 -- a law: what holds between two states of the outside where a stage gave a value, or stopped for a reason
@@ -31,10 +32,24 @@ pub record NoneFailed (old new : Outside) : Type 0 where
   pub out : new.out.faults ≡ old.out.faults
   pub messages : new.messages.faults ≡ old.messages.faults
 
+-- The store or the input failed, one of them, and nothing else.
+pub record FailsToRead (old new : Outside) : Type 0 where
+  pub failed : (Rises old.store.faults new.store.faults × (new.input.faults ≡ old.input.faults))
+      ⊎ ((new.store.faults ≡ old.store.faults) × Rises old.input.faults new.input.faults)
+  pub out : new.out.faults ≡ old.out.faults
+  pub messages : new.messages.faults ≡ old.messages.faults
+
+-- The output failed, and nothing else.
+pub record FailsToWrite (old new : Outside) : Type 0 where
+  pub out : Rises old.out.faults new.out.faults
+  pub store : new.store.faults ≡ old.store.faults
+  pub input : new.input.faults ≡ old.input.faults
+  pub messages : new.messages.faults ≡ old.messages.faults
+
 -- a read failed exactly where that is the reason, a write likewise, and else no call failed
 abbrev pub FailuresStop : Law
-FailuresStop old new (Some ReadFailed) = Rises old.store.faults new.store.faults ⊎ Rises old.input.faults new.input.faults
-FailuresStop old new (Some WriteFailed) = Rises old.out.faults new.out.faults
+FailuresStop old new (Some ReadFailed) = FailsToRead old new
+FailuresStop old new (Some WriteFailed) = FailsToWrite old new
 FailuresStop old new _ = NoneFailed old new
 
 -- the files, the input, the output and the memory are as before
@@ -95,7 +110,7 @@ CommandsRefuseCleanly = (words : List (List ℕ)) → Obeys RefusesCleanly (perf
 
 -- `one` reads its file, and makes no other call of the store.
 abbrev pub OneReadsItsFile : Type 0
-OneReadsItsFile = (file : List ℕ) → Obeys (MakesCalls (Read file ∷ [])) (one file)
+OneReadsItsFile = (request : Request) → Obeys (MakesCalls (Read request.file ∷ [])) (one request)
 
 -- Files that are read one after another: a failed read ends it, nothing but the calls changes, and these are the reads of the
 -- files in order, up to the one that ended it.

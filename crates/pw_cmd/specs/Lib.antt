@@ -1,6 +1,6 @@
 -- The commands, in the order to read: the words, answers with their status and line, stages, the commands as stages; what the
--- call that the program is answers, the laws that commands obey, and what a reader may take from a status; and last the
--- program from its arguments on.
+-- call that the program is answers, the laws that commands obey, the ends of a
+-- meaning with their status and line, and what a reader may take from a status; and last the program from its arguments on.
 pub mod Words
 pub mod Faults
 pub mod Answer
@@ -11,6 +11,7 @@ pub mod Primitives
 pub mod Commands
 pub mod Answers
 pub mod Laws
+pub mod Ends
 pub mod Shows
 pub mod Program
 pub mod System

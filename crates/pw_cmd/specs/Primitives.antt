@@ -1,42 +1,43 @@
 -- The stages that commands are made of: each is a call of a layer below, with the reason for which its error stops the
 -- command.
-use Rattle.std.specs.Prelude.{◌≡◌, ℕ, List, Option, Some, None, Result, Ok, Err, Vec}
+use Rattle.std.specs.Prelude.{◌≡◌, ℕ, List, Option, Some, None, Result, Ok, Err, Vec, slice_get}
 use Rattle.std.specs.declared.alloc.Global.{Global}
-use Rattle.pw_base.specs.Limits.{source_bytes, default_steps}
+use Rattle.pw_base.specs.Limits.{source_bytes}
 use Rattle.pw_tree.specs.declared.tunit.TUnit.{TUnit}
-use Rattle.pw_tree.specs.Units.{unit_of}
-use Rattle.pw_first.specs.declared.writer.Writer.{Writer}
-use Rattle.pw_first.specs.FirstForm.{IsFirstForm}
+use Rattle.pw_tree.specs.Units.{TypedUnit, unit_of}
 use Rattle.pw_front.specs.declared.error.FrontError.{FrontError}
-use Rattle.pw_cmd.specs.declared.fault.FrontFault.{FrontFault}
-use Rattle.pw_cmd.specs.Faults.{fault_of}
 use Rattle.pw_front.specs.Units.{IsTypedUnitOf, FaultOf}
 use Rattle.pw_io.specs.declared.errors.ReadError.{ReadError}
 use Rattle.pw_io.specs.declared.errors.ReadError.TheVariants as stores
 use Rattle.pw_io.specs.Store.{Reads}
 use Rattle.pw_hart.specs.Outside.{Outside}
-use Rattle.pw_build.specs.declared.memory_image.ImageError.{ImageError}
-use Rattle.pw_build.specs.declared.memory_image.ImageError.TheVariants as images
-use Rattle.pw_build.specs.Built.{LeavesImage}
+use Rattle.pw_module.specs.declared.kept_row.KeptRow.{KeptRow}
+use Rattle.pw_image.specs.Rows.{keep_of}
+use Rattle.pw_build.specs.declared.image_error.ImageError.{ImageError}
+use Rattle.pw_build.specs.declared.image_error.ImageError.TheVariants as images
+use Rattle.pw_build.specs.Built.{Builds}
 use Rattle.pw_build.specs.declared.run.Ended.{Ended}
-use Rattle.pw_build.specs.declared.run.Ended.TheVariants.{Exit, ReadFault, WriteFault}
+use Rattle.pw_build.specs.declared.run.Ended.TheVariants as runs
 use Rattle.pw_build.specs.Executed.{Executes}
-use Rattle.pw_build.specs.Meant.{IsMeant}
+use Rattle.pw_build.specs.Meant.{ReportsBytes, IsMeant}
+use Rattle.pw_cmd.specs.declared.fault.FrontFault.{FrontFault}
 use Rattle.pw_cmd.specs.declared.answer.Outcome.{Outcome}
 use Rattle.pw_cmd.specs.declared.answer.Outcome.TheVariants as outcomes
 use Rattle.pw_cmd.specs.declared.answer.Stop.{Stop}
 use Rattle.pw_cmd.specs.declared.answer.Stop.TheVariants.{Usage, Refused, ReadFailed, WriteFailed, NoMemory}
-use Rattle.pw_cmd.specs.declared.refusal.FileFault.TheVariants.{TooLong, Source, Form}
-use Rattle.pw_cmd.specs.declared.refusal.Refusal.TheVariants.{File, NoMain}
+use Rattle.pw_cmd.specs.declared.refusal.FileFault.TheVariants.{TooLong, Source}
+use Rattle.pw_cmd.specs.declared.refusal.Refusal.TheVariants.{File, Link, Unbound}
 use Rattle.pw_cmd.specs.declared.words.CommandError.{CommandError}
 use Rattle.pw_cmd.specs.declared.words.CommandError.TheVariants as words
+use Rattle.pw_cmd.specs.declared.words.Request.{Request}
+use Rattle.pw_cmd.specs.Faults.{fault_of}
 use Rattle.pw_cmd.specs.Words.{ReadsCommand}
 use Rattle.pw_cmd.specs.Stages.{Stage, CallsBelow}
 
 -- ---- the words
 
 -- nothing changes while the words are judged
-abbrev pub JudgesWords : List (List ℕ) → Outside → Outside → Result (List ℕ) CommandError → Type 0
+abbrev pub JudgesWords : List (List ℕ) → Outside → Outside → Result Request CommandError → Type 0
 JudgesWords asked old new answer = ReadsCommand asked answer × (new ≡ old)
 
 -- why words that are of no command stop it
@@ -44,8 +45,8 @@ abbrev pub stop_of_words : CommandError → Stop
 stop_of_words words.NoCommand = Usage
 stop_of_words words.NoMemory = NoMemory
 
--- the file that the words ask for
-abbrev pub judges : List (List ℕ) → Stage (List ℕ)
+-- what the words ask for
+abbrev pub judges : List (List ℕ) → Stage Request
 judges asked = CallsBelow (JudgesWords asked) stop_of_words
 
 -- ---- a file
@@ -84,50 +85,37 @@ stop_of_front number error = stop_of_fault number (fault_of error)
 abbrev pub compiles : ℕ → List ℕ → Stage TUnit
 compiles number text = CallsBelow (Compiles text) (stop_of_front number)
 
--- why a unit gives no functions of the first form
-pub data NoForm : Type 0 where
-  OtherForm : NoForm
-  OutOfMemory : NoForm
+-- ---- the image
 
--- the functions of a unit of the first form, or that it is not of it; nothing changes
-abbrev pub HasForm : TUnit → Outside → Outside → Result (List Writer) NoForm → Type 0
-HasForm unit old new (Ok funs) = IsFirstForm (unit_of unit) funs × (new ≡ old)
-HasForm unit old new (Err OtherForm) = ((funs : List Writer) → ¬ IsFirstForm (unit_of unit) funs) × (new ≡ old)
-HasForm unit old new (Err OutOfMemory) = new ≡ old
+-- the image of the unit's program is put into the memory; nothing else changes
+abbrev pub BuildsImage : List ℕ → TypedUnit → Outside → Outside → Result (List KeptRow) ImageError → Type 0
+BuildsImage file unit old new answer = Builds file unit old.memory new.memory answer × (new ≡ record old { memory = new.memory })
 
--- why a unit without such functions stops the command
-abbrev pub stop_of_form : ℕ → NoForm → Stop
-stop_of_form number OtherForm = Refused (File number Form)
-stop_of_form number OutOfMemory = NoMemory
+-- why a unit without an image stops the command
+abbrev pub stop_of_image : ImageError → Stop
+stop_of_image (images.Link fault) = Refused (Link fault)
+stop_of_image (images.Unbound name) = Refused (Unbound name)
+stop_of_image images.NoMemory = NoMemory
 
--- the functions of the unit in the file of this word
-abbrev pub forms : ℕ → TUnit → Stage (List Writer)
-forms number unit = CallsBelow (HasForm unit) (stop_of_form number)
+-- the memory gets the image of the program of the file's unit; what became of each of its functions
+abbrev pub builds : List ℕ → TypedUnit → Stage (List KeptRow)
+builds file unit = CallsBelow (BuildsImage file unit) stop_of_image
 
 -- ---- the run
 
--- the image is put into the memory; nothing else changes
-abbrev pub Fills : List Writer → Outside → Outside → Result (Unit {0}) ImageError → Type 0
-Fills funs old new answer = LeavesImage funs old.memory new.memory answer × (new ≡ record old { memory = new.memory })
+-- the answer of a run that ended so; a checked fault is reported with the row of its function
+abbrev pub outcome_of : List KeptRow → Ended → Result Outcome Stop
+outcome_of rows (runs.Exit value) = Ok (outcomes.Ended value)
+outcome_of rows (runs.Checked kind row line) = Ok (outcomes.Faulted kind (slice_get rows row) line)
+outcome_of rows runs.Spent = Ok outcomes.Spent
+outcome_of rows (runs.Trap cause pc value) = Ok (outcomes.Trapped cause pc value)
+outcome_of rows (runs.Limit limit) = Ok (outcomes.Limited limit)
+outcome_of rows runs.ReadFault = Err ReadFailed
+outcome_of rows runs.WriteFault = Err WriteFailed
 
--- why functions without an image stop the command
-abbrev pub stop_of_image : ImageError → Stop
-stop_of_image images.NoMain = Refused NoMain
-stop_of_image images.NoMemory = NoMemory
-
--- the memory gets the image of the functions
-abbrev pub fills : List Writer → Stage (Unit {0})
-fills funs = CallsBelow (Fills funs) stop_of_image
-
--- the answer of a run that ended so
-abbrev pub outcome_of : Ended → Result Outcome Stop
-outcome_of (Exit value) = Ok (outcomes.Ended value)
-outcome_of ReadFault = Err ReadFailed
-outcome_of WriteFault = Err WriteFailed
-
--- The image ran with the counted steps of a run that gives none, and ended so, as the source means.
-pub record runs_image (funs : List Writer) (old new : Outside) (result : Result Outcome Stop) : Type 0 where
+-- The image ran with so many counted steps, and ended so; where the input reports bytes, as the source means.
+pub record runs_image (unit : TypedUnit) (rows : List KeptRow) (steps : ℕ) (old new : Outside) (result : Result Outcome Stop) : Type 0 where
   pub ended : Ended
-  pub executes : Executes funs default_steps old new ended
-  pub meant : IsMeant funs old new ended
-  pub result_is : result ≡ outcome_of ended
+  pub executes : Executes unit (keep_of rows) steps old new ended
+  pub meant : ReportsBytes old.input → IsMeant unit (keep_of rows) steps old new ended
+  pub result_is : result ≡ outcome_of rows ended

@@ -1,18 +1,29 @@
 //! What a command answers, and the status that it ends with.
 ghost use Rattle.std.specs.Prelude.{◌≡◌};
-ghost use Rattle.pw_cmd.specs.Answer.{status_of};
+ghost use Rattle.pw_cmd.specs.Answer.{status_of, status_of_outcome};
 
 use crate::refusal::Refusal;
+use pw_module::KeptRow;
 
 /// How a run ended.
-#[derive(Clone, Copy, PartialEq, Eq, Debug)]
+#[derive(Drop)]
 pub enum Outcome {
     /// `main` returned this value.
     Ended(u64),
+    /// A check of the program failed: of this kind, in the function of this row, and in this line. A run of which the
+    /// input reports bytes has a row.
+    Faulted(u8, Option<KeptRow>, u64),
+    /// No counted step was left.
+    Spent,
+    /// An instruction could not be carried out: the cause, the address of the instruction, and the value. Where the input
+    /// reports bytes, no run ends so.
+    Trapped(u8, u64, u64),
+    /// So many instructions were fetched, as many as were allowed. Where the input reports bytes, no run ends so.
+    Limited(u64),
 }
 
 /// Why a command has no outcome.
-#[derive(Clone, Copy)]
+#[derive(Drop)]
 pub enum Stop {
     /// The words are of no command.
     Usage,
@@ -26,13 +37,26 @@ pub enum Stop {
     NoMemory,
 }
 
+/// The status of a run that ended so.
+fn status_of_outcome(outcome: &Outcome) -> u8
+    ensures { result ≡ status_of_outcome outcome.now }
+{
+    match outcome {
+        Outcome::Ended(0) => 0,
+        Outcome::Ended(_) => 1,
+        Outcome::Faulted(..) => 4,
+        Outcome::Spent => 5,
+        Outcome::Limited(_) => 5,
+        Outcome::Trapped(..) => 9,
+    }
+}
+
 /// The status that the program ends with where its message was written.
 pub fn status(answer: &Result<Outcome, Stop>) -> u8
     ensures { result ≡ status_of answer.now }
 {
     match answer {
-        Ok(Outcome::Ended(0)) => 0,
-        Ok(Outcome::Ended(_)) => 1,
+        Ok(outcome) => status_of_outcome(outcome),
         Err(Stop::Usage) => 2,
         Err(Stop::Refused(_)) => 3,
         Err(Stop::ReadFailed) => 6,

@@ -1,7 +1,7 @@
 //! The call that the program is: words in, a status and the memory out.
 ghost use Rattle.pw_hart.specs.Outside.{outside};
 ghost use Rattle.pw_cmd.specs.Answers.{Answers};
-ghost use Rattle.pw_cmd.specs.Shows.{CallsInOrder, Completes, LeavesRefused, Means, ReportsFailures};
+ghost use Rattle.pw_cmd.specs.Shows.{CallsInOrder, Completes, Means, RefusesFaults, ReportsFailures};
 ghost use Rattle.pw_cmd.specs.Words.{texts};
 
 use crate::message::report;
@@ -33,7 +33,7 @@ pub fn top<S: Store, I: Source, O: Sink, E: Sink, M: Memory>(
     ensures completes { Completes (texts words.now)
         (outside (S.state store.old) (I.state input.old) (O.state out.old) (E.state msg.old) (M.state mem))
         (outside (S.state store.new) (I.state input.new) (O.state out.new) (E.state msg.new) (M.state result.1)) result.0 }
-    ensures refused { LeavesRefused
+    ensures refuses { RefusesFaults (texts words.now)
         (outside (S.state store.old) (I.state input.old) (O.state out.old) (E.state msg.old) (M.state mem))
         (outside (S.state store.new) (I.state input.new) (O.state out.new) (E.state msg.new) (M.state result.1)) result.0 }
     ensures calls { CallsInOrder (texts words.now)

@@ -19,14 +19,14 @@ fn say_answer<S: Sink>(
     ensures { PutsAll (sentence_of (texts words.now) answer.now) (S.state sink.old) (S.state sink.new) result }
 {
     match answer {
-        Ok(Outcome::Ended(value)) => ("ended ", *value).say(sink),
-        Err(stop) => say_stop(sink, words, *stop),
+        Ok(outcome) => outcome.say(sink),
+        Err(stop) => say_stop(sink, words, stop),
     }
 }
 
 /// Says why there is no outcome.
-fn say_stop<S: Sink>(sink: &mut S, words: &[String], stop: Stop) -> Result<(), Failed>
-    ensures { PutsAll (reason_of (texts words.now) stop) (S.state sink.old) (S.state sink.new) result }
+fn say_stop<S: Sink>(sink: &mut S, words: &[String], stop: &Stop) -> Result<(), Failed>
+    ensures { PutsAll (reason_of (texts words.now) stop.now) (S.state sink.old) (S.state sink.new) result }
 {
     match stop {
         Stop::Usage => "usage: pw COMMAND ARGUMENTS".say(sink),
@@ -38,14 +38,17 @@ fn say_stop<S: Sink>(sink: &mut S, words: &[String], stop: Stop) -> Result<(), F
 }
 
 /// Says what is refused, and what for. A file is named as its word names it.
-fn say_refusal<S: Sink>(sink: &mut S, words: &[String], refusal: Refusal) -> Result<(), Failed>
-    ensures { PutsAll (reason_of (texts words.now) (Stop.Refused refusal)) (S.state sink.old) (S.state sink.new) result }
+fn say_refusal<S: Sink>(sink: &mut S, words: &[String], refusal: &Refusal) -> Result<(), Failed>
+    ensures { PutsAll (reason_of (texts words.now) (Stop.Refused refusal.now)) (S.state sink.old) (S.state sink.new) result }
 {
     match refusal {
         Refusal::File(number, fault) => {
-            ("refused: ", (word_of(words, number), (": ", fault))).say(sink)
+            ("refused: ", (word_of(words, *number), (": ", *fault))).say(sink)
         }
-        Refusal::NoMain => ("refused: ", "app: no main").say(sink),
+        Refusal::Link(fault) => say_link(sink, fault),
+        Refusal::Unbound(name) => {
+            ("refused: ", ("app: ", (name.as_bytes(), " is not defined"))).say(sink)
+        }
     }
 }
 

@@ -24,6 +24,6 @@ pub fn perform<S: Store, I: Source, O: Sink, M: Memory>(
         (outside (S.state store.old) (I.state input.old) (O.state out.old) messages (M.state mem.old))
         (outside (S.state store.new) (I.state input.new) (O.state out.new) messages (M.state mem.new)) result }
 {
-    let file = judge(alloc, words)?;
-    one(alloc, &file, store, input, out, mem)
+    let request = judge(alloc, words)?;
+    one(alloc, &request, store, input, out, mem)
 }

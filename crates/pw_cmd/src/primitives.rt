@@ -1,39 +1,48 @@
 //! The stages that commands are made of: each calls a layer below, and turns its error into the reason for which the
 //! command stops. Their contracts hold whatever the rest of the outside is.
-ghost use Rattle.std.specs.Prelude.{◌≡◌, ◌≤◌, length, sum_by, IfOk};
-ghost use Rattle.pw_base.specs.Limits.{source_bytes};
+ghost use Rattle.std.specs.Prelude.{◌≡◌, ◌≤◌, ℕ, List, length, slice_get, IfOk};
+ghost use Rattle.pw_base.specs.Limits.{source_bytes, given_steps};
 ghost use Rattle.pw_tree.specs.Units.{unit_of};
-ghost use Rattle.pw_front.specs.Weights.{weight};
+ghost use Rattle.pw_tree.specs.WellTypedUnits.{IsWellTyped};
 ghost use Rattle.pw_io.specs.Source.{SourceState};
 ghost use Rattle.pw_io.specs.Sink.{SinkState};
 ghost use Rattle.pw_io.specs.Store.{StoreState};
 ghost use Rattle.pw_hart.specs.Outside.{Outside, outside};
-ghost use Rattle.pw_first_agree.specs.Image.{CanPlace};
 ghost use Rattle.pw_mem.specs.States.{MemoryState};
-ghost use Rattle.pw_build.specs.Built.{HoldsImage};
+ghost use Rattle.pw_simulation.specs.Projects.{CanRun};
+ghost use Rattle.pw_agree.specs.Image.{image};
+ghost use Rattle.pw_image.specs.OneUnit.{project_of};
+ghost use Rattle.pw_image.specs.Rows.{AreRows, keep_of};
+ghost use Rattle.pw_code.specs.Objects.{object_of};
+ghost use Rattle.pw_build.specs.Built.{IsBuilt, Builds};
+ghost use Rattle.pw_build.specs.Executed.{Executes};
+ghost use Rattle.pw_build.specs.Meant.{ReportsBytes, IsMeant};
 ghost use Rattle.pw_cmd.specs.Words.{texts};
-ghost use Rattle.pw_cmd.specs.Primitives.{judges, stop_of_words, reads, stop_of_read, compiles, stop_of_front, forms, fills, stop_of_image, runs_image, outcome_of};
+ghost use Rattle.pw_cmd.specs.Primitives.{judges, stop_of_words, reads, stop_of_read, compiles, stop_of_front, builds, stop_of_image, runs_image, outcome_of};
 
 use crate::answer::{Outcome, Stop};
 use crate::fault::fault_of;
 use crate::refusal::{FileFault, Refusal};
-use crate::words::{CommandError, asked_file};
+use crate::words::{CommandError, Request, asked};
 use pw_base::{Limits, Name, NoMemory};
 use pw_build::{Ended, ImageError, execute, image};
-use pw_first::{Writer, writers};
+use pw_code::Object;
 use pw_front::{FrontError, front};
+use pw_gen::object;
 use pw_io::{ReadError, Sink, Source, Store};
 use pw_mem::Memory;
+use pw_module::KeptRow;
 use pw_tree::TUnit;
 use sqlite_items::Items;
 use std::alloc::Global;
 
-/// The file that the words ask for.
-pub fn judge(alloc: Global, words: &[String]) -> Result<Name, Stop>
-    ensures { (o : Outside) → judges (texts words.now) o o result }
+/// What the words ask for.
+pub fn judge(alloc: Global, words: &[String]) -> Result<Request, Stop>
+    ensures judges { (o : Outside) → judges (texts words.now) o o result }
+    ensures allowed { IfOk result (λ request. request.steps ≤ given_steps) }
 {
-    match asked_file(alloc, words) {
-        Ok(file) => Ok(file),
+    match asked(alloc, words) {
+        Ok(request) => Ok(request),
         Err(error) => Err(stop_of_words(error)),
     }
 }
@@ -82,7 +91,7 @@ fn stop_of_read(number: usize, error: ReadError) -> Stop
 pub fn compile(alloc: Global, number: usize, text: &Vec<u8>) -> Result<TUnit, Stop>
     requires { length text.now.items ≤ source_bytes }
     ensures compiles { (o : Outside) → compiles number text.now.items o o result }
-    ensures small { IfOk result (λ unit. sum_by weight (unit_of unit).functions ≤ source_bytes) }
+    ensures well_typed { IfOk result (λ unit. IsWellTyped (unit_of unit)) }
 {
     match front(alloc, text.as_slice()) {
         Ok(unit) => Ok(unit),
@@ -100,65 +109,133 @@ fn stop_of_front(number: usize, error: &FrontError) -> Stop
     }
 }
 
-/// The functions of the unit in the file of this word.
-pub fn form(alloc: Global, number: usize, unit: &TUnit) -> Result<Items<Writer>, Stop>
-    requires { sum_by weight (unit_of unit.now).functions ≤ source_bytes }
-    ensures forms { (o : Outside) → forms number unit.now o o result }
-    ensures placed { IfOk result CanPlace }
-{
-    match writers(alloc, unit) {
-        Ok(Some(funs)) => Ok(funs),
-        Ok(None) => Err(Stop::Refused(Refusal::File(number, FileFault::Form))),
-        Err(NoMemory) => Err(Stop::NoMemory),
-    }
-}
-
-/// Puts the image of the functions into the memory. All memory of a run is taken here.
-pub fn fill<M: Memory>(alloc: Global, funs: &[Writer], mem: &mut M) -> Result<(), Stop>
-    requires { CanPlace funs.now }
-    ensures fills { (store : StoreState) (input : SourceState) (out messages : SinkState) → fills funs.now
+/// Puts the image of the program of the file's unit into the memory, and says what became of each function. All memory of a
+/// run is taken here.
+pub fn build<M: Memory>(
+    alloc: Global,
+    file: &Name,
+    unit: &TUnit,
+    mem: &mut M,
+) -> Result<Items<KeptRow>, Stop>
+    requires { IsWellTyped (unit_of unit.now) }
+    ensures builds { (store : StoreState) (input : SourceState) (out messages : SinkState) → builds file.now (unit_of unit.now)
         (outside store input out messages (M.state mem.old)) (outside store input out messages (M.state mem.new)) result }
-    ensures image { IfOk result (λ _. HoldsImage funs.now (M.state mem.new)) }
+    ensures can_run { IfOk result (λ rows. CanRun (project_of (unit_of unit.now))) }
+    ensures built { IfOk result (λ rows. IsBuilt file.now (unit_of unit.now) (M.state mem.new) rows) }
 {
-    match image(alloc, funs, mem) {
-        Ok(()) => Ok(()),
+    match image_of(alloc, file, unit, mem) {
+        Ok(rows) => Ok(rows),
         Err(error) => Err(stop_of_image(error)),
     }
 }
 
-/// Why functions without an image stop the command.
+/// The image of the program of the file's unit.
+fn image_of<M: Memory>(
+    alloc: Global,
+    file: &Name,
+    unit: &TUnit,
+    mem: &mut M,
+) -> Result<Items<KeptRow>, ImageError>
+    requires { IsWellTyped (unit_of unit.now) }
+    ensures { Builds file.now (unit_of unit.now) (M.state mem.old) (M.state mem.new) result }
+{
+    match object(alloc, unit, file) {
+        Ok(object) => put_image(alloc, unit, object, mem),
+        Err(NoMemory) => Err(ImageError::NoMemory),
+    }
+}
+
+/// The image of the program of the unit's object.
+fn put_image<M: Memory>(
+    alloc: Global,
+    _unit: &TUnit,
+    object: Object,
+    mem: &mut M,
+) -> Result<Items<KeptRow>, ImageError>
+    requires typed { IsWellTyped (unit_of _unit.now) }
+    requires object { object ≡ object_of object.unit (unit_of _unit.now) }
+    ensures { Builds object.unit (unit_of _unit.now) (M.state mem.old) (M.state mem.new) result }
+{
+    image(alloc, object, mem)
+}
+
+/// Why a unit without an image stops the command.
 fn stop_of_image(error: ImageError) -> Stop
     ensures { result ≡ stop_of_image error }
 {
     match error {
-        ImageError::NoMain => Stop::Refused(Refusal::NoMain),
+        ImageError::Link(fault) => Stop::Refused(Refusal::Link(fault)),
+        ImageError::Unbound(name) => Stop::Refused(Refusal::Unbound(name)),
         ImageError::NoMemory => Stop::NoMemory,
     }
 }
 
-/// Runs the image of the functions that the memory holds. No memory is taken.
+/// Runs the image that the memory holds, of the program whose rows these are. No memory is taken.
 pub fn run_image<M: Memory, I: Source, O: Sink>(
-    funs: &[Writer],
+    unit: &TUnit,
+    rows: Items<KeptRow>,
+    steps: u64,
     mem: &mut M,
     input: &mut I,
     out: &mut O,
 ) -> Result<Outcome, Stop>
-    requires placed { CanPlace funs.now }
-    requires image { HoldsImage funs.now (M.state mem.old) }
-    ensures { (store : StoreState) (messages : SinkState) → runs_image funs.now
+    requires can_run { CanRun (project_of (unit_of unit.now)) }
+    requires built { (file : List ℕ) × IsBuilt file (unit_of unit.now) (M.state mem.old) rows }
+    requires allowed { steps ≤ given_steps }
+    ensures { (store : StoreState) (messages : SinkState) → runs_image (unit_of unit.now) rows steps
         (outside store (I.state input.old) (O.state out.old) messages (M.state mem.old))
         (outside store (I.state input.new) (O.state out.new) messages (M.state mem.new)) result }
 {
-    outcome_of(execute(funs, Limits::STEPS, mem, input, out))
+    let ended = execute_image(unit, rows.as_slice(), steps, mem, input, out);
+    outcome_of(rows, ended)
 }
 
-/// The answer of a run that ended so.
-fn outcome_of(ended: Ended) -> Result<Outcome, Stop>
-    ensures { result ≡ outcome_of ended }
+/// Runs the image of the unit's program, whose rows these are.
+fn execute_image<M: Memory, I: Source, O: Sink>(
+    _unit: &TUnit,
+    rows: &[KeptRow],
+    steps: u64,
+    mem: &mut M,
+    input: &mut I,
+    out: &mut O,
+) -> Ended
+    requires can_run { CanRun (project_of (unit_of _unit.now)) }
+    requires rows { (file : List ℕ) × AreRows file (unit_of _unit.now) rows.now }
+    requires image { (M.state mem.old).mem ≡ image (project_of (unit_of _unit.now)) (keep_of rows.now) }
+    requires allowed { steps ≤ given_steps }
+    ensures executes { (store : StoreState) (messages : SinkState) → Executes (unit_of _unit.now) (keep_of rows.now) steps
+        (outside store (I.state input.old) (O.state out.old) messages (M.state mem.old))
+        (outside store (I.state input.new) (O.state out.new) messages (M.state mem.new)) result }
+    ensures meant { (store : StoreState) (messages : SinkState) → ReportsBytes (I.state input.old) → IsMeant (unit_of _unit.now) (keep_of rows.now) steps
+        (outside store (I.state input.old) (O.state out.old) messages (M.state mem.old))
+        (outside store (I.state input.new) (O.state out.new) messages (M.state mem.new)) result }
+{
+    execute(rows, steps, mem, input, out)
+}
+
+/// The answer of a run that ended so. Of a checked fault it has the row.
+fn outcome_of(rows: Items<KeptRow>, ended: Ended) -> Result<Outcome, Stop>
+    ensures { result ≡ outcome_of rows ended }
 {
     match ended {
         Ended::Exit(value) => Ok(Outcome::Ended(value)),
+        Ended::Checked { kind, row, line } => Ok(Outcome::Faulted(kind, row_of(rows, row), line)),
+        Ended::Spent => Ok(Outcome::Spent),
+        Ended::Trap { cause, pc, value } => Ok(Outcome::Trapped(cause, pc, value)),
+        Ended::Limit(limit) => Ok(Outcome::Limited(limit)),
         Ended::ReadFault => Err(Stop::ReadFailed),
         Ended::WriteFault => Err(Stop::WriteFailed),
+    }
+}
+
+/// The row of this number; none where there is no such row.
+fn row_of(rows: Items<KeptRow>, number: u32) -> Option<KeptRow>
+    ensures { result ≡ slice_get rows number }
+{
+    let mut rows = rows;
+    if (number as usize) < rows.len() {
+        Some(rows.remove(number as usize))
+    } else {
+        None
     }
 }

@@ -3,7 +3,9 @@ ghost use Rattle.pw_cmd.specs.Answer.{file_text};
 
 use crate::fault::FrontFault;
 use crate::says::Says;
+use pw_base::Name;
 use pw_io::{Failed, Sink};
+use pw_place::LinkError;
 
 /// What a file is refused for.
 #[derive(Clone, Copy)]
@@ -12,17 +14,17 @@ pub enum FileFault {
     TooLong(u64),
     /// Its text has no typed unit: its first fault.
     Source(FrontFault),
-    /// Its unit is not of the form that is built.
-    Form,
 }
 
 /// Why the input of a command is refused.
-#[derive(Clone, Copy)]
+#[derive(Drop)]
 pub enum Refusal {
     /// The file that the word of this number names, from 0, is refused.
     File(usize, FileFault),
-    /// No function of the program is named `main`.
-    NoMain,
+    /// The objects are no program: the first fault of their link.
+    Link(LinkError),
+    /// The program uses this name and does not define it.
+    Unbound(Name),
 }
 
 impl Says for FileFault {
@@ -32,7 +34,6 @@ impl Says for FileFault {
         match self {
             FileFault::TooLong(limit) => ("more than ", (*limit, " bytes")).say(sink),
             FileFault::Source(fault) => fault.say(sink),
-            FileFault::Form => "form not built".say(sink),
         }
     }
 }

@@ -1,9 +1,20 @@
 //! Judges the words after the program's name.
-ghost use Rattle.std.specs.Prelude.{[], ◌∷◌};
+ghost use Rattle.std.specs.Prelude.{◌≡◌, [], ◌∷◌};
 ghost use Rattle.pw_cmd.specs.Words.{ReadsCommand, texts};
 
-use pw_base::{Name, NameError};
+use pw_base::{Limits, Name, NameError};
 use std::alloc::Global;
+
+/// What the words ask for: to build the file as the one unit of the program `app`, and to run it.
+#[derive(Drop)]
+pub struct Request {
+    /// The file.
+    pub file: Name,
+    /// The number of the word that names it, from 0.
+    pub word: usize,
+    /// The counted steps that the run may take.
+    pub steps: u64,
+}
 
 /// Why the words are of no command.
 #[derive(Clone, Copy)]
@@ -14,29 +25,60 @@ pub enum CommandError {
     NoMemory,
 }
 
-/// The file that the words ask to build as the one unit of the program `app`, and to run. Refusal: `NoCommand` exactly where
-/// they are not `one FILE` with a name for FILE.
-pub fn asked_file(alloc: Global, words: &[String]) -> Result<Name, CommandError>
+/// The word before the number of counted steps.
+const STEPS: &[u8] = b"--steps";
+
+/// A number of counted steps is written with at most so many digits.
+const STEPS_DIGITS: usize = 10;
+
+/// What the words ask for. Refusal: `NoCommand` exactly where they are not `one FILE`, `one FILE --steps N` or
+/// `one --steps N FILE`, with a name for FILE that begins with no dash, and for N 1 to 10 decimal digits that write a number of
+/// at most 1,000,000,000.
+pub fn asked(alloc: Global, words: &[String]) -> Result<Request, CommandError>
     ensures { ReadsCommand (texts words.now) result }
 {
-    if words.len() != 2 {
-        return Err(CommandError::NoCommand);
+    match words.len() {
+        2 => file_alone(alloc, words[0].as_bytes(), words[1].as_bytes()),
+        4 => file_and_steps(
+            alloc,
+            words[0].as_bytes(),
+            words[1].as_bytes(),
+            words[2].as_bytes(),
+            words[3].as_bytes(),
+        ),
+        _ => Err(CommandError::NoCommand),
     }
-    one_of(alloc, words[0].as_bytes(), words[1].as_bytes())
 }
 
-/// The file of two words.
-fn one_of(alloc: Global, command: &[u8], file: &[u8]) -> Result<Name, CommandError>
+/// What two words ask for.
+fn file_alone(alloc: Global, command: &[u8], file: &[u8]) -> Result<Request, CommandError>
     ensures { ReadsCommand (command.now ∷ file.now ∷ []) result }
 {
     if command != b"one".as_slice() {
         return Err(CommandError::NoCommand);
     }
-    match Name::read(alloc, file) {
-        Ok(file) => Ok(file),
-        Err(NameError::NoMemory) => Err(CommandError::NoMemory),
-        Err(NameError::Empty) => Err(CommandError::NoCommand),
-        Err(NameError::TooLong(_)) => Err(CommandError::NoCommand),
-        Err(NameError::BadByte(_)) => Err(CommandError::NoCommand),
+    let file = file_of(alloc, file)?;
+    Ok(Request { file, word: 1, steps: Limits::STEPS })
+}
+
+/// What four words ask for.
+fn file_and_steps(
+    alloc: Global,
+    command: &[u8],
+    first: &[u8],
+    second: &[u8],
+    third: &[u8],
+) -> Result<Request, CommandError>
+    ensures { ReadsCommand (command.now ∷ first.now ∷ second.now ∷ third.now ∷ []) result }
+{
+    if command != b"one".as_slice() {
+        return Err(CommandError::NoCommand);
     }
+    if first == STEPS {
+        return request(alloc, third, 3, second);
+    }
+    if second == STEPS {
+        return request(alloc, first, 1, third);
+    }
+    Err(CommandError::NoCommand)
 }

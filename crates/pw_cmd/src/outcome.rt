@@ -1,0 +1,1 @@
+//! How a run ended, as it is said into a sink.
