@@ -5,7 +5,6 @@ pub mod StageLaws
 pub mod CommandLaws
 pub mod Texts
 pub mod Lines
-pub mod Placed
 pub mod Programs
 pub mod Inversion
 pub mod Began

@@ -15,3 +15,4 @@ pub mod Ends
 pub mod Shows
 pub mod Program
 pub mod System
+pub mod Steps

@@ -5,9 +5,12 @@
 mod answer;
 mod commands;
 mod fault;
+mod hexadecimal;
 mod laws;
+mod link_fault;
 mod message;
 mod one;
+mod outcome;
 mod perform;
 mod primitives;
 mod program;

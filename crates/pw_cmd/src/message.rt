@@ -1,7 +1,7 @@
 //! The line that says on a sink what a command answered.
-ghost use Rattle.std.specs.Prelude.{◌≡◌};
+ghost use Rattle.std.specs.Prelude.{◌≡◌, ◌++◌, codes};
 ghost use Rattle.pw_cmd.specs.Says.{PutsAll};
-ghost use Rattle.pw_cmd.specs.Answer.{message_line, reason_of, sentence_of, status_of, word_at};
+ghost use Rattle.pw_cmd.specs.Answer.{link_text, message_line, reason_of, sentence_of, status_of, word_at};
 ghost use Rattle.pw_cmd.specs.Message.{PutsLine, Reports};
 ghost use Rattle.pw_cmd.specs.Words.{texts};
 
@@ -9,6 +9,7 @@ use crate::answer::{Outcome, Stop, status};
 use crate::refusal::Refusal;
 use crate::says::Says;
 use pw_io::{Failed, Sink};
+use pw_place::LinkError;
 
 /// Says what the answer is, without the end of the line.
 fn say_answer<S: Sink>(
@@ -47,9 +48,17 @@ fn say_refusal<S: Sink>(sink: &mut S, words: &[String], refusal: &Refusal) -> Re
         }
         Refusal::Link(fault) => say_link(sink, fault),
         Refusal::Unbound(name) => {
-            ("refused: ", ("app: ", (name.as_bytes(), " is not defined"))).say(sink)
+            ("refused: ", ("app: ", (name.bytes(), " is not defined"))).say(sink)
         }
     }
+}
+
+/// Says the fault of a link.
+fn say_link<S: Sink>(sink: &mut S, fault: &LinkError) -> Result<(), Failed>
+    ensures { PutsAll (codes "refused: " ++ (codes "app: " ++ link_text fault.now)) (S.state sink.old) (S.state sink.new) result }
+{
+    "refused: app: ".say(sink)?;
+    fault.say(sink)
 }
 
 /// The bytes of a word, by its number; none where there is no such word.

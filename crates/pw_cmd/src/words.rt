@@ -1,5 +1,6 @@
 //! Judges the words after the program's name.
-ghost use Rattle.std.specs.Prelude.{◌≡◌, [], ◌∷◌};
+ghost use Rattle.std.specs.Prelude.{[], ◌∷◌};
+ghost use Rattle.pw_cmd.specs.Steps.{ReadsFileName, ReadsRequest, ReadsSteps};
 ghost use Rattle.pw_cmd.specs.Words.{ReadsCommand, texts};
 
 use pw_base::{Limits, Name, NameError};
@@ -75,10 +76,62 @@ fn file_and_steps(
         return Err(CommandError::NoCommand);
     }
     if first == STEPS {
-        return request(alloc, third, 3, second);
+        return read_request(alloc, third, 3, second);
     }
     if second == STEPS {
-        return request(alloc, first, 1, third);
+        return read_request(alloc, first, 1, third);
     }
     Err(CommandError::NoCommand)
+}
+
+/// The file that a word names, with so many counted steps, which another word writes.
+fn read_request(
+    alloc: Global,
+    file: &[u8],
+    word: usize,
+    steps: &[u8],
+) -> Result<Request, CommandError>
+    ensures { ReadsRequest file.now word steps.now result }
+{
+    match steps_of(steps) {
+        Some(steps) => match file_of(alloc, file) {
+            Ok(file) => Ok(Request { file, word, steps }),
+            Err(error) => Err(error),
+        },
+        None => Err(CommandError::NoCommand),
+    }
+}
+
+/// The name of a file, which begins with no dash.
+fn file_of(alloc: Global, bytes: &[u8]) -> Result<Name, CommandError>
+    ensures { ReadsFileName bytes.now result }
+{
+    if bytes.first() == Some(&b'-') {
+        return Err(CommandError::NoCommand);
+    }
+    match Name::read(alloc, bytes) {
+        Ok(file) => Ok(file),
+        Err(NameError::NoMemory) => Err(CommandError::NoMemory),
+        Err(NameError::Empty) => Err(CommandError::NoCommand),
+        Err(NameError::TooLong(_)) => Err(CommandError::NoCommand),
+        Err(NameError::BadByte(_)) => Err(CommandError::NoCommand),
+    }
+}
+
+/// The number of counted steps that a word writes; none where it writes none that may be given.
+fn steps_of(word: &[u8]) -> Option<u64>
+    ensures { ReadsSteps word.now result }
+{
+    if word.is_empty() || word.len() > STEPS_DIGITS || !word.iter().all(u8::is_ascii_digit) {
+        return None;
+    }
+    let mut steps = 0;
+    for digit in word {
+        steps = 10 * steps + u64::from(*digit - b'0');
+    }
+    if steps <= Limits::GIVEN_STEPS {
+        Some(steps)
+    } else {
+        None
+    }
 }
