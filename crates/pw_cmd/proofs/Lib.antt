@@ -9,6 +9,8 @@ pub mod Lines
 pub mod Programs
 pub mod Inversion
 pub mod Requests
+pub mod Digits
+pub mod Spellings
 pub mod Began
 pub mod Shows
 pub mod Completes

@@ -13,7 +13,11 @@ impl Says for LinkError {
     fn say<E: Sink>(&self, sink: &mut E) -> Result<(), Failed> {
         match self {
             LinkError::TooMany(what, count) => {
-                (*count, (" ", (text_of(*what), (", at most ", limit_of(*what))))).say(sink)
+                (
+                    *count,
+                    (" ", (text_of(*what), (", at most ", limit_of(*what)))),
+                )
+                    .say(sink)
             }
             LinkError::Duplicate(name) => (name.bytes(), " is defined twice").say(sink),
             LinkError::TypeDiffers(name, first, other) => {

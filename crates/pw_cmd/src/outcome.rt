@@ -38,10 +38,21 @@ fn say_checked<E: Sink>(
 {
     match row {
         Some(row) => {
-            let place = (row.module.bytes(), (":", (unit_of(row), (":", row.name.bytes()))));
-            ("checked fault ", (kind_of(kind), (" in ", (place, (" line ", line))))).say(sink)
+            let place = (
+                row.module.bytes(),
+                (":", (unit_of(row), (":", row.name.bytes()))),
+            );
+            (
+                "checked fault ",
+                (kind_of(kind), (" in ", (place, (" line ", line)))),
+            )
+                .say(sink)
         }
-        None => ("checked fault ", (kind_of(kind), (" in ", ("no function", (" line ", line))))).say(sink),
+        None => (
+            "checked fault ",
+            (kind_of(kind), (" in ", ("no function", (" line ", line)))),
+        )
+            .say(sink),
     }
 }
 

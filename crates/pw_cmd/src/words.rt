@@ -26,6 +26,9 @@ pub enum CommandError {
     NoMemory,
 }
 
+/// The word of the command.
+const ONE: &[u8] = b"one";
+
 /// The word before the number of counted steps.
 const STEPS: &[u8] = b"--steps";
 
@@ -55,11 +58,15 @@ pub fn asked(alloc: Global, words: &[String]) -> Result<Request, CommandError>
 fn file_alone(alloc: Global, command: &[u8], file: &[u8]) -> Result<Request, CommandError>
     ensures { ReadsCommand (command.now ∷ file.now ∷ []) result }
 {
-    if command != b"one".as_slice() {
+    if command != ONE {
         return Err(CommandError::NoCommand);
     }
     let file = file_of(alloc, file)?;
-    Ok(Request { file, word: 1, steps: Limits::STEPS })
+    Ok(Request {
+        file,
+        word: 1,
+        steps: Limits::STEPS,
+    })
 }
 
 /// What four words ask for.
@@ -72,7 +79,7 @@ fn file_and_steps(
 ) -> Result<Request, CommandError>
     ensures { ReadsCommand (command.now ∷ first.now ∷ second.now ∷ third.now ∷ []) result }
 {
-    if command != b"one".as_slice() {
+    if command != ONE {
         return Err(CommandError::NoCommand);
     }
     if first == STEPS {
@@ -122,11 +129,14 @@ fn file_of(alloc: Global, bytes: &[u8]) -> Result<Name, CommandError>
 fn steps_of(word: &[u8]) -> Option<u64>
     ensures { ReadsSteps word.now result }
 {
-    if word.is_empty() || word.len() > STEPS_DIGITS || !word.iter().all(u8::is_ascii_digit) {
+    if word.is_empty() || STEPS_DIGITS < word.len() {
         return None;
     }
     let mut steps = 0;
     for digit in word {
+        if *digit < b'0' || b'9' < *digit {
+            return None;
+        }
         steps = 10 * steps + u64::from(*digit - b'0');
     }
     if steps <= Limits::GIVEN_STEPS {
