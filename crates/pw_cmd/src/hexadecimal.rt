@@ -24,9 +24,10 @@ impl Says for Hexadecimal {
 fn say_digits<E: Sink>(sink: &mut E, number: u64) -> Result<(), Failed>
     ensures { PutsAll (digits 16 false number) (E.state sink.old) (E.state sink.new) result }
 {
-    if number >= 16 {
-        say_digits(sink, number / 16)?;
+    if number < 16 {
+        return sink.put(glyph(number as u8));
     }
+    say_digits(sink, number / 16)?;
     sink.put(glyph((number % 16) as u8))
 }
 
