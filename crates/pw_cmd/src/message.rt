@@ -1,15 +1,14 @@
 //! The line that says on a sink what a command answered.
-ghost use Rattle.std.specs.Prelude.{◌≡◌, ◌++◌, codes};
+ghost use Rattle.std.specs.Prelude.{◌≡◌};
 ghost use Rattle.pw_cmd.specs.Says.{PutsAll};
-ghost use Rattle.pw_cmd.specs.Answer.{link_text, message_line, reason_of, sentence_of, status_of, word_at};
+ghost use Rattle.pw_cmd.specs.Answer.{message_line, reason_of, sentence_of, status_of, word_at};
 ghost use Rattle.pw_cmd.specs.Message.{PutsLine, Reports};
 ghost use Rattle.pw_cmd.specs.Words.{texts};
 
 use crate::answer::{Outcome, Stop, status};
 use crate::refusal::Refusal;
-use crate::says::Says;
+use crate::says::{Says, put_both};
 use pw_io::{Failed, Sink};
-use pw_place::LinkError;
 
 /// Says what the answer is, without the end of the line.
 fn say_answer<S: Sink>(
@@ -46,19 +45,11 @@ fn say_refusal<S: Sink>(sink: &mut S, words: &[String], refusal: &Refusal) -> Re
         Refusal::File(number, fault) => {
             ("refused: ", (word_of(words, *number), (": ", *fault))).say(sink)
         }
-        Refusal::Link(fault) => say_link(sink, fault),
+        Refusal::Link(fault) => put_both(sink, &"refused: app: ", fault),
         Refusal::Unbound(name) => {
             ("refused: ", ("app: ", (name.bytes(), " is not defined"))).say(sink)
         }
     }
-}
-
-/// Says the fault of a link.
-fn say_link<S: Sink>(sink: &mut S, fault: &LinkError) -> Result<(), Failed>
-    ensures { PutsAll (codes "refused: " ++ (codes "app: " ++ link_text fault.now)) (S.state sink.old) (S.state sink.new) result }
-{
-    "refused: app: ".say(sink)?;
-    fault.say(sink)
 }
 
 /// The bytes of a word, by its number; none where there is no such word.
