@@ -12,5 +12,11 @@ pub mod Requests
 pub mod Digits
 pub mod Spellings
 pub mod Began
-pub mod Shows
+pub mod Statuses
+pub mod MeantEnds
+pub mod ShowsMeaning
+pub mod OneRefusal
+pub mod Failures
 pub mod Completes
+pub mod Refusing
+pub mod Calls
