@@ -11,6 +11,7 @@ pub mod Inversion
 pub mod Requests
 pub mod Digits
 pub mod Spellings
+pub mod HexadecimalDigits
 pub mod Began
 pub mod Statuses
 pub mod MeantEnds

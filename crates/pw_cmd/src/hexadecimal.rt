@@ -1,7 +1,6 @@
-//! A number as it is said in hexadecimal, behind `0x`.
+//! A number as it is said in hexadecimal.
 ghost use Rattle.std.specs.Fmt.{digits, digit_glyph};
 ghost use Rattle.std.specs.Prelude.{◌≡◌, false, ◌<◌};
-ghost use Rattle.pw_cmd.specs.Answer.{address_text};
 ghost use Rattle.pw_cmd.specs.Says.{PutsAll};
 
 use crate::says::Says;
@@ -12,10 +11,9 @@ use pw_io::{Failed, Sink};
 pub struct Hexadecimal(pub u64);
 
 impl Says for Hexadecimal {
-    ghost text = { λ number. address_text number.0 };
+    ghost text = { λ number. digits 16 false number.0 };
 
     fn say<E: Sink>(&self, sink: &mut E) -> Result<(), Failed> {
-        "0x".say(sink)?;
         say_digits(sink, self.0)
     }
 }
@@ -24,9 +22,10 @@ impl Says for Hexadecimal {
 fn say_digits<E: Sink>(sink: &mut E, number: u64) -> Result<(), Failed>
     ensures { PutsAll (digits 16 false number) (E.state sink.old) (E.state sink.new) result }
 {
-    if number >= 16 {
-        say_digits(sink, number / 16)?;
+    if number < 16 {
+        return sink.put(glyph(number as u8));
     }
+    say_digits(sink, number / 16)?;
     sink.put(glyph((number % 16) as u8))
 }
 

@@ -1,15 +1,14 @@
 //! The line that says on a sink what a command answered.
-ghost use Rattle.std.specs.Prelude.{◌≡◌, ◌++◌, codes};
+ghost use Rattle.std.specs.Prelude.{◌≡◌};
 ghost use Rattle.pw_cmd.specs.Says.{PutsAll};
-ghost use Rattle.pw_cmd.specs.Answer.{link_text, message_line, reason_of, sentence_of, status_of, word_at};
+ghost use Rattle.pw_cmd.specs.Answer.{message_line, reason_of, sentence_of, status_of, word_at};
 ghost use Rattle.pw_cmd.specs.Message.{PutsLine, Reports};
 ghost use Rattle.pw_cmd.specs.Words.{texts};
 
 use crate::answer::{Outcome, Stop, status};
 use crate::refusal::Refusal;
-use crate::says::Says;
+use crate::says::{Says, put_both};
 use pw_io::{Failed, Sink};
-use pw_place::LinkError;
 
 /// Says what the answer is, without the end of the line.
 fn say_answer<S: Sink>(
@@ -17,7 +16,8 @@ fn say_answer<S: Sink>(
     words: &[String],
     answer: &Result<Outcome, Stop>,
 ) -> Result<(), Failed>
-    ensures { PutsAll (sentence_of (texts words.now) answer.now) (S.state sink.old) (S.state sink.new) result }
+    ensures { PutsAll (sentence_of (texts words.now) answer.now)
+        (S.state sink.old) (S.state sink.new) result }
 {
     match answer {
         Ok(outcome) => outcome.say(sink),
@@ -27,7 +27,8 @@ fn say_answer<S: Sink>(
 
 /// Says why there is no outcome.
 fn say_stop<S: Sink>(sink: &mut S, words: &[String], stop: &Stop) -> Result<(), Failed>
-    ensures { PutsAll (reason_of (texts words.now) stop.now) (S.state sink.old) (S.state sink.new) result }
+    ensures { PutsAll (reason_of (texts words.now) stop.now)
+        (S.state sink.old) (S.state sink.new) result }
 {
     match stop {
         Stop::Usage => "usage: pw COMMAND ARGUMENTS".say(sink),
@@ -40,25 +41,18 @@ fn say_stop<S: Sink>(sink: &mut S, words: &[String], stop: &Stop) -> Result<(), 
 
 /// Says what is refused, and what for. A file is named as its word names it.
 fn say_refusal<S: Sink>(sink: &mut S, words: &[String], refusal: &Refusal) -> Result<(), Failed>
-    ensures { PutsAll (reason_of (texts words.now) (Stop.Refused refusal.now)) (S.state sink.old) (S.state sink.new) result }
+    ensures { PutsAll (reason_of (texts words.now) (Stop.Refused refusal.now))
+        (S.state sink.old) (S.state sink.new) result }
 {
     match refusal {
         Refusal::File(number, fault) => {
             ("refused: ", (word_of(words, *number), (": ", *fault))).say(sink)
         }
-        Refusal::Link(fault) => say_link(sink, fault),
+        Refusal::Link(fault) => put_both(sink, &"refused: app: ", fault),
         Refusal::Unbound(name) => {
             ("refused: ", ("app: ", (name.bytes(), " is not defined"))).say(sink)
         }
     }
-}
-
-/// Says the fault of a link.
-fn say_link<S: Sink>(sink: &mut S, fault: &LinkError) -> Result<(), Failed>
-    ensures { PutsAll (codes "refused: " ++ (codes "app: " ++ link_text fault.now)) (S.state sink.old) (S.state sink.new) result }
-{
-    "refused: app: ".say(sink)?;
-    fault.say(sink)
 }
 
 /// The bytes of a word, by its number; none where there is no such word.
@@ -77,16 +71,19 @@ fn say_line<S: Sink>(
     words: &[String],
     answer: &Result<Outcome, Stop>,
 ) -> Result<(), Failed>
-    ensures { PutsLine (message_line (texts words.now) answer.now) (S.state sink.old) (S.state sink.new) result }
+    ensures { PutsLine (message_line (texts words.now) answer.now)
+        (S.state sink.old) (S.state sink.new) result }
 {
     say_answer(sink, words, answer)?;
     sink.put(b'\n')?;
     sink.flush()
 }
 
-/// Reports the answer, and gives the status that the program ends with: the answer's, or 7 where the reporting failed.
+/// Reports the answer, and gives the status that the program ends with: the answer's, or 7 where
+/// the reporting failed.
 pub fn report<S: Sink>(sink: &mut S, words: &[String], answer: &Result<Outcome, Stop>) -> u8
-    ensures { Reports (message_line (texts words.now) answer.now) (status_of answer.now) (S.state sink.old) (S.state sink.new) result }
+    ensures { Reports (message_line (texts words.now) answer.now) (status_of answer.now)
+        (S.state sink.old) (S.state sink.new) result }
 {
     match say_line(sink, words, answer) {
         Ok(()) => status(answer),

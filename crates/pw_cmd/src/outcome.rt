@@ -20,7 +20,8 @@ impl Says for Outcome {
             Outcome::Spent => "step bound spent".say(sink),
             Outcome::Limited(limit) => ("instruction limit ", (*limit, " reached")).say(sink),
             Outcome::Trapped(cause, pc, value) => {
-                let place = (" at ", (Hexadecimal(*pc), (" value ", Hexadecimal(*value))));
+                let value = (" value ", ("0x", Hexadecimal(*value)));
+                let place = (" at ", (("0x", Hexadecimal(*pc)), value));
                 ("trap ", (u32::from(*cause), place)).say(sink)
             }
         }
@@ -34,7 +35,8 @@ fn say_checked<E: Sink>(
     row: &Option<KeptRow>,
     line: u64,
 ) -> Result<(), Failed>
-    ensures { PutsAll (checked_text kind (row_text row.now) line) (E.state sink.old) (E.state sink.new) result }
+    ensures { PutsAll (checked_text kind (row_text row.now) line)
+        (E.state sink.old) (E.state sink.new) result }
 {
     match row {
         Some(row) => {
