@@ -1,7 +1,7 @@
 -- What the words ask for: one request at most, with a number of steps that may be given.
-use Rattle.std.proofs.Common.{◌≡◌, ◌≢◌, ℕ, ◌≤◌, List, [], ◌∷◌, Some, get_or, lit≤, refl, ap, sym, subst, ◌∙◌, arith, inl, inr}
+use Rattle.std.proofs.Common.{◌≡◌, ◌≢◌, ℕ, ◌≤◌, List, [], ◌∷◌, Some, get_or, lit≤, ap, sym, ◌∙◌, inl, inr}
 use Rattle.std.specs.Prelude.{◌⊎◌, codes, slice_get}
-use Rattle.pw_base.specs.Limits.{default_steps, given_steps}
+use Rattle.pw_base.specs.Limits.{given_steps}
 use Rattle.pw_cmd.specs.declared.words.Request.{Request}
 use Rattle.pw_cmd.specs.Words.{WritesSteps, decimal_value, SaysFile, SaysStepsLast, SaysStepsFirst, AsksForOne}
 
