@@ -1,6 +1,7 @@
 -- A command obeys the laws that its stages obey: each law is proved once for one stage after another, and once for each
 -- stage that commands are made of.
 use Rattle.std.proofs.Common.{◌≡◌, List, [], ◌++◌, Option, Some, None, Result, Ok, Err, refl, ap, sym, subst, ◌∙◌, append_assoc, inl, inr}
+use Rattle.std.specs.Prelude.{◌⊎◌}
 use Rattle.pw_io.specs.declared.ports.Asked.{Asked}
 use Rattle.pw_io.specs.Faults.{Rises}
 use Rattle.pw_io.specs.Store.{StoreState, called_all}
@@ -63,9 +64,24 @@ failures_go_on old mid new None a b = none_failed_twice old mid new a b
 failures_go_on old mid new (Some Usage) a b = none_failed_twice old mid new a b
 failures_go_on old mid new (Some (Refused why)) a b = none_failed_twice old mid new a b
 failures_go_on old mid new (Some NoMemory) a b = none_failed_twice old mid new a b
-failures_go_on old mid new (Some ReadFailed) a (inl rose) = inl (subst (λ k. Rises k new.store.faults) a.store rose)
-failures_go_on old mid new (Some ReadFailed) a (inr rose) = inr (subst (λ k. Rises k new.input.faults) a.input rose)
-failures_go_on old mid new (Some WriteFailed) a rose = subst (λ k. Rises k new.out.faults) a.out rose
+failures_go_on old mid new (Some ReadFailed) a f = record {
+  failed = by_call f.failed;
+  out = f.out ∙ a.out;
+  messages = f.messages ∙ a.messages;
+}
+  where
+    by_call : (Rises mid.store.faults new.store.faults × (new.input.faults ≡ mid.input.faults))
+        ⊎ ((new.store.faults ≡ mid.store.faults) × Rises mid.input.faults new.input.faults)
+        → (Rises old.store.faults new.store.faults × (new.input.faults ≡ old.input.faults))
+        ⊎ ((new.store.faults ≡ old.store.faults) × Rises old.input.faults new.input.faults)
+    by_call (inl rose) = inl (subst (λ k. Rises k new.store.faults) a.store rose.0, rose.1 ∙ a.input)
+    by_call (inr rose) = inr (rose.0 ∙ a.store, subst (λ k. Rises k new.input.faults) a.input rose.1)
+failures_go_on old mid new (Some WriteFailed) a f = record {
+  out = subst (λ k. Rises k new.out.faults) a.out f.out;
+  store = f.store ∙ a.store;
+  input = f.input ∙ a.input;
+  messages = f.messages ∙ a.messages;
+}
 
 pub failures_then : {A B : Type 0} (first : Stage A) (next : A → Stage B)
     → Obeys FailuresStop first → ((value : A) → Obeys FailuresStop (next value)) → Obeys FailuresStop (Then first next)

@@ -1,6 +1,6 @@
 -- The status and the message line of each answer.
 use Rattle.std.specs.Prelude.{ℕ, List, [], ◌∷◌, ◌++◌, codes, decimal, slice_index_or, if◌then◌else◌, ◌==◌, false, Option, Some, None, Result, Ok, Err}
-use Rattle.core.specs.Fmt.{digits}
+use Rattle.std.specs.Fmt.{digits}
 use Rattle.pw_base.specs.Limits as limits
 use Rattle.pw_isa.specs.EnvironmentCalls.{index_fault, division_fault, null_call_fault, depth_fault}
 use Rattle.pw_module.specs.declared.kept_row.KeptRow.{KeptRow}

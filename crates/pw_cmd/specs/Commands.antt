@@ -3,7 +3,7 @@ use Rattle.std.specs.Prelude.{ℕ, List}
 use Rattle.pw_tree.specs.Units.{unit_of}
 use Rattle.pw_cmd.specs.declared.answer.Outcome.{Outcome}
 use Rattle.pw_cmd.specs.declared.words.Request.{Request}
-use Rattle.pw_cmd.specs.Stages.{Stage, ◌>>=◌, ◌>>◌}
+use Rattle.pw_cmd.specs.Stages.{Stage, ◌>>=◌}
 use Rattle.pw_cmd.specs.Primitives.{judges, reads, compiles, builds, runs_image}
 
 -- `one FILE`: the file is read, it is compiled, the image of its unit's program is put into the memory, and it runs

@@ -33,14 +33,14 @@ pub record NoneFailed (old new : Outside) : Type 0 where
   pub messages : new.messages.faults ≡ old.messages.faults
 
 -- The store or the input failed, one of them, and nothing else.
-pub record FailsToRead (old new : Outside) : Type 0 where
+pub record ReadFailedAlone (old new : Outside) : Type 0 where
   pub failed : (Rises old.store.faults new.store.faults × (new.input.faults ≡ old.input.faults))
       ⊎ ((new.store.faults ≡ old.store.faults) × Rises old.input.faults new.input.faults)
   pub out : new.out.faults ≡ old.out.faults
   pub messages : new.messages.faults ≡ old.messages.faults
 
 -- The output failed, and nothing else.
-pub record FailsToWrite (old new : Outside) : Type 0 where
+pub record WriteFailedAlone (old new : Outside) : Type 0 where
   pub out : Rises old.out.faults new.out.faults
   pub store : new.store.faults ≡ old.store.faults
   pub input : new.input.faults ≡ old.input.faults
@@ -48,8 +48,8 @@ pub record FailsToWrite (old new : Outside) : Type 0 where
 
 -- a read failed exactly where that is the reason, a write likewise, and else no call failed
 abbrev pub FailuresStop : Law
-FailuresStop old new (Some ReadFailed) = FailsToRead old new
-FailuresStop old new (Some WriteFailed) = FailsToWrite old new
+FailuresStop old new (Some ReadFailed) = ReadFailedAlone old new
+FailuresStop old new (Some WriteFailed) = WriteFailedAlone old new
 FailuresStop old new _ = NoneFailed old new
 
 -- the files, the input, the output and the memory are as before

@@ -4,7 +4,7 @@ use Rattle.std.specs.Prelude.{◌≡◌, ℕ, List, Option, Some, None, Result, 
 use Rattle.std.specs.declared.alloc.Global.{Global}
 use Rattle.pw_base.specs.Limits.{source_bytes}
 use Rattle.pw_tree.specs.declared.tunit.TUnit.{TUnit}
-use Rattle.pw_tree.specs.Units.{TypedUnit, unit_of}
+use Rattle.pw_tree.specs.Units.{TypedUnit}
 use Rattle.pw_front.specs.declared.error.FrontError.{FrontError}
 use Rattle.pw_front.specs.Units.{IsTypedUnitOf, FaultOf}
 use Rattle.pw_io.specs.declared.errors.ReadError.{ReadError}

@@ -29,7 +29,7 @@ use Rattle.pw_cmd.specs.Ends.{status_of_end, line_of_end, HasStatusOfEnd}
 use Rattle.pw_cmd.specs.Faults.{fault_of}
 use Rattle.pw_cmd.specs.Message.{unreported}
 use Rattle.pw_cmd.specs.Words.{AsksForOne}
-use Rattle.pw_cmd.specs.Laws.{NoneFailed, FailsToRead, FailsToWrite, LeavesAll, MakesFirst}
+use Rattle.pw_cmd.specs.Laws.{NoneFailed, ReadFailedAlone, WriteFailedAlone, LeavesAll, MakesFirst}
 
 -- ---- the meaning
 
@@ -96,8 +96,8 @@ Means words old new status = ReportsBytes old.input → ObeysMeaning words old n
 -- A status 6 comes only where the file that the words ask for failed to be read, or the input failed, and nothing else; a status 7
 -- only where the output failed, and nothing else, or the messages; and with every other status no call failed.
 pub record ReportsFailures (words : List (List ℕ)) (old new : Outside) (status : ℕ) : Type 0 where
-  pub read : status ≡ 6 → (request : Request) × AsksForOne words request × FailsToRead old new
-  pub write : status ≡ 7 → FailsToWrite old new ⊎ Rises old.messages.faults new.messages.faults
+  pub read : status ≡ 6 → (request : Request) × AsksForOne words request × ReadFailedAlone old new
+  pub write : status ≡ 7 → WriteFailedAlone old new ⊎ Rises old.messages.faults new.messages.faults
   pub none : status ≢ 6 → status ≢ 7 → NoneFailed old new
 
 -- no count of failed calls stands at its end

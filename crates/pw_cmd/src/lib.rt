@@ -1,13 +1,17 @@
-//! The commands: from the arguments of a command line to the exit status, a message line, the output and the memory that
-//! ran. `top` takes the words after the program's name, `run` the arguments, and `run_on_system` those of the system.
+//! The commands: from the arguments of a command line to the exit status, a message line, the
+//! output and the memory that ran. `top` takes the words after the program's name, `run` the
+//! arguments, and `run_on_system` those of the system.
 #![tactic(auto)]
 
 mod answer;
 mod commands;
 mod fault;
+mod hexadecimal;
 mod laws;
+mod link_fault;
 mod message;
 mod one;
+mod outcome;
 mod perform;
 mod primitives;
 mod program;

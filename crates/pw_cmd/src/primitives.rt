@@ -2,7 +2,7 @@
 //! command stops. Their contracts hold whatever the rest of the outside is.
 ghost use Rattle.std.specs.Prelude.{◌≡◌, ◌≤◌, ℕ, List, length, slice_get, IfOk};
 ghost use Rattle.pw_base.specs.Limits.{source_bytes, given_steps};
-ghost use Rattle.pw_tree.specs.Units.{unit_of};
+ghost use Rattle.pw_tree.specs.Units.{TypedUnit, unit_of};
 ghost use Rattle.pw_tree.specs.WellTypedUnits.{IsWellTyped};
 ghost use Rattle.pw_io.specs.Source.{SourceState};
 ghost use Rattle.pw_io.specs.Sink.{SinkState};
@@ -152,9 +152,10 @@ fn put_image<M: Memory>(
     object: Object,
     mem: &mut M,
 ) -> Result<Items<KeptRow>, ImageError>
-    requires typed { IsWellTyped (unit_of _unit.now) }
-    requires object { object ≡ object_of object.unit (unit_of _unit.now) }
-    ensures { Builds object.unit (unit_of _unit.now) (M.state mem.old) (M.state mem.new) result }
+    ghost unit: { TypedUnit }
+    requires typed { IsWellTyped unit }
+    requires object { object ≡ object_of object.unit unit }
+    ensures { Builds object.unit unit (M.state mem.old) (M.state mem.new) result }
 {
     image(alloc, object, mem)
 }
@@ -199,14 +200,15 @@ fn execute_image<M: Memory, I: Source, O: Sink>(
     input: &mut I,
     out: &mut O,
 ) -> Ended
-    requires can_run { CanRun (project_of (unit_of _unit.now)) }
-    requires rows { (file : List ℕ) × AreRows file (unit_of _unit.now) rows.now }
-    requires image { (M.state mem.old).mem ≡ image (project_of (unit_of _unit.now)) (keep_of rows.now) }
+    ghost unit: { TypedUnit }
+    requires can_run { CanRun (project_of unit) }
+    requires rows { (file : List ℕ) × AreRows file unit rows.now }
+    requires image { (M.state mem.old).mem ≡ image (project_of unit) (keep_of rows.now) }
     requires allowed { steps ≤ given_steps }
-    ensures executes { (store : StoreState) (messages : SinkState) → Executes (unit_of _unit.now) (keep_of rows.now) steps
+    ensures executes { (store : StoreState) (messages : SinkState) → Executes unit (keep_of rows.now) steps
         (outside store (I.state input.old) (O.state out.old) messages (M.state mem.old))
         (outside store (I.state input.new) (O.state out.new) messages (M.state mem.new)) result }
-    ensures meant { (store : StoreState) (messages : SinkState) → ReportsBytes (I.state input.old) → IsMeant (unit_of _unit.now) (keep_of rows.now) steps
+    ensures meant { (store : StoreState) (messages : SinkState) → ReportsBytes (I.state input.old) → IsMeant unit (keep_of rows.now) steps
         (outside store (I.state input.old) (O.state out.old) messages (M.state mem.old))
         (outside store (I.state input.new) (O.state out.new) messages (M.state mem.new)) result }
 {

@@ -25,8 +25,13 @@ fn put_all<E: Sink>(sink: &mut E, bytes: &[u8]) -> Result<(), Failed>
 }
 
 /// Puts one text and then another.
-fn put_both<A: Says, B: Says, E: Sink>(sink: &mut E, first: &A, second: &B) -> Result<(), Failed>
-    ensures { PutsAll (A.text first.now ++ B.text second.now) (E.state sink.old) (E.state sink.new) result }
+pub fn put_both<A: Says, B: Says, E: Sink>(
+    sink: &mut E,
+    first: &A,
+    second: &B,
+) -> Result<(), Failed>
+    ensures { PutsAll (A.text first.now ++ B.text second.now)
+        (E.state sink.old) (E.state sink.new) result }
 {
     first.say(sink)?;
     second.say(sink)
