@@ -1,11 +1,11 @@
-//! What the command says of texts that are refused, and of texts as deep as a function may be.
-use crate::command::{NONE, run};
+//! What the command says of texts that are refused, and of texts as deep, as long and with as many names as there may be.
+use crate::command::{Given, NONE, ONE, run};
 use pw_mem::FlatMemory;
 use std::alloc::{AllocError, Global};
 use std::test::Fail;
 
 /// A text, and what stands after `refused: ` in its message.
-const ROWS: [(&str, &str); 18] = [
+const ROWS: [(&str, &str); 25] = [
     // no operand
     (
         "long main(void) { return 1 + ; }",
@@ -54,30 +54,59 @@ const ROWS: [(&str, &str); 18] = [
     ),
     // a keyword of C
     ("long register;", "main.c: type Reserved at line 1 token 1"),
-    // an operator
+    // a fault of types comes before one of the link
     (
-        "long main(void) { return 1 + 1; }",
-        "main.c: form not built",
-    ),
-    // a number above 2047
-    ("long main(void) { return 2048; }", "main.c: form not built"),
-    // a variable
-    (
-        "long x; long main(void) { return 0; }",
-        "main.c: form not built",
-    ),
-    // a static function
-    (
-        "static long f(void) { return 1; } long main(void) { return 0; }",
-        "main.c: form not built",
+        "long f(void) { return x; }",
+        "main.c: type Unknown at line 1 token 7",
     ),
     // no function
     ("", "app: no main"),
     // no `main`
     ("long f(void) { return 1; }", "app: no main"),
+    // a `main` that no other module sees
+    ("static long main(void) { return 1; }", "app: no main"),
+    // a `main` that is declared alone
+    ("long main(void);", "app: no main"),
+    // a `main` with a parameter
+    ("long main(long a) { return a; }", "app: main has type l(l)"),
+    // a `main` without a value
+    ("void main(void) { }", "app: main has type v()"),
+    // a `main` that is no function
+    ("long main[3];", "app: main has type l[3]"),
+    // a fault of the link comes before a name without a definition
+    (
+        "extern long x;\nunsigned long main(void) { return x; }",
+        "app: main has type u()",
+    ),
+    // a variable without a definition
+    (
+        "extern long t[16];\nlong main(void) { return t[0]; }",
+        "app: t is not defined",
+    ),
+    // the first of two names in the order of their declarations
+    (
+        "long g(void);\n\
+          long f(void);\n\
+          long main(void) { return f() + g(); }",
+        "app: g is not defined",
+    ),
+    // a name in an initialiser
+    (
+        "long f(void);\n\
+          fn0 p = f;\n\
+          long main(void) { return 0; }",
+        "app: f is not defined",
+    ),
+    // a name in a function that is never called
+    (
+        "long f(void);\n\
+          long g(void) { return f(); }\n\
+          long main(void) { return 0; }",
+        "app: f is not defined",
+    ),
 ];
 
-/// A text that nests, and what stands after `refused: main.c: `.
+/// A text that nests, and the line that the command writes for it.
 #[derive(Clone, Copy)]
 struct Deep {
     head: &'static str,
@@ -127,27 +156,76 @@ const fn done(
 }
 
 /// Texts as deep as a function may be, and deeper ones.
-fn deep_texts() -> [Deep; 14] {
+fn deep_texts() -> [Deep; 16] {
     [
-        returned("~", "1", "", 8182, "form not built"),
-        returned("~", "1", "", 8183, "function too long at line 1 token 8192"),
-        returned("(", "x", ")", 199, "type Unknown at line 1 token 206"),
-        returned("(", "x", ")", 200, "brackets too deep at line 1 token 206"),
-        returned("1?1:", "1", "", 2000, "form not built"),
-        returned("1?", "1", ":1", 2000, "form not built"),
-        returned("1?", "x", ":1", 2000, "type Unknown at line 1 token 4007"),
-        returned("1+", "1", "", 4090, "form not built"),
-        returned("1+", "x", "", 4090, "type Unknown at line 1 token 8187"),
-        returned("", "x", "()", 2700, "type Unknown at line 1 token 7"),
-        done("if(1);else ", "", 1300, "form not built"),
+        returned("~", "1", "", 8182, "ended 1"),
+        returned(
+            "~",
+            "1",
+            "",
+            8183,
+            "refused: main.c: function too long at line 1 token 8192",
+        ),
+        returned(
+            "(",
+            "x",
+            ")",
+            199,
+            "refused: main.c: type Unknown at line 1 token 206",
+        ),
+        returned(
+            "(",
+            "x",
+            ")",
+            200,
+            "refused: main.c: brackets too deep at line 1 token 206",
+        ),
+        returned("1?1:", "1", "", 2000, "ended 1"),
+        returned("1?", "1", ":1", 2000, "ended 1"),
+        returned(
+            "1?",
+            "x",
+            ":1",
+            2000,
+            "refused: main.c: type Unknown at line 1 token 4007",
+        ),
+        returned("1+", "1", "", 4090, "ended 4091"),
+        returned(
+            "1+",
+            "x",
+            "",
+            4090,
+            "refused: main.c: type Unknown at line 1 token 8187",
+        ),
+        returned(
+            "",
+            "x",
+            "()",
+            2700,
+            "refused: main.c: type Unknown at line 1 token 7",
+        ),
+        returned("1+(", "1", ")", 99, "ended 100"),
+        returned(
+            "1+(",
+            "1",
+            ")",
+            101,
+            "refused: main.c: type TooDeep at line 1 token 411",
+        ),
+        done("if(1);else ", "", 1300, "ended 0"),
         done(
             "if(1);else ",
             "x",
             1300,
-            "type Unknown at line 1 token 7806",
+            "refused: main.c: type Unknown at line 1 token 7806",
         ),
-        done("while(0)", "", 2000, "form not built"),
-        done("while(0)", "x", 2000, "type Unknown at line 1 token 8006"),
+        done("while(0)", "", 2000, "ended 0"),
+        done(
+            "while(0)",
+            "x",
+            2000,
+            "refused: main.c: type Unknown at line 1 token 8006",
+        ),
     ]
 }
 
@@ -169,41 +247,41 @@ fn text_of(alloc: Global, deep: Deep) -> Result<String, AllocError> {
     Ok(text)
 }
 
-/// The line that the command writes for a text which it refuses with status 3 and no output; else the status.
-fn refusal(alloc: Global, text: &[u8]) -> Result<String, Fail> {
-    let seen = run(
-        alloc,
-        &["one", "main.c"],
+/// The line that the command writes for a text of which there is no output, without its end; where there is output, that.
+fn said(alloc: Global, text: &[u8]) -> Result<String, Fail> {
+    let given = Given {
+        words: &ONE,
         text,
-        NONE,
-        FlatMemory::new(alloc),
-    )?;
-    if seen.status != 3 || !seen.out.written().is_empty() {
-        return Ok(format!(in alloc; "status {}", seen.status)?);
-    }
-    Ok(String::from_str(alloc, str::from_utf8(seen.msg.written())?)?)
+        input: b"",
+        fails: NONE,
+    };
+    let seen = run(alloc, given, FlatMemory::new(alloc))?;
+    let said = if seen.out.written().is_empty() {
+        seen.msg.written()
+    } else {
+        seen.out.written()
+    };
+    Ok(String::from_str(alloc, str::from_utf8(said)?.trim_end())?)
 }
 
 #[test]
 fn each_refused_text_has_its_line(rt: HostRuntime) -> Result<(), Fail> {
     for (text, expected) in ROWS {
-        let line = format!(in rt.alloc(); "refused: {expected}\n")?;
-        let seen = refusal(rt.alloc(), text.as_bytes())?;
+        let line = format!(in rt.alloc(); "refused: {expected}")?;
+        let seen = said(rt.alloc(), text.as_bytes())?;
         assert_eq!(rt; seen.as_str(), line.as_str(), "in {text:?}");
     }
     Ok(())
 }
 
 #[test]
-fn a_deep_text_is_judged_within_the_stack(rt: HostRuntime) -> Result<(), Fail> {
+fn a_deep_text_is_judged_and_run_within_the_stack(rt: HostRuntime) -> Result<(), Fail> {
     for deep in deep_texts() {
         let text = text_of(rt.alloc(), deep)?;
-        let expected = deep.expected;
-        let line = format!(in rt.alloc(); "refused: main.c: {expected}\n")?;
-        let seen = refusal(rt.alloc(), text.as_bytes())?;
+        let seen = said(rt.alloc(), text.as_bytes())?;
         assert_eq!(rt;
             seen.as_str(),
-            line.as_str(),
+            deep.expected,
             "{} times {:?}",
             deep.times,
             deep.open
@@ -212,22 +290,30 @@ fn a_deep_text_is_judged_within_the_stack(rt: HostRuntime) -> Result<(), Fail> {
     Ok(())
 }
 
-/// A program of this many bytes, of which the last are blanks.
-fn blanks(alloc: Global, bytes: usize) -> Result<String, AllocError> {
-    let mut text = String::from_str(alloc, "long main(void) { return 0; }")?;
-    for _ in text.len()..bytes {
-        text.push(' ')?;
+/// A program that does nothing, behind so many variables, and then blanks up to so many bytes.
+fn long_text(alloc: Global, variables: usize, bytes: usize) -> Result<String, AllocError> {
+    let mut text = String::from_str(alloc, "long main(void) { return 0; }\n")?;
+    for n in 0..variables {
+        let line = format!(in alloc; "long a{n};\n")?;
+        text.push_str(line.as_str())?;
     }
+    let more = bytes.saturating_sub(text.len());
+    push_times(&mut text, more, " ")?;
     Ok(text)
 }
 
 #[test]
-fn a_file_has_at_most_1048576_bytes(rt: HostRuntime) -> Result<(), Fail> {
-    let longest = blanks(rt.alloc(), 1_048_576)?;
-    let seen = refusal(rt.alloc(), longest.as_bytes())?;
-    assert_eq!(rt; seen.as_str(), "status 0");
-    let longer = blanks(rt.alloc(), 1_048_577)?;
-    let seen = refusal(rt.alloc(), longer.as_bytes())?;
-    assert_eq!(rt; seen.as_str(), "refused: main.c: more than 1048576 bytes\n");
+fn a_text_is_as_long_and_has_as_many_names_as_the_limits_say(rt: HostRuntime) -> Result<(), Fail> {
+    let rows = [
+        (0, 1_048_576, "ended 0"),
+        (0, 1_048_577, "refused: main.c: more than 1048576 bytes"),
+        (16_383, 0, "ended 0"),
+        (16_384, 0, "refused: app: 16385 names, at most 16384"),
+    ];
+    for (variables, bytes, expected) in rows {
+        let text = long_text(rt.alloc(), variables, bytes)?;
+        let seen = said(rt.alloc(), text.as_bytes())?;
+        assert_eq!(rt; seen.as_str(), expected);
+    }
     Ok(())
 }
