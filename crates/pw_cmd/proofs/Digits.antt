@@ -17,8 +17,8 @@ from_is : (low high byte : ℕ) → low ≤ byte → byte ≤ high → is_from l
 from_is low high byte above below = grind (arith, nat_tests)
 
 -- one more digit
-pub one_more : (word : List ℕ) (i digit steps : ℕ) → i < length word → digit ≡ get_or word i 0 - 48 → 48 ≤ get_or word i 0 → get_or word i 0 ≤ 57 →
-    (steps ≡ decimal_value (take i word)) × (steps < 10 ^ i) × AreDigits (take i word)
+pub one_more : (word : List ℕ) (i digit steps : ℕ) → i < length word → digit ≡ get_or word i 0 - 48 → 48 ≤ get_or word i 0
+    → get_or word i 0 ≤ 57 → (steps ≡ decimal_value (take i word)) × (steps < 10 ^ i) × AreDigits (take i word)
     → (10 * steps + digit ≡ decimal_value (take (i + 1) word)) × (10 * steps + digit < 10 ^ (i + 1)) × AreDigits (take (i + 1) word)
 one_more word i digit steps there is low high so_far = (
   ap (λ n. 10 * n + digit) so_far.0 ∙ ap (λ d. 10 * decimal_value (take i word) + d) is

@@ -38,7 +38,8 @@ spell_enough (suc j) (suc k) n after p q =
     by (eqb (n / 16) 0) (spell_enough j k (n / 16) (last n ∷ after) (omega arith) (omega arith))
   where
     by : (one : Bool) → spell (suc j) (n / 16) (last n ∷ after) ≡ spell (suc k) (n / 16) (last n ∷ after) →
-        cond one (last n ∷ after) (spell (suc j) (n / 16) (last n ∷ after)) ≡ cond one (last n ∷ after) (spell (suc k) (n / 16) (last n ∷ after))
+        cond one (last n ∷ after) (spell (suc j) (n / 16) (last n ∷ after))
+        ≡ cond one (last n ∷ after) (spell (suc k) (n / 16) (last n ∷ after))
     by true same = refl
     by false same = same
 
@@ -46,4 +47,5 @@ spell_enough (suc j) (suc k) n after p q =
 pub hexadecimal_more : (n : ℕ) → 16 ≤ n → n < 2 ^ 64 → digits 16 false n ≡ digits 16 false (n / 16) ++ digit_glyph false (n % 16) ∷ []
 unfolding digits
 hexadecimal_more n several small =
-    spell_more 63 n [] (λ e. omega arith) ∙ spell_enough 62 63 (n / 16) (last n ∷ []) (omega arith) (omega arith) ∙ spell-append 64 (n / 16) (last n ∷ [])
+    spell_more 63 n [] (λ e. omega arith) ∙ spell_enough 62 63 (n / 16) (last n ∷ []) (omega arith) (omega arith)
+    ∙ spell-append 64 (n / 16) (last n ∷ [])

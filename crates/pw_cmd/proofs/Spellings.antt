@@ -11,16 +11,18 @@ use Rattle.pw_cmd.specs.declared.words.Request.{Request}
 use Rattle.pw_cmd.specs.Words.{WritesSteps, SaysFile, SaysStepsLast, SaysStepsFirst, AsksForOne, ReadsCommand}
 use Rattle.pw_cmd.specs.Steps.{ReadsFileName, ReadsRequest}
 
--- words whose bytes differ, by a test, are not the same; and the others are
+-- two words are the same where the test says so
 pub same_word : (a b : List ℕ) → true ≡ bytes_eq a b → a ≡ b
 same_word a b test = (bytes_eq-Decides a b).0 (sym test)
 
+-- two words that are not other are the same
 pub no_other_word : (a b : List ℕ) → false ≡ not (bytes_eq a b) → a ≡ b
 no_other_word a b test = by (bytes_eq a b) refl test where
   by : (t : Bool) → bytes_eq a b ≡ t → false ≡ not t → a ≡ b
   by true is test = same_word a b (sym is)
   by false is test = absurd (cc)
 
+-- words that are not the same by the test are other
 pub other_word : (a b : List ℕ) → false ≡ bytes_eq a b → a ≢ b
 other_word a b test same = let is = (bytes_eq-Decides a b).1 same in cc
 
@@ -30,6 +32,7 @@ two_not_four e = cc
 
 -- ---- two words
 
+-- no file is named
 pub alone_refused : (command file : List ℕ) (error : CommandError) → command ≡ codes "one" → ReadsFileName file (Err error) →
     ReadsCommand (command ∷ file ∷ []) (Err error)
 alone_refused command file NoMemory one named = (
@@ -55,11 +58,13 @@ alone_refused command file NoCommand one known = λ request asks. by_spelling re
 -- ---- four words
 
 module _ (command first second third : List ℕ) (one : command ≡ codes "one") where
+  -- the four words
   abbrev pub words : List (List ℕ)
   words = command ∷ first ∷ second ∷ third ∷ []
 
   -- the option before the file
-  pub option_first : (result : Result Request CommandError) → first ≡ codes "--steps" → ReadsRequest third 3 second result → ReadsCommand words result
+  pub option_first : (result : Result Request CommandError) → first ≡ codes "--steps" → ReadsRequest third 3 second result
+      → ReadsCommand words result
   option_first (Ok request) option r = record {
     spelled = inr (inr (second, spelled, r.1, r.3));
     name = subst IsName (sym r.0) r.2.name;
@@ -95,8 +100,8 @@ module _ (command first second third : List ℕ) (one : command ≡ codes "one")
         }) (subst (λ word. WritesSteps word request.steps) number said.3)
 
   -- the option after the file
-  pub option_last : (result : Result Request CommandError) → first ≢ codes "--steps" → second ≡ codes "--steps" → ReadsRequest first 1 third result →
-      ReadsCommand words result
+  pub option_last : (result : Result Request CommandError) → first ≢ codes "--steps" → second ≡ codes "--steps"
+      → ReadsRequest first 1 third result → ReadsCommand words result
   option_last (Ok request) other option r = record {
     spelled = inr (inl (third, spelled, r.1, r.3));
     name = subst IsName (sym r.0) r.2.name;

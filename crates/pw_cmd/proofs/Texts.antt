@@ -19,12 +19,14 @@ broken_in bytes first part more old mid new whole put broken =
     record {
       put = first ++ broken.put;
       more = broken.more ++ more;
-      whole = whole ∙ ap (λ p. first ++ (p ++ more)) broken.whole ∙ ap (λ p. first ++ p) (append_assoc broken.put broken.more more) ∙ sym (append_assoc first broken.put (broken.more ++ more));
+      whole = whole ∙ ap (λ p. first ++ (p ++ more)) broken.whole ∙ ap (λ p. first ++ p) (append_assoc broken.put broken.more more)
+          ∙ sym (append_assoc first broken.put (broken.more ++ more));
       fails = subst (λ s. SinkFails s new) (ap (wrote broken.put) put ∙ wrote_wrote first broken.put old) broken.fails;
     }
 
 -- a prefix that breaks off
-pub broken_first : (bytes first more : List ℕ) (old new : SinkState) → bytes ≡ first ++ more → BreaksOff first old new → BreaksOff bytes old new
+pub broken_first : (bytes first more : List ℕ) (old new : SinkState) → bytes ≡ first ++ more → BreaksOff first old new
+    → BreaksOff bytes old new
 broken_first bytes first more old new whole broken = record {
   put = broken.put;
   more = broken.more ++ more;
@@ -33,7 +35,8 @@ broken_first bytes first more old new whole broken = record {
 }
 
 -- a part that is put after a prefix
-pub put_more : (first part : List ℕ) (old mid new : SinkState) → mid ≡ wrote first old → new ≡ wrote part mid → new ≡ wrote (first ++ part) old
+pub put_more : (first part : List ℕ) (old mid new : SinkState) → mid ≡ wrote first old → new ≡ wrote part mid
+    → new ≡ wrote (first ++ part) old
 put_more first part old mid new before after = after ∙ ap (wrote part) before ∙ wrote_wrote first part old
 
 -- one byte
@@ -46,4 +49,5 @@ puts_byte byte old new (Err _) put fails = broken_at (byte ∷ []) [] (byte ∷ 
 pub puts_rest : (bytes first rest : List ℕ) (old mid new : SinkState) (result : Result (Unit {0}) Failed) →
     bytes ≡ first ++ rest → mid ≡ wrote first old → PutsAll rest mid new result → PutsAll bytes old new result
 puts_rest bytes first rest old mid new (Ok _) whole put puts = put_more first rest old mid new put puts ∙ ap (λ b. wrote b old) (sym whole)
-puts_rest bytes first rest old mid new (Err _) whole put puts = broken_in bytes first rest [] old mid new (whole ∙ ap (λ p. first ++ p) (sym (append-nil rest))) put puts
+puts_rest bytes first rest old mid new (Err _) whole put puts =
+    broken_in bytes first rest [] old mid new (whole ∙ ap (λ p. first ++ p) (sym (append-nil rest))) put puts

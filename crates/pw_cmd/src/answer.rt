@@ -10,15 +10,16 @@ use pw_module::KeptRow;
 pub enum Outcome {
     /// `main` returned this value.
     Ended(u64),
-    /// A check of the program failed: of this kind, in the function of this row, and in this line. A run of which the
-    /// input reports bytes has a row.
+    /// A check of the program failed: of this kind, in the function of this row, and in this line.
+    /// A run of which the input reports bytes has a row.
     Faulted(u8, Option<KeptRow>, u64),
     /// No counted step was left.
     Spent,
-    /// An instruction could not be carried out: the cause, the address of the instruction, and the value. Where the input
-    /// reports bytes, no run ends so.
+    /// An instruction could not be carried out: the cause, the address of the instruction, and the
+    /// value. Where the input reports bytes, no run ends so.
     Trapped(u8, u64, u64),
-    /// So many instructions were fetched, as many as were allowed. Where the input reports bytes, no run ends so.
+    /// So many instructions were fetched, as many as were allowed. Where the input reports bytes, no
+    /// run ends so.
     Limited(u64),
 }
 

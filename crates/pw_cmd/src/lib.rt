@@ -1,5 +1,6 @@
-//! The commands: from the arguments of a command line to the exit status, a message line, the output and the memory that
-//! ran. `top` takes the words after the program's name, `run` the arguments, and `run_on_system` those of the system.
+//! The commands: from the arguments of a command line to the exit status, a message line, the
+//! output and the memory that ran. `top` takes the words after the program's name, `run` the
+//! arguments, and `run_on_system` those of the system.
 #![tactic(auto)]
 
 mod answer;

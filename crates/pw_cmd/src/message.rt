@@ -16,7 +16,8 @@ fn say_answer<S: Sink>(
     words: &[String],
     answer: &Result<Outcome, Stop>,
 ) -> Result<(), Failed>
-    ensures { PutsAll (sentence_of (texts words.now) answer.now) (S.state sink.old) (S.state sink.new) result }
+    ensures { PutsAll (sentence_of (texts words.now) answer.now)
+        (S.state sink.old) (S.state sink.new) result }
 {
     match answer {
         Ok(outcome) => outcome.say(sink),
@@ -26,7 +27,8 @@ fn say_answer<S: Sink>(
 
 /// Says why there is no outcome.
 fn say_stop<S: Sink>(sink: &mut S, words: &[String], stop: &Stop) -> Result<(), Failed>
-    ensures { PutsAll (reason_of (texts words.now) stop.now) (S.state sink.old) (S.state sink.new) result }
+    ensures { PutsAll (reason_of (texts words.now) stop.now)
+        (S.state sink.old) (S.state sink.new) result }
 {
     match stop {
         Stop::Usage => "usage: pw COMMAND ARGUMENTS".say(sink),
@@ -39,7 +41,8 @@ fn say_stop<S: Sink>(sink: &mut S, words: &[String], stop: &Stop) -> Result<(), 
 
 /// Says what is refused, and what for. A file is named as its word names it.
 fn say_refusal<S: Sink>(sink: &mut S, words: &[String], refusal: &Refusal) -> Result<(), Failed>
-    ensures { PutsAll (reason_of (texts words.now) (Stop.Refused refusal.now)) (S.state sink.old) (S.state sink.new) result }
+    ensures { PutsAll (reason_of (texts words.now) (Stop.Refused refusal.now))
+        (S.state sink.old) (S.state sink.new) result }
 {
     match refusal {
         Refusal::File(number, fault) => {
@@ -68,16 +71,19 @@ fn say_line<S: Sink>(
     words: &[String],
     answer: &Result<Outcome, Stop>,
 ) -> Result<(), Failed>
-    ensures { PutsLine (message_line (texts words.now) answer.now) (S.state sink.old) (S.state sink.new) result }
+    ensures { PutsLine (message_line (texts words.now) answer.now)
+        (S.state sink.old) (S.state sink.new) result }
 {
     say_answer(sink, words, answer)?;
     sink.put(b'\n')?;
     sink.flush()
 }
 
-/// Reports the answer, and gives the status that the program ends with: the answer's, or 7 where the reporting failed.
+/// Reports the answer, and gives the status that the program ends with: the answer's, or 7 where
+/// the reporting failed.
 pub fn report<S: Sink>(sink: &mut S, words: &[String], answer: &Result<Outcome, Stop>) -> u8
-    ensures { Reports (message_line (texts words.now) answer.now) (status_of answer.now) (S.state sink.old) (S.state sink.new) result }
+    ensures { Reports (message_line (texts words.now) answer.now) (status_of answer.now)
+        (S.state sink.old) (S.state sink.new) result }
 {
     match say_line(sink, words, answer) {
         Ok(()) => status(answer),

@@ -35,7 +35,8 @@ fn say_checked<E: Sink>(
     row: &Option<KeptRow>,
     line: u64,
 ) -> Result<(), Failed>
-    ensures { PutsAll (checked_text kind (row_text row.now) line) (E.state sink.old) (E.state sink.new) result }
+    ensures { PutsAll (checked_text kind (row_text row.now) line)
+        (E.state sink.old) (E.state sink.new) result }
 {
     match row {
         Some(row) => {

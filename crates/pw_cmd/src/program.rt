@@ -14,9 +14,9 @@ use std::alloc::Global;
 /// The words of a command are fewer than this, and so are their bytes together.
 const WORDS_END: usize = 0x8000_0000;
 
-/// Does what the arguments after the program's name ask for, says on `msg` how that ended, and answers the exit status
-/// and the memory. Where the arguments are no words, it says how the program is used, and the status is 2, or 7 where
-/// that fails; the program's name is never read.
+/// Does what the arguments after the program's name ask for, says on `msg` how that ended, and
+/// answers the exit status and the memory. Where the arguments are no words, it says how the program
+/// is used, and the status is 2, or 7 where that fails; the program's name is never read.
 pub fn run<A: Arguments, S: Store, I: Source, O: Sink, E: Sink, M: Memory>(
     alloc: Global,
     arguments: &A,

@@ -30,7 +30,8 @@ pub fn put_both<A: Says, B: Says, E: Sink>(
     first: &A,
     second: &B,
 ) -> Result<(), Failed>
-    ensures { PutsAll (A.text first.now ++ B.text second.now) (E.state sink.old) (E.state sink.new) result }
+    ensures { PutsAll (A.text first.now ++ B.text second.now)
+        (E.state sink.old) (E.state sink.new) result }
 {
     first.say(sink)?;
     second.say(sink)

@@ -11,8 +11,8 @@ use std::io::{Read, Write};
 use std::process::ExitCode;
 use std::rt::Files;
 
-/// Runs the program with the arguments and the current folder of this system, on these streams, and ends with
-/// this status. The messages go to `errors`.
+/// Runs the program with the arguments and the current folder of this system, on these streams, and
+/// ends with this status. The messages go to `errors`.
 pub fn run_on_system<
     R: Env + Files + AllocGlobal,
     I: Read + Drop,

@@ -35,9 +35,9 @@ const STEPS: &[u8] = b"--steps";
 /// A number of counted steps is written with at most so many digits.
 const STEPS_DIGITS: usize = 10;
 
-/// What the words ask for. Refusal: `NoCommand` exactly where they are not `one FILE`, `one FILE --steps N` or
-/// `one --steps N FILE`, with a name for FILE that begins with no dash, and for N 1 to 10 decimal digits that write a number of
-/// at most 1,000,000,000.
+/// What the words ask for. Refusal: `NoCommand` exactly where they are not `one FILE`,
+/// `one FILE --steps N` or `one --steps N FILE`, with a name for FILE that begins with no dash, and
+/// for N 1 to 10 decimal digits that write a number of at most 1,000,000,000.
 pub fn asked(alloc: Global, words: &[String]) -> Result<Request, CommandError>
     ensures { ReadsCommand (texts words.now) result }
 {

@@ -7,7 +7,8 @@ use Rattle.pw_cmd.proofs.hexadecimal.+say_digits.Goals as goal
 
 pub returns-then-number-lt16 : goal.returns-then-number-lt16
 returns-then-number-lt16 g t c =
-    rw (hex_one_digit _ c.args.number c.if-number-lt16.true, ← c.glyph.ensures) (puts_byte _ _ _ c.put.result c.put.ensures.ok c.put.ensures.err)
+    rw (hex_one_digit _ c.args.number c.if-number-lt16.true, ← c.glyph.ensures)
+    (puts_byte _ _ _ c.put.result c.put.ensures.ok c.put.ensures.err)
 
 pub returns-in_err-say_digits : goal.returns-in_err-say_digits
 returns-in_err-say_digits g t c =
@@ -16,5 +17,6 @@ returns-in_err-say_digits g t c =
 
 pub returns : goal.returns
 returns g t c =
-    puts_rest _ _ _ _ _ _ c.put-2.result (hexadecimal_more c.args.number c.if-number-lt16.false c.ranges.number.fits) c.in_ok-say_digits.ensures
+    let more = hexadecimal_more c.args.number c.if-number-lt16.false c.ranges.number.fits in
+    puts_rest _ _ _ _ _ _ c.put-2.result more c.in_ok-say_digits.ensures
     (rw (← c.glyph-2.ensures) (puts_byte _ _ _ c.put-2.result c.put-2.ensures.ok c.put-2.ensures.err))

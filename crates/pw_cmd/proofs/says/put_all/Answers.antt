@@ -9,4 +9,5 @@ pub returns-in_err-put : goal.returns-in_err-put
 returns-in_err-put g c =
     let p = err_from_is_err_and c.from_residual.result c.from_residual.ensures.1 in
     let i = c.loop-byte.byte-index in
-    rw p.1 (broken_at _ (take i c.args.bytes.now) (drop i c.args.bytes.now) _ _ _ (sym (take-append-drop i c.args.bytes.now)) c.loop-byte.invariant c.in_err-put.ensures.err)
+    let bytes = c.args.bytes.now in
+    rw p.1 (broken_at _ (take i bytes) (drop i bytes) _ _ _ (sym (take-append-drop i bytes)) c.loop-byte.invariant c.in_err-put.ensures.err)
