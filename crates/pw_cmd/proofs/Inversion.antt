@@ -4,14 +4,14 @@ use Rattle.pw_hart.specs.Outside.{Outside}
 use Rattle.pw_cmd.specs.declared.answer.Stop.{Stop}
 use Rattle.pw_cmd.specs.Stages.{Stage, Then, stopped, went_on, CallsBelow, gave, failed}
 
-ok_same : {T : Type 0} {x y : T} → ◌≡◌ {A = Result T Stop} (Ok x) (Ok y) → x ≡ y
+pub ok_same : {T : Type 0} {x y : T} → ◌≡◌ {A = Result T Stop} (Ok x) (Ok y) → x ≡ y
 ok_same e = cc
 
 -- two answers that are the same stop for the same reason
 pub err_same : {T : Type 0} {x y : Stop} → ◌≡◌ {A = Result T Stop} (Err x) (Err y) → x ≡ y
 err_same e = cc
 
-ok_is_not_err : {T : Type 0} {x : T} {why : Stop} → ◌≡◌ {A = Result T Stop} (Ok x) (Err why) → ⊥
+pub ok_is_not_err : {T : Type 0} {x : T} {why : Stop} → ◌≡◌ {A = Result T Stop} (Ok x) (Err why) → ⊥
 ok_is_not_err e = cc
 
 -- two stages gave a value, so the first gave one to the second
