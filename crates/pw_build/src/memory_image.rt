@@ -4,12 +4,10 @@ ghost use Rattle.pw_mem.specs.Map.{CanMap, mapped};
 ghost use Rattle.pw_mem.specs.States.{with_mem};
 ghost use Rattle.pw_build.specs.Steps.Memories.{Fit, Places, regions_of, memory_of};
 
+use crate::extents::TEXT_START;
 use bitflags::Flags;
 use pw_base::{Limits, NoMemory};
 use pw_mem::{MapError, Memory, Region, Rights};
-
-/// The address of the program's text.
-const TEXT_START: u64 = Limits::MODULE_SPAN + Limits::TEXT_OFFSET;
 
 /// The address of the program's data.
 const DATA_START: u64 = Limits::MODULE_SPAN + Limits::DATA_OFFSET;

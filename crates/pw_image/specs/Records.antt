@@ -10,6 +10,7 @@ abbrev pub record_from : (n : ℕ) → List FunRec → (symbol : ℕ) → Option
 record_from n [] symbol = None
 record_from n (r ∷ rs) symbol = if nat_eq r.sym symbol then Some n else record_from (n + 1) rs symbol
 
+-- The number of the record of a symbol among all records.
 abbrev pub record_of : List FunRec → (symbol : ℕ) → Option ℕ
 record_of records symbol = record_from 0 records symbol
 

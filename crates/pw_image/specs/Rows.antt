@@ -39,11 +39,12 @@ abbrev pub file_of_row : (file : List ℕ) → ℕ → Option (List ℕ)
 file_of_row file zero = None
 file_of_row file (suc i) = Some file
 
--- The name of a function, and its bytes.
+-- The name of a function.
 abbrev pub name_of_row : TypedUnit → ℕ → Option (List ℕ)
 name_of_row unit zero = Some entry_name
 name_of_row unit (suc i) = option_map (λ f. f.name) (slice_get unit.functions i)
 
+-- The bytes of a function.
 abbrev pub bytes_of_row : TypedUnit → ℕ → Option ℕ
 bytes_of_row unit zero = Some (4 * size entry_code)
 bytes_of_row unit (suc i) = option_map (λ f. 4 * function_words f) (slice_get unit.functions i)

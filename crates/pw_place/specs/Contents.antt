@@ -55,6 +55,7 @@ abbrev pub words_of_function : Kind → List Object → (unit : ℕ) → ℕ × 
 words_of_function kind objects unit (i, f) =
     words_of_code kind objects unit (text_offset + function_start kind objects unit i) f.items
 
+-- The words of the functions of a unit, in their order.
 abbrev pub words_of_unit : Kind → List Object → ℕ × Object → List ℕ
 words_of_unit kind objects (unit, o) = flat_map (words_of_function kind objects unit) (enumerate_from 0 o.funs)
 
@@ -104,13 +105,16 @@ pointers_in_element unit variable start (j, Num value) = []
 pointers_in_element unit variable start (j, Fun f) =
     record { unit = unit; variable = variable; at = start + doubleword_bytes * j; function = f } ∷ []
 
+-- The pointers in a list of values of a variable.
 abbrev pub pointers_in_values : Kind → List Object → (unit i : ℕ) → TVar → List Init → List Pointer
 pointers_in_values kind objects unit i x values =
     flat_map (pointers_in_element unit (ref_of_variable i x) (variable_start kind objects unit i)) (enumerate_from 0 values)
 
+-- The pointers in a variable.
 abbrev pub pointers_in_variable : Kind → List Object → (unit : ℕ) → ℕ × TVar → List Pointer
 pointers_in_variable kind objects unit (i, x) = pointers_in_values kind objects unit i x (values_of x)
 
+-- The pointers in the variables of a unit, in their order.
 abbrev pub pointers_in_unit : Kind → List Object → ℕ × Object → List Pointer
 pointers_in_unit kind objects (unit, o) =
     flat_map (pointers_in_variable kind objects unit) (enumerate_from 0 o.vars)
@@ -127,6 +131,7 @@ relocation_to kind objects unit (Global name) = Sym (external_number kind object
 relocation_to kind objects unit (LocalFun i) = Base (target kind objects unit (LocalFun i))
 relocation_to kind objects unit (LocalVar i) = Base (target kind objects unit (LocalVar i))
 
+-- The relocation of a pointer, at its place in the data.
 abbrev pub pointer_relocation : Kind → List Object → Pointer → Reloc
 pointer_relocation kind objects p =
     record { offset = data_offset + p.at; kind = relocation_to kind objects p.unit p.function }

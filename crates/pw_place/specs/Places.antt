@@ -18,15 +18,19 @@ use Rattle.pw_place.specs.Names.{first_of_each}
 
 -- ---- the definitions of some units, in order of units and definition, and of one unit
 
+-- The functions of some units.
 abbrev pub functions : List Object → List FunCode
 functions objects = flat_map (λ o. o.funs) objects
 
+-- The variables of some units.
 abbrev pub variables : List Object → List TVar
 variables objects = flat_map (λ o. o.vars) objects
 
+-- The functions of the unit of this number.
 abbrev pub functions_in : List Object → (unit : ℕ) → List FunCode
 functions_in objects unit = option_map_or (λ o. o.funs) (slice_get objects unit) []
 
+-- The variables of the unit of this number.
 abbrev pub variables_in : List Object → (unit : ℕ) → List TVar
 variables_in objects unit = option_map_or (λ o. o.vars) (slice_get objects unit) []
 
@@ -34,6 +38,7 @@ variables_in objects unit = option_map_or (λ o. o.vars) (slice_get objects unit
 abbrev pub functions_before : List Object → (unit i : ℕ) → List FunCode
 functions_before objects unit i = functions (take unit objects) ++ take i (functions_in objects unit)
 
+-- The variables of a module that stand before one of them.
 abbrev pub variables_before : List Object → (unit i : ℕ) → List TVar
 variables_before objects unit i = variables (take unit objects) ++ take i (variables_in objects unit)
 
@@ -63,6 +68,7 @@ text_items kind objects = entry_items kind ++ flat_map (λ f. f.items) (function
 abbrev pub slot_names : Kind → List Object → List (List ℕ)
 slot_names kind objects = first_of_each bytes_eq (flat_map names_in_item (text_items kind objects))
 
+-- The bytes of all slots.
 abbrev pub slots_size : Kind → List Object → ℕ
 slots_size kind objects = doubleword_bytes * length (slot_names kind objects)
 
@@ -72,9 +78,11 @@ slot_start kind objects name = doubleword_bytes * position_or_len (bytes_eq name
 
 -- ---- the variables: after the slots those with an initialiser, and then the others (gABI, `.data` and `.bss`)
 
+-- The bytes of those variables that have an initialiser.
 abbrev pub initialised_size : List TVar → ℕ
 initialised_size xs = sum_by variable_bytes (filter is_initialised xs)
 
+-- The bytes of those that have none.
 abbrev pub uninitialised_size : List TVar → ℕ
 uninitialised_size xs = sum_by variable_bytes (filter is_uninitialised xs)
 

@@ -36,6 +36,7 @@ elements objects = sum_by (λ x. room x.count) (variables objects)
 abbrev pub is_defined_twice : List Object → Ext → Bool
 is_defined_twice objects n = nat_lt 1 (definitions_of objects n.name)
 
+-- The first external name that is defined twice.
 abbrev pub duplicate : List Object → Option LinkError
 duplicate objects = option_map (λ n. Duplicate n.name) (find (is_defined_twice objects) (external_names objects))
 
@@ -47,21 +48,26 @@ other_entry objects n = find (λ other. same_name n other && not (bytes_eq n.tex
 abbrev pub type_fault : List Object → Ext → Option LinkError
 type_fault objects n = option_map (λ other. TypeDiffers n.name n.text other.text) (other_entry objects n)
 
+-- The first external name that has two types.
 abbrev pub type_differs : List Object → Option LinkError
 type_differs objects = first_some (map (type_fault objects) (external_names objects))
 
 -- ---- `main`, which a program defines with the type `long main(void)`
 
+-- The name of the function that a program begins with.
 abbrev pub main_name : List ℕ
 main_name = codes "main"
 
+-- A program does not define it.
 abbrev pub no_main : Kind → List Object → Option LinkError
 no_main Program objects = if nat_eq (definitions_of objects main_name) 0 then Some NoMain else None
 no_main Library objects = None
 
+-- A type that is not `long main(void)`.
 abbrev pub wrong_text : List ℕ → Option LinkError
 wrong_text text = if bytes_eq text (codes "l()") then None else Some (MainType text)
 
+-- A program gives it another type.
 abbrev pub main_type : Kind → List Object → Option LinkError
 main_type Program objects = option_and_then wrong_text (text_named main_name (external_names objects))
 main_type Library objects = None

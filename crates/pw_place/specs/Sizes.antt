@@ -20,6 +20,7 @@ item_words (Addr rd to) = 2
 abbrev pub item_bytes : Item → ℕ
 item_bytes item = bytes_of_words (item_words item)
 
+-- The bytes of a list of items.
 abbrev pub code_bytes : List Item → ℕ
 code_bytes items = sum_by item_bytes items
 
@@ -31,6 +32,7 @@ function_bytes f = code_bytes f.items
 abbrev pub doubleword_bytes : ℕ
 doubleword_bytes = 8
 
+-- The bytes of a variable: eight for each of its elements.
 abbrev pub variable_bytes : TVar → ℕ
 variable_bytes x = doubleword_bytes * room x.count
 

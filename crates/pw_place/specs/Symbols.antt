@@ -29,6 +29,7 @@ function_symbol kind objects unit (i, f) = record {
   text = f.text;
 }
 
+-- The symbol of a variable, which comes with its number in the unit.
 abbrev pub variable_symbol : Kind → List Object → (unit : ℕ) → ℕ × TVar → Symbol
 variable_symbol kind objects unit (i, x) = record {
   name = x.name;
@@ -47,6 +48,7 @@ unit_symbols kind objects (unit, o) =
 abbrev pub defined_symbols : Kind → List Object → List Symbol
 defined_symbols kind objects = flat_map (unit_symbols kind objects) (enumerate_from 0 objects)
 
+-- The symbols of static definitions.
 abbrev pub static_symbols : Kind → List Object → List Symbol
 static_symbols kind objects = filter (λ s. not s.global) (defined_symbols kind objects)
 
@@ -55,6 +57,7 @@ abbrev pub kind_of_name : Kind → List Object → List ℕ → SymKind
 kind_of_name kind objects name =
     option_map_or (λ s. s.kind) (find (λ s. s.global && bytes_eq s.name name) (defined_symbols kind objects)) Undefined
 
+-- The symbol of an external name.
 abbrev pub external_symbol : Kind → List Object → Ext → Symbol
 external_symbol kind objects n =
     record { name = n.name; global = true; kind = kind_of_name kind objects n.name; text = n.text }
@@ -77,9 +80,11 @@ symbols kind objects =
 abbrev pub static_functions : List FunCode → ℕ
 static_functions fs = count_by (λ f. not f.global) fs
 
+-- How many of some variables are static.
 abbrev pub static_variables : List TVar → ℕ
 static_variables xs = count_by (λ x. not x.global) xs
 
+-- How many static definitions some units have.
 abbrev pub static_definitions : List Object → ℕ
 static_definitions objects = sum_by (λ o. static_functions o.funs + static_variables o.vars) objects
 
@@ -93,6 +98,7 @@ abbrev pub static_function_number : Kind → List Object → (unit i : ℕ) → 
 static_function_number kind objects unit i =
     first_static kind + static_definitions (take unit objects) + static_functions (take i (functions_in objects unit))
 
+-- The number of the symbol of a static variable: those of its unit stand after the unit's static functions.
 abbrev pub static_variable_number : Kind → List Object → (unit i : ℕ) → ℕ
 static_variable_number kind objects unit i =
     first_static kind + static_definitions (take unit objects) + static_functions (functions_in objects unit)
@@ -112,5 +118,6 @@ symbol_number kind objects unit (LocalVar i) = static_variable_number kind objec
 abbrev pub ref_of_function : (i : ℕ) → FunCode → Ref
 ref_of_function i f = if f.global then Global f.name else LocalFun i
 
+-- What refers to a variable: its name, or its number where it is static.
 abbrev pub ref_of_variable : (i : ℕ) → TVar → Ref
 ref_of_variable i x = if x.global then Global x.name else LocalVar i

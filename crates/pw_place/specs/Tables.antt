@@ -40,6 +40,7 @@ function_record kind objects unit (i, f) = record {
   deps = map (symbol_number kind objects unit) f.deps;
 }
 
+-- The records of the functions of a unit.
 abbrev pub unit_records : Kind → List Object → ℕ × Object → List FunRec
 unit_records kind objects (unit, o) = map (function_record kind objects unit) (enumerate_from 0 o.funs)
 

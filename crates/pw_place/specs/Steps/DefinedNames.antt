@@ -23,6 +23,7 @@ defined names name = record {
 abbrev pub function_defined : DefinedNames → FunCode → DefinedNames
 function_defined names f = if f.global then defined names f.name else names
 
+-- And where the variable is not static, its name.
 abbrev pub variable_defined : DefinedNames → TVar → DefinedNames
 variable_defined names x = if x.global then defined names x.name else names
 

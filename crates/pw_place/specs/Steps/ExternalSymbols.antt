@@ -11,6 +11,7 @@ known_kind (Some (Some kind)) = kind
 known_kind (Some None) = Undefined
 known_kind None = Undefined
 
+-- What the name of this number stands for; nothing of this module where it has no number.
 abbrev pub kind_at : List (Option SymKind) → (number : ℕ) → SymKind
 kind_at kinds number = known_kind (slice_get kinds number)
 

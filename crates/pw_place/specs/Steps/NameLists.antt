@@ -18,11 +18,14 @@ all_joined names more = fold joined names more
 abbrev pub item_joined : List (List ℕ) → Item → List (List ℕ)
 item_joined names item = all_joined names (names_in_item item)
 
+-- So for the names in a list of items,
 abbrev pub code_joined : List (List ℕ) → List Item → List (List ℕ)
 code_joined names items = fold item_joined names items
 
+-- for those in the code of a function,
 abbrev pub function_joined : List (List ℕ) → FunCode → List (List ℕ)
 function_joined names f = code_joined names f.items
 
+-- and for those in the code of a unit.
 abbrev pub object_joined : List (List ℕ) → Object → List (List ℕ)
 object_joined names o = fold function_joined names o.funs

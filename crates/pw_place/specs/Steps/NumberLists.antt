@@ -8,9 +8,11 @@ use Rattle.pw_code.specs.declared.object.Object.{Object}
 use Rattle.pw_place.specs.Symbols.{first_static, static_functions, static_variables, static_definitions}
 use Rattle.pw_place.specs.declared.symbol_numbers.UnitNumbers.{UnitNumbers}
 
+-- Is the function static?
 abbrev pub is_static_function : FunCode → Bool
 is_static_function f = not f.global
 
+-- Is the variable static?
 abbrev pub is_static_variable : TVar → Bool
 is_static_variable x = not x.global
 
@@ -34,6 +36,7 @@ unit_numbers first o = record {
   variables = numbers_from is_static_variable (first + static_functions o.funs) o.vars;
 }
 
+-- The numbers of all units, where the first unit begins with this number.
 abbrev pub all_numbers : (first : ℕ) → List Object → List UnitNumbers
 all_numbers first [] = []
 all_numbers first (o ∷ os) = unit_numbers first o ∷ all_numbers (first + static_in o) os
@@ -42,6 +45,7 @@ all_numbers first (o ∷ os) = unit_numbers first o ∷ all_numbers (first + sta
 abbrev pub definitions_in : Object → ℕ
 definitions_in o = length o.funs + length o.vars
 
+-- How many definitions some units have.
 abbrev pub all_definitions : List Object → ℕ
 all_definitions objects = sum_by definitions_in objects
 

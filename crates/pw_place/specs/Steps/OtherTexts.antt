@@ -20,5 +20,6 @@ differs entries n =
 abbrev pub different_joined : List Ext → List (List ℕ) → Ext → List (List ℕ)
 different_joined entries names n = if differs entries n then joined names n.name else names
 
+-- So for the names of a unit.
 abbrev pub unit_different : List Ext → List (List ℕ) → Object → List (List ℕ)
 unit_different entries names o = fold (different_joined entries) names o.names

@@ -46,6 +46,7 @@ abbrev pub main_lacks : Kind → (all : List (List ℕ)) → Option LinkError
 main_lacks Program all = if list_any (bytes_eq main_name) all then None else Some NoMain
 main_lacks Library all = None
 
+-- A program gives `main` another type in these entries.
 abbrev pub main_differs : Kind → List Ext → Option LinkError
 main_differs Program entries = option_and_then wrong_text (text_named main_name entries)
 main_differs Library entries = None

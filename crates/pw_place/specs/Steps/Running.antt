@@ -19,6 +19,7 @@ running seen after s (x ∷ xs) = seen s x ∷ running seen after (after s x) xs
 abbrev pub function_place : Next → FunCode → ℕ
 function_place next f = next.function
 
+-- Where the next ones do, after a function.
 abbrev pub after_function : Next → FunCode → Next
 after_function next f = record next { function = next.function + function_bytes f }
 
@@ -26,6 +27,7 @@ after_function next f = record next { function = next.function + function_bytes 
 abbrev pub variable_place : Next → TVar → ℕ
 variable_place next x = if is_initialised x then next.initialised else next.others
 
+-- Where the next ones do, after a variable.
 abbrev pub after_variable : Next → TVar → Next
 after_variable next x =
     if is_initialised x
@@ -36,12 +38,14 @@ after_variable next x =
 abbrev pub after_functions : Next → Object → Next
 after_functions next o = fold after_function next o.funs
 
+-- The places of the definitions of a unit.
 abbrev pub places_of_unit : Next → Object → UnitPlaces
 places_of_unit next o = record {
   functions = running function_place after_function next o.funs;
   variables = running variable_place after_variable (after_functions next o) o.vars;
 }
 
+-- Where the next ones stand, after a unit.
 abbrev pub after_unit : Next → Object → Next
 after_unit next o = fold after_variable (after_functions next o) o.vars
 
