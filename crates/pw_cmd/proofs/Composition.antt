@@ -59,7 +59,8 @@ none_failed_twice old mid new a b = record {
 }
 
 -- where none failed first, what is known of the counts after it is known from before it
-pub failures_go_on : (old mid new : Outside) (stop : Option Stop) → FailuresStop old mid None → FailuresStop mid new stop → FailuresStop old new stop
+pub failures_go_on : (old mid new : Outside) (stop : Option Stop) → FailuresStop old mid None → FailuresStop mid new stop →
+    FailuresStop old new stop
 failures_go_on old mid new None a b = none_failed_twice old mid new a b
 failures_go_on old mid new (Some Usage) a b = none_failed_twice old mid new a b
 failures_go_on old mid new (Some (Refused why)) a b = none_failed_twice old mid new a b
@@ -140,7 +141,8 @@ never_refuses old mid new (Some WriteFailed) r = tt
 pub cleanly_at_last : {A B : Type 0} (first : Stage A) (next : A → Stage B)
     → Obeys RefusesCleanly first → ((value : A) → Obeys NeverRefuses (next value)) → Obeys RefusesCleanly (Then first next)
 cleanly_at_last first next f n =
-    obeys_both RefusesCleanly NeverRefuses RefusesCleanly first next (λ old new why r. r) (λ old mid new stop c r. never_refuses old mid new stop r) f n
+    obeys_both RefusesCleanly NeverRefuses RefusesCleanly first next (λ old new why r. r)
+    (λ old mid new stop c r. never_refuses old mid new stop r) f n
 
 -- ---- calls of the store
 
@@ -152,9 +154,11 @@ makes_none order old new same = record { made = []; rest = order; whole = refl; 
 
 -- the calls of one order after those of another
 calls_after : (first second : List Asked) (old mid new : StoreState)
-    → mid.calls ≡ (called_all first old).calls → new.calls ≡ (called_all second mid).calls → new.calls ≡ (called_all (first ++ second) old).calls
+    → mid.calls ≡ (called_all first old).calls → new.calls ≡ (called_all second mid).calls
+    → new.calls ≡ (called_all (first ++ second) old).calls
 calls_after first second old mid new a b =
-    b ∙ ap (λ calls. (called_all second (record old { calls = calls })).calls) a ∙ ap (λ s. s.calls) (called_all-called_all first second old)
+    b ∙ ap (λ calls. (called_all second (record old { calls = calls })).calls) a
+    ∙ ap (λ s. s.calls) (called_all-called_all first second old)
 
 -- the first calls of both orders, where the first one stops
 first_stops : (first second : List Asked) (old new : StoreState) → MakesFirst first old new → MakesFirst (first ++ second) old new

@@ -1,17 +1,17 @@
 -- What is known of a stage from its answer.
-use Rattle.std.proofs.Common.{◌≡◌, Result, Ok, Err, ap, sym, subst, ◌∙◌}
+use Rattle.std.proofs.Common.{◌≡◌, Result, Ok, Err, sym, subst}
 use Rattle.pw_hart.specs.Outside.{Outside}
 use Rattle.pw_cmd.specs.declared.answer.Stop.{Stop}
 use Rattle.pw_cmd.specs.Stages.{Stage, Then, stopped, went_on, CallsBelow, gave, failed}
 
-ok_same : {T : Type 0} {x y : T} → ◌≡◌ {A = Result T Stop} (Ok x) (Ok y) → x ≡ y
+pub ok_same : {T : Type 0} {x y : T} → ◌≡◌ {A = Result T Stop} (Ok x) (Ok y) → x ≡ y
 ok_same e = cc
 
 -- two answers that are the same stop for the same reason
 pub err_same : {T : Type 0} {x y : Stop} → ◌≡◌ {A = Result T Stop} (Err x) (Err y) → x ≡ y
 err_same e = cc
 
-ok_is_not_err : {T : Type 0} {x : T} {why : Stop} → ◌≡◌ {A = Result T Stop} (Ok x) (Err why) → ⊥
+pub ok_is_not_err : {T : Type 0} {x : T} {why : Stop} → ◌≡◌ {A = Result T Stop} (Ok x) (Err why) → ⊥
 ok_is_not_err e = cc
 
 -- two stages gave a value, so the first gave one to the second
@@ -31,11 +31,3 @@ pub call_failed : {A E : Type 0} {says : Outside → Outside → Result A E → 
     → CallsBelow says reason old new (Err why) → (error : E) × says old new (Err error) × (why ≡ reason error)
 call_failed (gave value s is) = absurd (ok_is_not_err (sym is))
 call_failed (failed error s is) = (error, s, err_same is)
-
--- two stages and then a third are the first, and then the second and the third
-pub regroup : {A B C : Type 0} {first : Stage A} {next : A → Stage B} {last : B → Stage C} {old new : Outside} {result : Result C Stop}
-    → Then (Then first next) last old new result → Then first (λ value. Then (next value) last) old new result
-regroup (stopped why (stopped reason s e) is) = stopped reason s (is ∙ ap Err (err_same e))
-regroup (stopped why (went_on value mid s t) is) = went_on value mid s (stopped why t is)
-regroup (went_on value mid (stopped reason s e) t) = absurd (ok_is_not_err e)
-regroup (went_on value mid (went_on earlier between s u) t) = went_on earlier between s (went_on value mid u t)

@@ -13,5 +13,11 @@ pub mod Digits
 pub mod Spellings
 pub mod HexadecimalDigits
 pub mod Began
-pub mod Shows
+pub mod Statuses
+pub mod MeantEnds
+pub mod ShowsMeaning
+pub mod OneRefusal
+pub mod Failures
 pub mod Completes
+pub mod Refusing
+pub mod Calls

@@ -11,7 +11,8 @@ use Rattle.pw_cmd.proofs.Composition.{obeys_then, calls_then, none_failed, failu
 
 -- ---- a law that holds where nothing changes
 
-module _ (law : Law) (still : (old new : Outside) → new ≡ old → law old new None) (refused : (old new : Outside) → new ≡ old → law old new (Some NoMemory)) where
+module _ (law : Law) (still : (old new : Outside) → new ≡ old → law old new None)
+    (refused : (old new : Outside) → new ≡ old → law old new (Some NoMemory)) where
   obeys_gives : {A : Type 0} (value : A) → Obeys law (gives value)
   obeys_gives value old new result g = subst (λ r. law old new (stop_in r)) (sym g.0) (still old new g.1)
 
@@ -21,7 +22,8 @@ module _ (law : Law) (still : (old new : Outside) → new ≡ old → law old ne
     by_answer (inl is) = subst (λ r. law old new (stop_in r)) (sym is) (still old new g.1)
     by_answer (inr is) = subst (λ r. law old new (stop_in r)) (sym is) (refused old new g.1)
 
-  obeys_when : {A : Type 0} (stage : A → Stage (Unit {0})) → ((item : A) → Obeys law (stage item)) → (item : Option A) → Obeys law (when item stage)
+  obeys_when : {A : Type 0} (stage : A → Stage (Unit {0})) → ((item : A) → Obeys law (stage item)) → (item : Option A) →
+      Obeys law (when item stage)
   obeys_when stage obeys None = obeys_gives tt
   obeys_when stage obeys (Some item) = obeys item
 
@@ -65,4 +67,5 @@ each_calls stage order obeys number (item ∷ items) =
     subst (λ calls. Obeys (MakesCalls (order item ++ calls)) (each stage number (item ∷ items))) (append-nil rest)
     (calls_then (order item) (rest ++ []) _ _ (obeys number item) (λ value.
     calls_then [] (rest ++ []) _ _ (obeys_takes (MakesCalls []) quiet quiet_stop) (λ _.
-    calls_then rest [] _ _ (each_calls stage order obeys (number + 1) items) (λ values. obeys_gives (MakesCalls []) quiet quiet_stop (value ∷ values)))))
+    calls_then rest [] _ _ (each_calls stage order obeys (number + 1) items) (λ values.
+    obeys_gives (MakesCalls []) quiet quiet_stop (value ∷ values)))))

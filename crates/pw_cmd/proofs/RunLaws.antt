@@ -1,9 +1,7 @@
 -- The laws that the run of an image obeys: which counts of failures rise, what it leaves, and that it never refuses.
 use Rattle.std.proofs.Common.{◌≡◌, ◌≢◌, ℕ, List, [], Option, Some, None, ap, sym, subst, ◌∙◌, inl, inr}
-use Rattle.std.specs.Prelude.{◌⊎◌}
 use Rattle.pw_tree.specs.Units.{TypedUnit}
 use Rattle.pw_io.specs.Faults.{Rises}
-use Rattle.pw_io.specs.Sink.{SinkFails, flushed_all}
 use Rattle.pw_hart.specs.declared.hart.Hart.{Hart}
 use Rattle.pw_hart.specs.declared.ends.End.{End}
 use Rattle.pw_hart.specs.declared.ends.End.TheVariants as ends
@@ -15,7 +13,7 @@ use Rattle.pw_agree.specs.Kept.{Keep}
 use Rattle.pw_image.specs.Rows.{keep_of}
 use Rattle.pw_build.specs.declared.run.Ended.{Ended}
 use Rattle.pw_build.specs.declared.run.Ended.TheVariants.{Exit, Checked, Spent, Trap, Limit, ReadFault, WriteFault}
-use Rattle.pw_build.specs.Executed.{EndsSo, HasExecuted, Finishes, Executes}
+use Rattle.pw_build.specs.Executed.{EndsSo, HasExecuted, Flushes, Finishes, Executes}
 use Rattle.pw_cmd.specs.Primitives.{outcome_of, runs_image}
 use Rattle.pw_cmd.specs.Laws.{stop_in, Obeys, NoneFailed, ReadFailedAlone, WriteFailedAlone, FailuresStop, NeverRefuses, MakesCalls}
 use Rattle.pw_cmd.proofs.Composition.{no_calls, makes_none}
@@ -60,7 +58,7 @@ module _ (unit : TypedUnit) (keep : Keep) (steps : ℕ) where
     before : NoneFailed old (record new { out = f.mid })
     before = none_failed_in old (record new { out = f.mid }) f.end f.as_answered f.ends_so f.runs
 
-    by_flush : ((ended ≡ f.as_answered) × (new.out ≡ flushed_all f.mid)) ⊎ ((ended ≡ WriteFault) × SinkFails f.mid new.out) → NoneFailed old new
+    by_flush : Flushes f.as_answered f.mid new.out ended → NoneFailed old new
     by_flush (inl well) = record {
       store = before.store;
       input = before.input;
@@ -75,8 +73,7 @@ module _ (unit : TypedUnit) (keep : Keep) (steps : ℕ) where
     before : NoneFailed old (record new { out = f.mid })
     before = none_failed_in old (record new { out = f.mid }) f.end f.as_answered f.ends_so f.runs
 
-    by_flush : ((WriteFault ≡ f.as_answered) × (new.out ≡ flushed_all f.mid)) ⊎ ((WriteFault ≡ WriteFault) × SinkFails f.mid new.out) →
-        WriteFailedAlone old new
+    by_flush : Flushes f.as_answered f.mid new.out WriteFault → WriteFailedAlone old new
     by_flush (inl well) = absurd (subst (λ answered. EndsSo unit keep steps f.end answered) (sym well.0) f.ends_so)
     by_flush (inr broke) = record {
       out = subst (λ k. Rises k new.out.faults) before.out broke.1.faults;

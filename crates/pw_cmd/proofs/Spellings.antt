@@ -10,6 +10,7 @@ use Rattle.pw_cmd.specs.declared.words.CommandError.TheVariants.{NoCommand, NoMe
 use Rattle.pw_cmd.specs.declared.words.Request.{Request}
 use Rattle.pw_cmd.specs.Words.{WritesSteps, SaysFile, SaysStepsLast, SaysStepsFirst, AsksForOne, ReadsCommand}
 use Rattle.pw_cmd.specs.Steps.{ReadsFileName, ReadsRequest}
+use Rattle.pw_cmd.proofs.Requests.{two_not_four}
 
 -- two words are the same where the test says so
 pub same_word : (a b : List ℕ) → true ≡ bytes_eq a b → a ≡ b
@@ -25,10 +26,6 @@ no_other_word a b test = by (bytes_eq a b) refl test where
 -- words that are not the same by the test are other
 pub other_word : (a b : List ℕ) → false ≡ bytes_eq a b → a ≢ b
 other_word a b test same = let is = (bytes_eq-Decides a b).1 same in cc
-
--- two words are not four
-two_not_four : {a b c d e f : List ℕ} → a ∷ b ∷ [] ≡ c ∷ d ∷ e ∷ f ∷ [] → ⊥
-two_not_four e = cc
 
 -- ---- two words
 

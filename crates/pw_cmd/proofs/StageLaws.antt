@@ -80,7 +80,12 @@ pub reads_looks : (number : ℕ) (file : List ℕ) → Obeys OnlyLooks (reads nu
 reads_looks number file = obeys_calls OnlyLooks (ReadsFile file) (stop_of_read number) value_law fails
   where
     same : (old new : Outside) → new.store.files ≡ old.store.files → new ≡ record old { store = new.store } → LeavesAll old new
-    same old new files rest = record { files = files; input = ap (λ o. o.input) rest; out = ap (λ o. o.out) rest; memory = ap (λ o. o.memory) rest }
+    same old new files rest = record {
+      files = files;
+      input = ap (λ o. o.input) rest;
+      out = ap (λ o. o.out) rest;
+      memory = ap (λ o. o.memory) rest;
+    }
 
     value_law : (old new : Outside) (text : _) → ReadsFile file old new (Ok text) → LeavesAll old new
     value_law old new text s = same old new (ap (λ t. t.files) s.0.0) s.1
@@ -91,7 +96,8 @@ reads_looks number file = obeys_calls OnlyLooks (ReadsFile file) (stop_of_read n
     fails old new stores.NoMemory s = same old new (ap (λ t. t.files) s.0) s.1
 
 pub reads_calls : (number : ℕ) (file : List ℕ) → Obeys (MakesCalls (Read file ∷ [])) (reads number file)
-reads_calls number file = obeys_calls (MakesCalls (Read file ∷ [])) (ReadsFile file) (stop_of_read number) (λ old new text s. ap (λ t. t.calls) s.0.0) fails
+reads_calls number file =
+    obeys_calls (MakesCalls (Read file ∷ [])) (ReadsFile file) (stop_of_read number) (λ old new text s. ap (λ t. t.calls) s.0.0) fails
   where
     fails : (old new : Outside) (error : _) → ReadsFile file old new (Err error) → MakesFirst (Read file ∷ []) old.store new.store
     fails old new stores.Failed s = record { made = Read file ∷ []; rest = []; whole = refl; calls = s.0.calls }
@@ -128,7 +134,8 @@ builds_cleanly file unit = obeys_calls RefusesCleanly (BuildsImage file unit) st
       memory = memory;
     }
 
-    fails : (old new : Outside) (error : _) → BuildsImage file unit old new (Err error) → RefusesCleanly old new (Some (stop_of_image error))
+    fails : (old new : Outside) (error : _) → BuildsImage file unit old new (Err error) →
+        RefusesCleanly old new (Some (stop_of_image error))
     fails old new (images.Link fault) s = same old new s.0.1 s.1
     fails old new (images.Unbound name) s = same old new s.0.2 s.1
     fails old new images.NoMemory s = same old new s.0 s.1

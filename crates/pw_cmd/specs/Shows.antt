@@ -3,13 +3,13 @@ use Rattle.std.specs.Prelude.{◌≡◌, ◌≢◌, ℕ, ◌-◌, ◌^◌, ◌<�
 use Rattle.pw_base.specs.Limits.{source_bytes}
 use Rattle.pw_base.specs.declared.kinds.Kind.TheVariants.{Program}
 use Rattle.pw_tree.specs.declared.tunit.TUnit.{TUnit}
-use Rattle.pw_tree.specs.Units.{TypedUnit, unit_of}
+use Rattle.pw_tree.specs.Units.{unit_of}
 use Rattle.pw_front.specs.declared.error.FrontError.{FrontError}
 use Rattle.pw_front.specs.Units.{IsTypedUnitOf, FaultOf}
 use Rattle.pw_io.specs.declared.ports.Asked.TheVariants.{Read}
 use Rattle.pw_io.specs.Faults.{Rises}
 use Rattle.pw_io.specs.Sink.{wrote, flushed_all}
-use Rattle.pw_io.specs.Store.{Files, StoreState, StandsIn, PassesLimit, called}
+use Rattle.pw_io.specs.Store.{Files, StoreState, StandsIn, called}
 use Rattle.pw_hart.specs.Outside.{Outside}
 use Rattle.pw_module.specs.declared.kept_row.KeptRow.{KeptRow}
 use Rattle.pw_place.specs.Refusals.{link_fault}

@@ -10,8 +10,8 @@ use pw_io::{Sink, Source, Store};
 use pw_mem::Memory;
 use std::alloc::Global;
 
-/// Does what the words after the program's name ask for, says on `msg` how that ended, and answers the status and the
-/// memory.
+/// Does what the words after the program's name ask for, says on `msg` how that ended, and answers
+/// the status and the memory.
 pub fn top<S: Store, I: Source, O: Sink, E: Sink, M: Memory>(
     alloc: Global,
     words: &[String],
@@ -22,23 +22,35 @@ pub fn top<S: Store, I: Source, O: Sink, E: Sink, M: Memory>(
     mem: M,
 ) -> (u8, M)
     ensures answers { Answers (texts words.now)
-        (outside (S.state store.old) (I.state input.old) (O.state out.old) (E.state msg.old) (M.state mem))
-        (outside (S.state store.new) (I.state input.new) (O.state out.new) (E.state msg.new) (M.state result.1)) result.0 }
+        (outside (S.state store.old) (I.state input.old) (O.state out.old)
+        (E.state msg.old) (M.state mem))
+        (outside (S.state store.new) (I.state input.new) (O.state out.new)
+        (E.state msg.new) (M.state result.1)) result.0 }
     ensures means { Means (texts words.now)
-        (outside (S.state store.old) (I.state input.old) (O.state out.old) (E.state msg.old) (M.state mem))
-        (outside (S.state store.new) (I.state input.new) (O.state out.new) (E.state msg.new) (M.state result.1)) result.0 }
+        (outside (S.state store.old) (I.state input.old) (O.state out.old)
+        (E.state msg.old) (M.state mem))
+        (outside (S.state store.new) (I.state input.new) (O.state out.new)
+        (E.state msg.new) (M.state result.1)) result.0 }
     ensures failures { ReportsFailures (texts words.now)
-        (outside (S.state store.old) (I.state input.old) (O.state out.old) (E.state msg.old) (M.state mem))
-        (outside (S.state store.new) (I.state input.new) (O.state out.new) (E.state msg.new) (M.state result.1)) result.0 }
+        (outside (S.state store.old) (I.state input.old) (O.state out.old)
+        (E.state msg.old) (M.state mem))
+        (outside (S.state store.new) (I.state input.new) (O.state out.new)
+        (E.state msg.new) (M.state result.1)) result.0 }
     ensures completes { Completes (texts words.now)
-        (outside (S.state store.old) (I.state input.old) (O.state out.old) (E.state msg.old) (M.state mem))
-        (outside (S.state store.new) (I.state input.new) (O.state out.new) (E.state msg.new) (M.state result.1)) result.0 }
+        (outside (S.state store.old) (I.state input.old) (O.state out.old)
+        (E.state msg.old) (M.state mem))
+        (outside (S.state store.new) (I.state input.new) (O.state out.new)
+        (E.state msg.new) (M.state result.1)) result.0 }
     ensures refuses { RefusesFaults (texts words.now)
-        (outside (S.state store.old) (I.state input.old) (O.state out.old) (E.state msg.old) (M.state mem))
-        (outside (S.state store.new) (I.state input.new) (O.state out.new) (E.state msg.new) (M.state result.1)) result.0 }
+        (outside (S.state store.old) (I.state input.old) (O.state out.old)
+        (E.state msg.old) (M.state mem))
+        (outside (S.state store.new) (I.state input.new) (O.state out.new)
+        (E.state msg.new) (M.state result.1)) result.0 }
     ensures calls { CallsInOrder (texts words.now)
-        (outside (S.state store.old) (I.state input.old) (O.state out.old) (E.state msg.old) (M.state mem))
-        (outside (S.state store.new) (I.state input.new) (O.state out.new) (E.state msg.new) (M.state result.1)) }
+        (outside (S.state store.old) (I.state input.old) (O.state out.old)
+        (E.state msg.old) (M.state mem))
+        (outside (S.state store.new) (I.state input.new) (O.state out.new)
+        (E.state msg.new) (M.state result.1)) }
 {
     let mut mem = mem;
     let answer = perform(alloc, words, store, input, out, &mut mem);

@@ -1,5 +1,5 @@
-//! The command `one FILE`: the file is read, it is compiled, the image of its unit's program is put into the memory, and it
-//! runs.
+//! The command `one FILE`: the file is read, it is compiled, the image of its unit's program is put
+//! into the memory, and it runs.
 ghost use Rattle.std.specs.Prelude.{◌≤◌};
 ghost use Rattle.pw_base.specs.Limits.{given_steps};
 ghost use Rattle.pw_hart.specs.Outside.{outside};
@@ -24,8 +24,10 @@ pub fn one<S: Store, I: Source, O: Sink, M: Memory>(
 ) -> Result<Outcome, Stop>
     requires { request.now.steps ≤ given_steps }
     ensures { (messages : SinkState) → one request.now
-        (outside (S.state store.old) (I.state input.old) (O.state out.old) messages (M.state mem.old))
-        (outside (S.state store.new) (I.state input.new) (O.state out.new) messages (M.state mem.new)) result }
+        (outside (S.state store.old) (I.state input.old) (O.state out.old)
+        messages (M.state mem.old))
+        (outside (S.state store.new) (I.state input.new) (O.state out.new)
+        messages (M.state mem.new)) result }
 {
     let text = read(alloc, request.word, &request.file, store)?;
     let unit = compile(alloc, request.word, &text)?;

@@ -21,8 +21,10 @@ pub fn perform<S: Store, I: Source, O: Sink, M: Memory>(
     mem: &mut M,
 ) -> Result<Outcome, Stop>
     ensures { (messages : SinkState) → performs (texts words.now)
-        (outside (S.state store.old) (I.state input.old) (O.state out.old) messages (M.state mem.old))
-        (outside (S.state store.new) (I.state input.new) (O.state out.new) messages (M.state mem.new)) result }
+        (outside (S.state store.old) (I.state input.old) (O.state out.old)
+        messages (M.state mem.old))
+        (outside (S.state store.new) (I.state input.new) (O.state out.new)
+        messages (M.state mem.new)) result }
 {
     let request = judge(alloc, words)?;
     one(alloc, &request, store, input, out, mem)

@@ -1,5 +1,5 @@
-//! The stages that commands are made of: each calls a layer below, and turns its error into the reason for which the
-//! command stops. Their contracts hold whatever the rest of the outside is.
+//! The stages that commands are made of: each calls a layer below, and turns its error into the
+//! reason for which the command stops. Their contracts hold whatever the rest of the outside is.
 ghost use Rattle.std.specs.Prelude.{◌≡◌, ◌≤◌, ℕ, List, length, slice_get, IfOk};
 ghost use Rattle.pw_base.specs.Limits.{source_bytes, given_steps};
 ghost use Rattle.pw_tree.specs.Units.{TypedUnit, unit_of};
@@ -64,8 +64,9 @@ pub fn read<S: Store>(
     file: &Name,
     store: &mut S,
 ) -> Result<Vec<u8>, Stop>
-    ensures reads { (input : SourceState) (out messages : SinkState) (memory : MemoryState) → reads number file.now
-        (outside (S.state store.old) input out messages memory) (outside (S.state store.new) input out messages memory) result }
+    ensures reads { (input : SourceState) (out messages : SinkState) (memory : MemoryState) →
+        reads number file.now (outside (S.state store.old) input out messages memory)
+        (outside (S.state store.new) input out messages memory) result }
     ensures short { IfOk result (λ text. length text.items ≤ source_bytes) }
 {
     match store.read(alloc, file, Limits::SOURCE_BYTES) {
@@ -109,8 +110,8 @@ fn stop_of_front(number: usize, error: &FrontError) -> Stop
     }
 }
 
-/// Puts the image of the program of the file's unit into the memory, and says what became of each function. All memory of a
-/// run is taken here.
+/// Puts the image of the program of the file's unit into the memory, and says what became of each
+/// function. All memory of a run is taken here.
 pub fn build<M: Memory>(
     alloc: Global,
     file: &Name,
@@ -118,8 +119,9 @@ pub fn build<M: Memory>(
     mem: &mut M,
 ) -> Result<Items<KeptRow>, Stop>
     requires { IsWellTyped (unit_of unit.now) }
-    ensures builds { (store : StoreState) (input : SourceState) (out messages : SinkState) → builds file.now (unit_of unit.now)
-        (outside store input out messages (M.state mem.old)) (outside store input out messages (M.state mem.new)) result }
+    ensures builds { (store : StoreState) (input : SourceState) (out messages : SinkState) →
+        builds file.now (unit_of unit.now) (outside store input out messages (M.state mem.old))
+        (outside store input out messages (M.state mem.new)) result }
     ensures can_run { IfOk result (λ rows. CanRun (project_of (unit_of unit.now))) }
     ensures built { IfOk result (λ rows. IsBuilt file.now (unit_of unit.now) (M.state mem.new) rows) }
 {
@@ -205,10 +207,12 @@ fn execute_image<M: Memory, I: Source, O: Sink>(
     requires rows { (file : List ℕ) × AreRows file unit rows.now }
     requires image { (M.state mem.old).mem ≡ image (project_of unit) (keep_of rows.now) }
     requires allowed { steps ≤ given_steps }
-    ensures executes { (store : StoreState) (messages : SinkState) → Executes unit (keep_of rows.now) steps
+    ensures executes { (store : StoreState) (messages : SinkState) →
+        Executes unit (keep_of rows.now) steps
         (outside store (I.state input.old) (O.state out.old) messages (M.state mem.old))
         (outside store (I.state input.new) (O.state out.new) messages (M.state mem.new)) result }
-    ensures meant { (store : StoreState) (messages : SinkState) → ReportsBytes (I.state input.old) → IsMeant unit (keep_of rows.now) steps
+    ensures meant { (store : StoreState) (messages : SinkState) →
+        ReportsBytes (I.state input.old) → IsMeant unit (keep_of rows.now) steps
         (outside store (I.state input.old) (O.state out.old) messages (M.state mem.old))
         (outside store (I.state input.new) (O.state out.new) messages (M.state mem.new)) result }
 {

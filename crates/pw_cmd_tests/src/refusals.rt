@@ -158,7 +158,7 @@ const fn done(
 /// Texts as deep as a function may be, and deeper ones.
 fn deep_texts() -> [Deep; 16] {
     [
-        returned("~", "1", "", 4091, "ended 18446744073709551614"),
+        returned("~", "1", "", 8182, "ended 1"),
         returned(
             "~",
             "1",
@@ -180,8 +180,8 @@ fn deep_texts() -> [Deep; 16] {
             200,
             "refused: main.c: brackets too deep at line 1 token 206",
         ),
-        returned("1?1:", "1", "", 1000, "ended 1"),
-        returned("1?", "1", ":1", 1000, "ended 1"),
+        returned("1?1:", "1", "", 2000, "ended 1"),
+        returned("1?", "1", ":1", 2000, "ended 1"),
         returned(
             "1?",
             "x",
@@ -189,7 +189,7 @@ fn deep_texts() -> [Deep; 16] {
             2000,
             "refused: main.c: type Unknown at line 1 token 4007",
         ),
-        returned("1+", "1", "", 2045, "ended 2046"),
+        returned("1+", "1", "", 4090, "ended 4091"),
         returned(
             "1+",
             "x",
@@ -212,14 +212,14 @@ fn deep_texts() -> [Deep; 16] {
             101,
             "refused: main.c: type TooDeep at line 1 token 411",
         ),
-        done("if(1);else ", "", 650, "ended 0"),
+        done("if(1);else ", "", 1300, "ended 0"),
         done(
             "if(1);else ",
             "x",
             1300,
             "refused: main.c: type Unknown at line 1 token 7806",
         ),
-        done("while(0)", "", 1000, "ended 0"),
+        done("while(0)", "", 2000, "ended 0"),
         done(
             "while(0)",
             "x",

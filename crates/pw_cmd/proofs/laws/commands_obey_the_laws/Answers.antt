@@ -17,5 +17,8 @@ pub returns-clause-calls : goal.returns-clause-calls
 returns-clause-calls c = one_calls
 
 pub returns-clause-files : goal.returns-clause-files
-returns-clause-files c = λ number files.
-    (each_failures reads reads_failures number files, each_looks reads reads_looks number files, each_calls reads (λ file. Read file ∷ []) reads_calls number files)
+returns-clause-files c = λ number files. (
+  each_failures reads reads_failures number files,
+  each_looks reads reads_looks number files,
+  each_calls reads (λ file. Read file ∷ []) reads_calls number files,
+)

@@ -4,10 +4,10 @@ use Rattle.std.proofs.lemmas.Result.{err_from_is_err_and}
 use Rattle.pw_cmd.specs.Stages.{stopped, went_on}
 use Rattle.pw_cmd.proofs.perform.perform.Goals as goal
 
-pub returns-in_err-file : goal.returns-in_err-file
-returns-in_err-file g c = λ messages.
+pub returns-in_err-request : goal.returns-in_err-request
+returns-in_err-request g c = λ messages.
     let p = err_from_is_err_and c.from_residual.result c.from_residual.ensures.1 in
-    rw (p.1, p.2) (stopped _ (c.in_err-file.ensures _) refl)
+    rw (p.1, p.2) (stopped _ (c.in_err-request.ensures.judges _) refl)
 
 pub returns : goal.returns
-returns g c = λ messages. went_on _ _ (c.in_ok-file.ensures _) (c.one.ensures messages)
+returns g c = λ messages. went_on _ _ (c.in_ok-request.ensures.judges _) (c.one.ensures messages)

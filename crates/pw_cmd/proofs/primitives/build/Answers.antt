@@ -9,7 +9,7 @@ pub returns-in-Ok-clause-builds : goal.returns-in-Ok-clause-builds
 returns-in-Ok-clause-builds g c = λ store input out messages. gave _ (c.in-Ok.ensures, refl) refl
 
 pub returns-in-Ok-clause-can_run : goal.returns-in-Ok-clause-can_run
-returns-in-Ok-clause-can_run g c = units_can_run _ _ c.requires c.in-Ok.ensures.links c.in-Ok.ensures.bound
+returns-in-Ok-clause-can_run g c = units_can_run c.args.file.now _ c.requires c.in-Ok.ensures.links c.in-Ok.ensures.bound
 
 pub returns-in-Err-clause-builds : goal.returns-in-Err-clause-builds
 returns-in-Err-clause-builds g c = λ store input out messages. failed _ (c.in-Err.ensures, refl) (ap Err c.stop_of_image.ensures)
