@@ -6,6 +6,7 @@ use pw_hart::Hart;
 use pw_io::{MemSink, MemSource};
 use pw_mem::{FlatMemory, Memory, Recorder, Region, Rights};
 use std::alloc::Global;
+use std::process::Abort;
 use std::test::Fail;
 
 /// A program of two functions, one of which is never called.
@@ -154,6 +155,15 @@ const WORDS: [(&[u8], u64, &[u64]); 20] = [
     (TREE, 0x500_02ac, &[0x0000_8067]),
 ];
 
+/// Fails where the memory holds other words from this address on.
+fn holds(rt: &impl Abort, mem: &FlatMemory, at: u64, words: &[u64]) {
+    let mut place = at;
+    for word in words {
+        assert_eq!(rt; mem.load(place, 4), Ok(*word), "at {place:x}");
+        place = place.wrapping_add(4);
+    }
+}
+
 #[test]
 fn only_what_the_program_can_reach_is_in_memory(rt: HostRuntime) -> Result<(), Fail> {
     for (text, at, words) in WORDS {
@@ -164,13 +174,7 @@ fn only_what_the_program_can_reach_is_in_memory(rt: HostRuntime) -> Result<(), F
             fails: NONE,
         };
         let seen = run(rt.alloc(), given, FlatMemory::new(rt.alloc()))?;
-        for (k, word) in words.iter().enumerate() {
-            assert_eq!(rt;
-                seen.mem.load(at + 4 * k as u64, 4),
-                Ok(*word),
-                "word {k} from {at:x} on"
-            );
-        }
+        holds(&rt, &seen.mem, at, words);
     }
     Ok(())
 }

@@ -248,20 +248,26 @@ const PROGRAMS: [(&[u8], u8, &[u8], &[u8]); 26] = [
 ];
 
 /// Programs that take nothing, with a bound of their steps, the status, the output and the line.
-const BOUNDS: [(&[u8], &str, u8, &[u8], &[u8]); 11] = [
+const BOUNDS: [(&[u8], &[&str], u8, &[u8], &[u8]); 11] = [
     // the call of main is a step
     (
         b"long main(void) { return 0; }",
-        "0",
+        &["one", "main.c", "--steps", "0"],
         5,
         b"",
         b"step bound spent\n",
     ),
-    (b"long main(void) { return 0; }", "1", 0, b"", b"ended 0\n"),
+    (
+        b"long main(void) { return 0; }",
+        &["one", "main.c", "--steps", "1"],
+        0,
+        b"",
+        b"ended 0\n",
+    ),
     // a return to the start is one
     (
         b"long main(void) { while (1) { __out(46); } return 0; }",
-        "4",
+        &["one", "main.c", "--steps", "4"],
         5,
         b"....",
         b"step bound spent\n",
@@ -269,7 +275,7 @@ const BOUNDS: [(&[u8], &str, u8, &[u8], &[u8]); 11] = [
     // break is none
     (
         b"long main(void) { while (1) { break; } return 0; }",
-        "1",
+        &["one", "main.c", "--steps", "1"],
         0,
         b"",
         b"ended 0\n",
@@ -277,14 +283,14 @@ const BOUNDS: [(&[u8], &str, u8, &[u8], &[u8]); 11] = [
     // do returns where its condition holds
     (
         b"long main(void) { do { __out(46); } while (0); return 0; }",
-        "1",
+        &["one", "main.c", "--steps", "1"],
         0,
         b".",
         b"ended 0\n",
     ),
     (
         b"long main(void) { do { __out(46); } while (1); return 0; }",
-        "3",
+        &["one", "main.c", "--steps", "3"],
         5,
         b"...",
         b"step bound spent\n",
@@ -293,7 +299,7 @@ const BOUNDS: [(&[u8], &str, u8, &[u8], &[u8]); 11] = [
     (
         b"static long f(long n) { __out(48 + n); return n ? f(n - 1) : 0; }\n\
           long main(void) { for (long i = 0; i < 2; i = i + 1) f(i); return 0; }",
-        "5",
+        &["one", "main.c", "--steps", "5"],
         5,
         b"010",
         b"step bound spent\n",
@@ -301,7 +307,7 @@ const BOUNDS: [(&[u8], &str, u8, &[u8], &[u8]); 11] = [
     (
         b"static long f(long n) { __out(48 + n); return n ? f(n - 1) : 0; }\n\
           long main(void) { for (long i = 0; i < 2; i = i + 1) f(i); return 0; }",
-        "6",
+        &["one", "main.c", "--steps", "6"],
         0,
         b"010",
         b"ended 0\n",
@@ -309,14 +315,14 @@ const BOUNDS: [(&[u8], &str, u8, &[u8], &[u8]); 11] = [
     // a call takes its step before its depth is looked at
     (
         b"long f(void) { return f(); }\nlong main(void) { return f(); }",
-        "1000",
+        &["one", "main.c", "--steps", "1000"],
         5,
         b"",
         b"step bound spent\n",
     ),
     (
         b"long f(void) { return f(); }\nlong main(void) { return f(); }",
-        "1001",
+        &["one", "main.c", "--steps", "1001"],
         4,
         b"",
         b"checked fault depth in app:main.c:f line 1\n",
@@ -324,7 +330,7 @@ const BOUNDS: [(&[u8], &str, u8, &[u8], &[u8]); 11] = [
     // the greatest bound
     (
         b"long main(void) { return 0; }",
-        "1000000000",
+        &["one", "main.c", "--steps", "1000000000"],
         0,
         b"",
         b"ended 0\n",
@@ -358,11 +364,11 @@ pub const COUNT: &[u8] = b"static void put_dec(long v) {\n\
       }";
 
 /// Programs with a bound of their steps and the bytes of the input; then the status, the output, the line, and the bytes that are left.
-const INPUTS: [(&[u8], &str, &[u8], u8, &[u8], &[u8], &[u8]); 7] = [
+const INPUTS: [(&[u8], &[&str], &[u8], u8, &[u8], &[u8], &[u8]); 7] = [
     // up to the end, which is met again
     (
         COPY,
-        "1000000",
+        &["one", "--steps", "1000000", "main.c"],
         b"one\n\xff\x00",
         1,
         b"one\n\xff\x00",
@@ -372,7 +378,7 @@ const INPUTS: [(&[u8], &str, &[u8], u8, &[u8], &[u8], &[u8]); 7] = [
     // two bytes of five
     (
         b"long main(void) { __out(__in()); return __in(); }",
-        "1000000",
+        &["one", "--steps", "1000000", "main.c"],
         b"abcde",
         1,
         b"a",
@@ -382,7 +388,7 @@ const INPUTS: [(&[u8], &str, &[u8], u8, &[u8], &[u8], &[u8]); 7] = [
     // nothing is taken
     (
         b"long main(void) { return 0; }",
-        "1000000",
+        &["one", "--steps", "1000000", "main.c"],
         b"abc",
         0,
         b"",
@@ -392,7 +398,7 @@ const INPUTS: [(&[u8], &str, &[u8], u8, &[u8], &[u8], &[u8]); 7] = [
     // a table chooses the test
     (
         COUNT,
-        "1000000",
+        &["one", "--steps", "1000000", "main.c"],
         b"Hello, Piece World",
         0,
         b"12",
@@ -402,7 +408,7 @@ const INPUTS: [(&[u8], &str, &[u8], u8, &[u8], &[u8], &[u8]); 7] = [
     // a step too few
     (
         COUNT,
-        "38",
+        &["one", "--steps", "38", "main.c"],
         b"Hello, Piece World",
         5,
         b"",
@@ -412,7 +418,7 @@ const INPUTS: [(&[u8], &str, &[u8], u8, &[u8], &[u8], &[u8]); 7] = [
     // a fault before the next byte
     (
         b"long main(void) { __out(__in()); return 1 / (__in() - 98); }",
-        "1000000",
+        &["one", "--steps", "1000000", "main.c"],
         b"abc",
         4,
         b"a",
@@ -422,7 +428,7 @@ const INPUTS: [(&[u8], &str, &[u8], u8, &[u8], &[u8], &[u8]); 7] = [
     // no step is left at the third byte
     (
         b"long main(void) { while (1) __out(__in()); return 0; }",
-        "2",
+        &["one", "--steps", "2", "main.c"],
         b"abc",
         5,
         b"ab",
@@ -453,9 +459,9 @@ fn each_program_ends_as_it_means(rt: HostRuntime) -> Result<(), Fail> {
 
 #[test]
 fn a_run_takes_as_many_steps_as_it_is_given(rt: HostRuntime) -> Result<(), Fail> {
-    for (text, steps, status, out, msg) in BOUNDS {
+    for (text, words, status, out, msg) in BOUNDS {
         let given = Given {
-            words: &["one", "main.c", "--steps", steps],
+            words,
             text,
             input: b"",
             fails: NONE,
@@ -473,9 +479,9 @@ fn a_run_takes_as_many_steps_as_it_is_given(rt: HostRuntime) -> Result<(), Fail>
 
 #[test]
 fn a_program_takes_what_it_reads(rt: HostRuntime) -> Result<(), Fail> {
-    for (text, steps, input, status, out, msg, left) in INPUTS {
+    for (text, words, input, status, out, msg, left) in INPUTS {
         let given = Given {
-            words: &["one", "--steps", steps, "main.c"],
+            words,
             text,
             input,
             fails: NONE,

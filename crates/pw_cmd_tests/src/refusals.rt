@@ -256,12 +256,16 @@ fn said(alloc: Global, text: &[u8]) -> Result<String, Fail> {
         fails: NONE,
     };
     let seen = run(alloc, given, FlatMemory::new(alloc))?;
-    let said = if seen.out.written().is_empty() {
-        seen.msg.written()
+    if seen.out.written().is_empty() {
+        line(alloc, seen.msg.written())
     } else {
-        seen.out.written()
-    };
-    Ok(String::from_str(alloc, str::from_utf8(said)?.trim_end())?)
+        line(alloc, seen.out.written())
+    }
+}
+
+/// A line as text, without its end.
+fn line(alloc: Global, bytes: &[u8]) -> Result<String, Fail> {
+    Ok(String::from_str(alloc, str::from_utf8(bytes)?.trim_end())?)
 }
 
 #[test]
