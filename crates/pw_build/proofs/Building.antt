@@ -18,6 +18,7 @@ use Rattle.pw_image.proofs.UnitsCanRun.{units_can_run}
 use Rattle.pw_build.specs.declared.image_error.ImageError.{ImageError}
 use Rattle.pw_build.specs.declared.image_error.ImageError.TheVariants.{Link, Unbound, NoMemory}
 use Rattle.pw_build.specs.declared.parts.Parts.{Parts}
+use Rattle.pw_image.proofs.KeptRows.{rows_find_kept}
 use Rattle.pw_build.specs.Built.{IsBuilt, Builds}
 use Rattle.pw_build.specs.Steps.Parts.{IsWhole, MakesParts}
 use Rattle.pw_build.specs.Steps.Memories.{Fit, Holds}
@@ -73,6 +74,7 @@ module _ (file : List ℕ) (unit : TypedUnit) (typed : IsWellTyped unit) where
         links = made.0;
         bound = sym (undefined_is_unbound file unit typed) ∙ made.1;
         rows_are = own.rows_are;
+        kept = rows_find_kept file unit parts.rows typed own.rows_are;
         mem =
             holds.mem
             ∙ memory_is_image unit (keep_of parts.rows) text content fits.some_text fits.some_data (text_is ∙ own.text)

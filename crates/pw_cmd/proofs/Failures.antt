@@ -4,6 +4,7 @@ use Rattle.std.specs.Prelude.{◌⊎◌}
 use Rattle.pw_io.specs.Faults.{Rises}
 use Rattle.pw_io.specs.Sink.{wrote, flushed_all}
 use Rattle.pw_hart.specs.Outside.{Outside}
+use Rattle.pw_cmd.specs.declared.answer.Stop.{Stop}
 use Rattle.pw_cmd.specs.declared.answer.Stop.TheVariants.{Usage, Refused, ReadFailed, WriteFailed, NoMemory}
 use Rattle.pw_cmd.specs.declared.words.Request.{Request}
 use Rattle.pw_cmd.specs.Answer.{Answer, message_line, status_of}
@@ -12,7 +13,7 @@ use Rattle.pw_cmd.specs.Message.{unreported, Reports}
 use Rattle.pw_cmd.specs.Words.{AsksForOne}
 use Rattle.pw_cmd.specs.Commands.{performs}
 use Rattle.pw_cmd.specs.Laws.{stop_in, NoneFailed, ReadFailedAlone, WriteFailedAlone, FailuresStop}
-use Rattle.pw_cmd.specs.Shows.{ReportsFailures, CountsCanRise}
+use Rattle.pw_cmd.specs.Shows.{ReportsFailures, SaysStop, CountsCanRise}
 use Rattle.pw_cmd.proofs.CommandLaws.{words_failures}
 use Rattle.pw_cmd.proofs.Inversion.{err_same}
 use Rattle.pw_cmd.proofs.Began.{CameTo, no_command, no_memory, not_read, refused, ran, came_to}
@@ -71,19 +72,23 @@ failures words old new status a = record {
     law : FailuresStop old (unreported old new) (stop_in a.answer)
     law = words_failures words old (unreported old new) a.answer a.performed
 
-    read : status ≡ 6 → (request : Request) × AsksForOne words request × ReadFailedAlone old new
+    -- the line of a stop was said
+    said : (why : Stop) → a.answer ≡ Err why → new.messages ≡ flushed_all (wrote line old.messages) → SaysStop words old new why
+    said why is line_said = line_said ∙ ap (λ answer. flushed_all (wrote (message_line words answer) old.messages)) is
+
+    read : status ≡ 6 → (request : Request) × AsksForOne words request × ReadFailedAlone old new × SaysStop words old new ReadFailed
     read six =
         let told = told_read line old.messages new.messages status a.answer a.reported six in
         let asks = asked old new words a.answer (came_to words old new a.answer a.performed) told.0 in
         let alone = failures_of old new a.answer (Err ReadFailed) told.0 law in
-        (asks.0, asks.1, read_alone old new alone (ap (λ m. m.faults) told.1))
+        (asks.0, asks.1, read_alone old new alone (ap (λ m. m.faults) told.1), said ReadFailed told.0 told.1)
 
     write : ((a.answer ≡ Err WriteFailed) × (new.messages ≡ flushed_all (wrote line old.messages)))
         ⊎ Rises old.messages.faults new.messages.faults →
-        WriteFailedAlone old new ⊎ Rises old.messages.faults new.messages.faults
+        (WriteFailedAlone old new × SaysStop words old new WriteFailed) ⊎ Rises old.messages.faults new.messages.faults
     write (inl told) =
         let alone = failures_of old new a.answer (Err WriteFailed) told.0 law in
-        inl (write_alone old new alone (ap (λ m. m.faults) told.1))
+        inl (write_alone old new alone (ap (λ m. m.faults) told.1), said WriteFailed told.0 told.1)
     write (inr rose) = inr rose
 
 -- ---- no call failed

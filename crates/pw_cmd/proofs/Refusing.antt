@@ -1,12 +1,13 @@
 -- What is refused, and for what: the words, the fault of a text, or memory; and what is left then.
 use Rattle.std.proofs.Common.{◌≡◌, ℕ, List, ap, sym, subst, ◌∙◌, Ok, Err, inl, inr}
 use Rattle.std.specs.Prelude.{◌⊎◌}
+use Rattle.pw_io.specs.Faults.{Rises}
 use Rattle.pw_io.specs.Sink.{wrote, flushed_all}
 use Rattle.pw_hart.specs.Outside.{Outside}
 use Rattle.pw_module.specs.declared.kept_row.KeptRow.{KeptRow}
 use Rattle.pw_build.specs.declared.run.Ended.{Ended}
 use Rattle.pw_cmd.specs.declared.answer.Stop.{Stop}
-use Rattle.pw_cmd.specs.declared.answer.Stop.TheVariants.{Usage, Refused, ReadFailed, WriteFailed}
+use Rattle.pw_cmd.specs.declared.answer.Stop.TheVariants.{Usage, Refused, ReadFailed, WriteFailed, NoMemory}
 use Rattle.pw_cmd.specs.declared.refusal.Refusal.{Refusal}
 use Rattle.pw_cmd.specs.declared.words.Request.{Request}
 use Rattle.pw_cmd.specs.Answer.{Answer, message_line, status_of}
@@ -15,7 +16,7 @@ use Rattle.pw_cmd.specs.Message.{unreported, Reports}
 use Rattle.pw_cmd.specs.Primitives.{outcome_of}
 use Rattle.pw_cmd.specs.Words.{AsksForOne}
 use Rattle.pw_cmd.specs.Laws.{stop_in, LeavesAll, RefusesCleanly, NoneFailed}
-use Rattle.pw_cmd.specs.Shows.{AsksForText, CountsCanRise, IsProgram, IsRefused, SaysRefusal, WasRefused, RefusesFaults}
+use Rattle.pw_cmd.specs.Shows.{AsksForText, CountsCanRise, IsProgram, IsRefused, SaysStop, WasRefused, RefusesFaults}
 use Rattle.pw_cmd.proofs.CommandLaws.{words_cleanly}
 use Rattle.pw_cmd.proofs.Inversion.{ok_is_not_err, err_same}
 use Rattle.pw_cmd.proofs.Began.{CameTo, no_command, no_memory, not_read, refused, ran, came_to}
@@ -23,6 +24,7 @@ use Rattle.pw_cmd.proofs.Completes.{same_request, same_text, same_refusal}
 use Rattle.pw_cmd.proofs.Failures.{no_failed_read, said_well}
 use Rattle.pw_cmd.proofs.MeantEnds.{answered}
 use Rattle.pw_cmd.proofs.OneRefusal.{one_refusal, not_refused}
+use Rattle.pw_cmd.proofs.ShowsMeaning.{left_all}
 use Rattle.pw_cmd.proofs.Statuses.{told_usage, told_refusal, told_memory}
 
 -- ---- a run is no refusal
@@ -67,9 +69,16 @@ module _ (words : List (List ℕ)) (old new : Outside) (status : ℕ) (answer : 
   told_none (refused request text why asks stands for is) none = absurd (none request asks)
 
   said_none : Reports (message_line words answer) (status_of answer) old.messages new.messages status → answer ≡ Err Usage →
-      (status ≡ 2) ⊎ (status ≡ 7)
-  said_none (inl said) is = inl (said.0 ∙ ap status_of is)
-  said_none (inr broke) is = inr broke.0
+      RefusesCleanly old (unreported old new) (stop_in answer) →
+      (status ≡ 2) ⊎ ((status ≡ 7) × Rises old.messages.faults new.messages.faults × LeavesAll old new)
+  said_none (inl said) is law = inl (said.0 ∙ ap status_of is)
+  said_none (inr broke) is law =
+      inr (broke.0, broke.1.fails.faults, left_all old new (subst (λ a. RefusesCleanly old (unreported old new) (stop_in a)) is law))
+
+  -- the line of a stop was said
+  said_stop : (why : Stop) → answer ≡ Err why → new.messages ≡ flushed_all (wrote (message_line words answer) old.messages) →
+      SaysStop words old new why
+  said_stop why is said = said ∙ ap (λ a. flushed_all (wrote (message_line words a) old.messages)) is
 
   -- ---- a text
 
@@ -90,19 +99,20 @@ module _ (words : List (List ℕ)) (old new : Outside) (status : ℕ) (answer : 
   was_refused (no_memory request asks e) why is said = let same = err_same (sym is ∙ e) in cc
   was_refused (not_read request asks left e) why is said = let same = err_same (sym is ∙ e) in cc
 
--- ---- what is left
-
--- the same of the outside once the answer was reported
-left_all : (old new : Outside) → LeavesAll old (unreported old new) → LeavesAll old new
-left_all old new l = record { files = l.files; input = l.input; out = l.out; memory = l.memory }
+-- ---- all of it
 
 pub refuses : (words : List (List ℕ)) (old new : Outside) (status : ℕ) → Answers words old new status → RefusesFaults words old new status
 refuses words old new status a = record {
-  usage = λ two. of_none words old new status a.answer came (told_usage line old.messages new.messages status a.answer a.reported two).0;
-  no_command = λ none. said_none words old new status a.answer a.reported (told_none words old new status a.answer came none);
+  usage = λ two. let told = told_usage line old.messages new.messages status a.answer a.reported two in (
+    of_none words old new status a.answer came told.0,
+    said_stop words old new status a.answer Usage told.0 told.1,
+  );
+  no_command = λ none. said_none words old new status a.answer a.reported (told_none words old new status a.answer came none) law;
   refused = λ three. let told = told_refusal line old.messages new.messages status a.answer a.reported three in
       was_refused words old new status a.answer came told.0 told.1 told.2;
   refuses = has_fault;
+  memory = λ eight. let told = told_memory line old.messages new.messages status a.answer a.reported eight in
+      said_stop words old new status a.answer NoMemory told.0 told.1;
   leaves = leaves;
 }
   where
@@ -129,12 +139,12 @@ refuses words old new status a = record {
     -- a text with a fault is refused for it
     has_fault : (request : Request) (text : List ℕ) (refusal : Refusal) → AsksForText words old.store.files request text →
         IsRefused request text refusal → CountsCanRise old → NoneFailed old new →
-        ((status ≡ 3) × SaysRefusal words old new refusal) ⊎ (status ≡ 8)
+        ((status ≡ 3) × SaysStop words old new (Refused refusal)) ⊎ (status ≡ 8)
     has_fault request text refusal p is low none = by_way came where
       said : (status ≡ status_of a.answer) × (new.messages ≡ flushed_all (wrote line old.messages))
       said = said_well words old new low none a.answer a.performed line status a.reported
 
-      by_way : CameTo words old new a.answer → ((status ≡ 3) × SaysRefusal words old new refusal) ⊎ (status ≡ 8)
+      by_way : CameTo words old new a.answer → ((status ≡ 3) × SaysStop words old new (Refused refusal)) ⊎ (status ≡ 8)
       by_way (refused other found why asks stands for e) =
           let for_it = same_refusal words old.store.files request text p other asks found why stands for in
           let same = one_refusal request text why refusal for_it is in

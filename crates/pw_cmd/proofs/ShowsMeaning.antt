@@ -13,14 +13,15 @@ use Rattle.pw_build.specs.declared.run.Ended.{Ended}
 use Rattle.pw_build.specs.declared.run.Ended.TheVariants.{Exit, Checked, Spent, Trap, Limit, ReadFault, WriteFault}
 use Rattle.pw_build.specs.Meant.{ReportsBytes, meaning_of, IsMeant}
 use Rattle.pw_cmd.specs.declared.answer.Outcome.{Outcome}
-use Rattle.pw_cmd.specs.declared.answer.Stop.TheVariants.{ReadFailed, WriteFailed}
+use Rattle.pw_cmd.specs.declared.answer.Stop.TheVariants.{Usage, Refused, ReadFailed, WriteFailed, NoMemory}
 use Rattle.pw_cmd.specs.Answer.{Answer, status_of_outcome, line_of, message_line}
 use Rattle.pw_cmd.specs.Answers.{Answers}
 use Rattle.pw_cmd.specs.Ends.{status_of_end}
 use Rattle.pw_cmd.specs.Message.{unreported}
 use Rattle.pw_cmd.specs.Primitives.{outcome_of}
-use Rattle.pw_cmd.specs.Laws.{LeavesAll}
-use Rattle.pw_cmd.specs.Shows.{ShowsMeaning, StopsShort, BreaksShort, Means}
+use Rattle.pw_cmd.specs.Laws.{stop_in, LeavesAll, RefusesCleanly}
+use Rattle.pw_cmd.specs.Shows.{RunsToItsEnd, end_of, ShowsMeaning, StopsShort, BreaksShort, WasDone, Means}
+use Rattle.pw_cmd.proofs.CommandLaws.{words_cleanly}
 use Rattle.pw_cmd.proofs.Inversion.{ok_is_not_err, err_same}
 use Rattle.pw_cmd.proofs.Began.{Ran, CameTo, no_command, no_memory, not_read, refused, ran, came_to}
 use Rattle.pw_cmd.proofs.Statuses.{IsOfOutcome, value_status, told_outcome, told_read, told_write}
@@ -60,6 +61,10 @@ output_failed rows (Limit limit) e = absurd (ok_is_not_err e)
 output_failed rows ReadFault e = let same = err_same e in cc
 output_failed rows WriteFault e = refl
 
+-- what is left as it was before the report is left so after it
+pub left_all : (old new : Outside) → LeavesAll old (unreported old new) → LeavesAll old new
+left_all old new l = record { files = l.files; input = l.input; out = l.out; memory = l.memory }
+
 module _ (words : List (List ℕ)) (old new : Outside) (status : ℕ) (answer : Answer) (bytes : ReportsBytes old.input) where
   -- ---- a run
 
@@ -84,10 +89,7 @@ module _ (words : List (List ℕ)) (old new : Outside) (status : ℕ) (answer : 
       let m = ends_as_meant unit (keep_of b.rows) b.request.steps r.start (unreported old new) b.rows r.ended outcome same (meant_from r) in
       let end = (meaning_of unit m.input b.request.steps).end in
       record {
-        start = r.start;
-        began = b;
-        ended = r.ended;
-        meant = m;
+        run = record { start = r.start; began = b; ended = r.ended; meant = m };
         status_is = said ∙ status_meant unit b.rows end r.ended outcome m.ends same;
         line = line ∙ ap (λ a. flushed_all (wrote (message_line words a) old.messages)) is
             ∙ ap (λ text. flushed_all (wrote (line_of text) old.messages))
@@ -124,12 +126,41 @@ module _ (words : List (List ℕ)) (old new : Outside) (status : ℕ) (answer : 
   broken_by (not_read request asks left e) is = let same = err_same (sym is ∙ e) in cc
   broken_by (refused request text why asks stands for e) is = let same = err_same (sym is ∙ e) in cc
 
+  -- ---- what was done
+
+  -- a run did what its source means, or the beginning of it
+  done_by_run : Ran words old new answer → RunsToItsEnd words old new ⊎ (StopsShort words old new ⊎ BreaksShort words old new)
+  done_by_run r = by_end r.ended refl where
+    Done : Type 0
+    Done = RunsToItsEnd words old new ⊎ (StopsShort words old new ⊎ BreaksShort words old new)
+
+    by_end : (ended : Ended) → r.ended ≡ ended → Done
+    by_end (Exit value) is = inl (record { start = r.start; began = r.began; ended = Exit value; meant = meant_at r (Exit value) is })
+    by_end (Checked kind row line) is =
+        inl (record { start = r.start; began = r.began; ended = Checked kind row line; meant = meant_at r (Checked kind row line) is })
+    by_end Spent is = inl (record { start = r.start; began = r.began; ended = Spent; meant = meant_at r Spent is })
+    by_end (Trap cause pc value) is =
+        inl (record { start = r.start; began = r.began; ended = Trap cause pc value; meant = meant_at r (Trap cause pc value) is })
+    by_end (Limit limit) is =
+        inl (record { start = r.start; began = r.began; ended = Limit limit; meant = meant_at r (Limit limit) is })
+    by_end ReadFault is = inr (inl (record { start = r.start; began = r.began; stops = meant_at r ReadFault is }))
+    by_end WriteFault is = inr (inr (record { start = r.start; began = r.began; breaks = meant_at r WriteFault is }))
+
+  -- a command that did not run left all as it was
+  done_by : CameTo words old new answer → RefusesCleanly old (unreported old new) (stop_in answer) → WasDone words old new
+  done_by (ran r) law = inr (done_by_run r)
+  done_by (not_read request asks left e) law = inl left
+  done_by (no_command c e) law = inl (left_all old new (subst (λ a. RefusesCleanly old (unreported old new) (stop_in a)) e law))
+  done_by (no_memory request asks e) law = inl (left_all old new (subst (λ a. RefusesCleanly old (unreported old new) (stop_in a)) e law))
+  done_by (refused request text why asks stands for e) law =
+      inl (left_all old new (subst (λ a. RefusesCleanly old (unreported old new) (stop_in a)) e law))
+
 -- a status of an end is that of the end that is meant
 pub means : (words : List (List ℕ)) (old new : Outside) (status : ℕ) → Answers words old new status → Means words old new status
 means words old new status a bytes = record {
   shows = λ which. shows (of_meaning status which);
   no_trap = λ nine. let s = shows (inr (inr (inr nine))) in
-      omega (arith, nine, s.status_is, end_status (meaning_of (unit_of s.began.unit) s.meant.input s.began.request.steps).end);
+      omega (arith, nine, s.status_is, end_status (end_of s.run));
   read_failed = λ six. let told = told_read line old.messages new.messages status a.answer a.reported six in
       stopped_by words old new status a.answer bytes came told.0;
   write_failed = λ seven. by_write (told_write line old.messages new.messages status a.answer a.reported seven);
@@ -148,6 +179,7 @@ means words old new status a bytes = record {
 
     by_write : ((a.answer ≡ Err WriteFailed) × (new.messages ≡ flushed_all (wrote line old.messages)))
         ⊎ Rises old.messages.faults new.messages.faults →
-        Rises old.messages.faults new.messages.faults ⊎ BreaksShort words old new
-    by_write (inl told) = inr (broken_by words old new status a.answer bytes came told.0)
-    by_write (inr rose) = inl rose
+        BreaksShort words old new ⊎ (Rises old.messages.faults new.messages.faults × WasDone words old new)
+    by_write (inl told) = inl (broken_by words old new status a.answer bytes came told.0)
+    by_write (inr rose) =
+        inr (rose, done_by words old new status a.answer bytes came (words_cleanly words old (unreported old new) a.answer a.performed))

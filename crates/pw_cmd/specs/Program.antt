@@ -8,7 +8,7 @@ use Rattle.pw_cmd.specs.Answer.{message_line, status_of}
 use Rattle.pw_cmd.specs.Message.{Reports}
 use Rattle.pw_hart.specs.Outside.{Outside, with_messages}
 use Rattle.pw_cmd.specs.Answers.{Answers}
-use Rattle.pw_cmd.specs.Shows.{Means}
+use Rattle.pw_cmd.specs.Shows.{ShowsAll}
 
 -- the words of a command are fewer than this, and so are their bytes together
 abbrev pub words_end : ℕ
@@ -18,7 +18,7 @@ words_end = 2 ^ 31
 pub record HasAnswered (arguments : List (List ℕ)) (old new : Outside) (status : ℕ) : Type 0 where
   pub are_words : AreWords words_end arguments
   pub answers : Answers arguments old new status
-  pub means : Means arguments old new status
+  pub shows : ShowsAll arguments old new status
 
 -- No command was begun, for this reason: it is reported, the status is the reason's, or 7 where that failed, and all else is
 -- as before.

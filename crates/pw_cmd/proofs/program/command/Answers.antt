@@ -7,4 +7,4 @@ use Rattle.pw_cmd.proofs.program.command.Goals as goal
 pub returns-in-Ok : goal.returns-in-Ok
 returns-in-Ok g c =
     answered _ _ _ _ _ (ap texts c.as_slice.ensures.value ∙ c.in-Ok.ensures.same) c.in-Ok.ensures.are_words
-    c.top.ensures.answers c.top.ensures.means
+    c.top.ensures.answers
