@@ -21,7 +21,7 @@ use Rattle.pw_build.specs.declared.parts.Parts.{Parts}
 use Rattle.pw_image.proofs.KeptRows.{rows_find_kept}
 use Rattle.pw_build.specs.Built.{IsBuilt, Builds}
 use Rattle.pw_build.specs.Steps.Parts.{IsWhole, MakesParts}
-use Rattle.pw_build.specs.Steps.Memories.{Fit, Holds}
+use Rattle.pw_build.specs.Steps.Memories.{Fit, HoldsParts}
 use Rattle.pw_build.proofs.UnitParts.{program_is_whole, unit_parts}
 use Rattle.pw_build.proofs.Whole.{parts_fit, memory_is_image}
 
@@ -64,7 +64,7 @@ module _ (file : List ℕ) (unit : TypedUnit) (typed : IsWellTyped unit) where
 
   -- Once they are, the image is built.
   pub built : (object : Object) (parts : Parts) (text content : List ℕ) (state : MemoryState) → object ≡ object_of file unit →
-      MakesParts object (Ok parts) → text ≡ parts.text.items → content ≡ parts.data.items → Holds text content state →
+      MakesParts object (Ok parts) → text ≡ parts.text.items → content ≡ parts.data.items → HoldsParts text content state →
       IsBuilt file unit state parts.rows
   built object parts text content state is h text_is content_is holds =
       let made = subst (λ (o : Object). MakesParts o (Ok parts)) is h in

@@ -25,7 +25,7 @@ use Rattle.pw_image.specs.Rows.{AreRows, keep_of}
 use Rattle.pw_build.specs.declared.run.Ended.{Ended}
 use Rattle.pw_build.specs.declared.run.Ended.TheVariants.{Exit, Checked, Spent, Trap, Limit, ReadFault, WriteFault}
 use Rattle.pw_build.specs.Executed.{IsFresh, instruction_limit, HasExecuted, EndsSo, Flushes, Finishes, Executes}
-use Rattle.pw_build.specs.Meant.{ReportsBytes, meaning_of, EndsAsMeant, BeginsAsMeant, StopsAsMeant, BreaksOffAsMeant, IsMeant}
+use Rattle.pw_build.specs.Meant.{ReportsBytes, meaning_of, EndsAsMeant, IsCutShort, StopsAsMeant, BreaksOffAsMeant, IsMeant}
 use Rattle.pw_build.proofs.RowsOfUnits.{rows_keep_enough}
 use Rattle.pw_build.proofs.Starting.{Begins, run_is_meant, run_begins_as_meant, text_stays}
 use Rattle.pw_build.proofs.Ends.{end_is_meant}
@@ -97,7 +97,7 @@ module _ (unit : TypedUnit) (keep : Keep) (steps : ℕ) (old new : Outside) (rea
   begun_as_meant : (k : ℕ) (fresh : Hart) (at : ExecutionState) → IsFresh steps fresh → k < instruction_limit unit steps →
       (r : RunsTo k (execution fresh old) at ends.Limit) → AddsFetches (at.hart.pc ∷ []) at.memory new.memory →
       new.memory.mem ≡ at.memory.mem →
-      BeginsAsMeant unit keep steps (run k (state_at (execution fresh old) r.input)).state.output r.leaves.taken old new
+      IsCutShort unit keep steps (run k (state_at (execution fresh old) r.input)).state.output r.leaves.taken old new
   begun_as_meant k fresh at is_fresh short r fetches mem =
       let w = world_of (project_of unit) keep in
       let b = begins fresh is_fresh in

@@ -72,7 +72,7 @@ pub record EndsAsMeant (unit : TypedUnit) (keep : Keep) (steps : ℕ) (old new :
 
 -- The run was cut short: the output gained these bytes, a prefix of what the unit means, and the input lost those, a prefix of what
 -- it means to be taken.
-pub record BeginsAsMeant (unit : TypedUnit) (keep : Keep) (steps : ℕ) (written taken : List ℕ) (old new : Outside) : Type 0 where
+pub record IsCutShort (unit : TypedUnit) (keep : Keep) (steps : ℕ) (written taken : List ℕ) (old new : Outside) : Type 0 where
   pub input : List ℕ
   pub more_output : List ℕ
   pub output : (meaning_of unit input steps).output ≡ written ++ more_output
@@ -85,7 +85,7 @@ pub record BeginsAsMeant (unit : TypedUnit) (keep : Keep) (steps : ℕ) (written
 pub record StopsAsMeant (unit : TypedUnit) (keep : Keep) (steps : ℕ) (old new : Outside) : Type 0 where
   pub written : List ℕ
   pub taken : List ℕ
-  pub begins : BeginsAsMeant unit keep steps written taken old new
+  pub begins : IsCutShort unit keep steps written taken old new
   pub out : new.out ≡ wrote written old.out
   pub input : SourceFails (after taken old.input) new.input
 
@@ -93,7 +93,7 @@ pub record StopsAsMeant (unit : TypedUnit) (keep : Keep) (steps : ℕ) (old new 
 pub record BreaksOffAsMeant (unit : TypedUnit) (keep : Keep) (steps : ℕ) (old new : Outside) : Type 0 where
   pub written : List ℕ
   pub taken : List ℕ
-  pub begins : BeginsAsMeant unit keep steps written taken old new
+  pub begins : IsCutShort unit keep steps written taken old new
   pub out : SinkFails (wrote written old.out) new.out
   pub input : new.input ≡ after taken old.input
 

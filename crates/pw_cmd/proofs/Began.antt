@@ -28,7 +28,7 @@ use Rattle.pw_cmd.specs.Faults.{fault_of}
 use Rattle.pw_cmd.specs.Message.{unreported}
 use Rattle.pw_cmd.specs.Words.{ReadsCommand, AsksForOne}
 use Rattle.pw_cmd.specs.Stages.{Then, stopped, went_on}
-use Rattle.pw_cmd.specs.Primitives.{stop_of_words, ReadsFile, stop_of_read, compiles, stop_of_fault, builds, stop_of_image, outcome_of, runs_image}
+use Rattle.pw_cmd.specs.Primitives.{stop_of_words, ReadsFile, stop_of_read, compiles, stop_of_fault, builds, stop_of_image, ending_of, runs_image}
 use Rattle.pw_cmd.specs.Commands.{one, performs}
 use Rattle.pw_cmd.specs.Laws.{LeavesAll}
 use Rattle.pw_cmd.specs.Shows.{HasRead, Began, HasUnit, IsRefused}
@@ -42,7 +42,7 @@ pub record Ran (words : List (List ℕ)) (old new : Outside) (answer : Answer) :
   pub ended : Ended
   pub meant : ReportsBytes start.input →
       IsMeant (unit_of began.unit) (keep_of began.rows) began.request.steps start (unreported old new) ended
-  pub answer_is : answer ≡ outcome_of began.rows ended
+  pub answer_is : answer ≡ ending_of began.rows ended
 
 -- What the words came to, with the answer.
 pub data CameTo (words : List (List ℕ)) (old new : Outside) (answer : Answer) : Type 0 where

@@ -9,7 +9,7 @@ use Rattle.pw_hart.specs.Outside.{Outside}
 use Rattle.pw_hart.specs.Runs.{IsLeft}
 use Rattle.pw_image.specs.Rows.{keep_of}
 use Rattle.pw_build.specs.Meant.{ReportsBytes, meaning_of}
-use Rattle.pw_cmd.specs.declared.answer.Outcome.{Outcome}
+use Rattle.pw_cmd.specs.declared.answer.Ending.{Ending}
 use Rattle.pw_cmd.specs.declared.answer.Stop.TheVariants.{ReadFailed, WriteFailed}
 use Rattle.pw_cmd.specs.declared.refusal.Refusal.{Refusal}
 use Rattle.pw_cmd.specs.declared.words.Request.{Request}
@@ -17,7 +17,7 @@ use Rattle.pw_cmd.specs.Answer.{Answer, message_line, status_of}
 use Rattle.pw_cmd.specs.Answers.{Answers}
 use Rattle.pw_cmd.specs.Ends.{HasStatusOfEnd}
 use Rattle.pw_cmd.specs.Message.{unreported}
-use Rattle.pw_cmd.specs.Primitives.{outcome_of}
+use Rattle.pw_cmd.specs.Primitives.{ending_of}
 use Rattle.pw_cmd.specs.Words.{AsksForOne}
 use Rattle.pw_cmd.specs.Shows.{AsksForText, IsRefused, Completes}
 use Rattle.pw_cmd.proofs.Requests.{one_request}
@@ -51,19 +51,19 @@ module _ (words : List (List ℕ)) (files : Option Files) (request : Request) (t
 module _ (words : List (List ℕ)) (old new : Outside) (status : ℕ) (answer : Answer) (r : Ran words old new answer)
     (bytes : ReportsBytes old.input) where
   -- the status is that of the end
-  has_status : (outcome : Outcome) → outcome_of r.began.rows r.ended ≡ Ok outcome → status ≡ status_of answer →
+  has_status : (ending : Ending) → ending_of r.began.rows r.ended ≡ Ok ending → status ≡ status_of answer →
       HasStatusOfEnd (unit_of r.began.unit) r.began.request.steps old.input status
-  has_status outcome is said =
+  has_status ending is said =
       let b = r.began in
       let unit = unit_of b.unit in
-      let m = ends_as_meant unit (keep_of b.rows) b.request.steps r.start (unreported old new) b.rows r.ended outcome is
+      let m = ends_as_meant unit (keep_of b.rows) b.request.steps r.start (unreported old new) b.rows r.ended ending is
       (r.meant (subst (λ input. ReportsBytes input) (sym b.input) bytes)) in
       let end = (meaning_of unit m.input b.request.steps).end in
       record {
         input = m.input;
         is_left = subst (λ input. IsLeft m.input input) b.input m.takes.is_left;
         bytes = m.takes.bytes;
-        status_is = said ∙ ap status_of (r.answer_is ∙ is) ∙ status_meant unit b.rows end r.ended outcome m.ends is;
+        status_is = said ∙ ap status_of (r.answer_is ∙ is) ∙ status_meant unit b.rows end r.ended ending m.ends is;
       }
 
 -- ---- all
@@ -77,8 +77,8 @@ completes words old new status a request text unit p program bytes low none = by
   said = (said_well words old new low none a.answer a.performed (message_line words a.answer) status a.reported).0
 
   by_end : (r : Ran words old new a.answer) →
-      ((outcome : Outcome) × (outcome_of r.began.rows r.ended ≡ Ok outcome))
-      ⊎ ((outcome_of r.began.rows r.ended ≡ Err ReadFailed) ⊎ (outcome_of r.began.rows r.ended ≡ Err WriteFailed)) → Completed
+      ((ending : Ending) × (ending_of r.began.rows r.ended ≡ Ok ending))
+      ⊎ ((ending_of r.began.rows r.ended ≡ Err ReadFailed) ⊎ (ending_of r.began.rows r.ended ≡ Err WriteFailed)) → Completed
   by_end r (inl told) =
       let b = r.began in
       let same = same_request words old.store.files request text p b.request b.asks in

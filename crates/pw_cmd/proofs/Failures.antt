@@ -46,7 +46,7 @@ module _ (old new : Outside) where
   none_else : (line : List ℕ) (status : ℕ) (answer : Answer) → FailuresStop old (unreported old new) (stop_in answer) →
       Reports line (status_of answer) old.messages new.messages status → status ≢ 6 → status ≢ 7 → NoneFailed old new
   none_else line status answer law (inr broke) six seven = absurd (seven broke.0)
-  none_else line status (Ok outcome) law (inl said) six seven = none_with law (ap (λ m. m.faults) said.1)
+  none_else line status (Ok ending) law (inl said) six seven = none_with law (ap (λ m. m.faults) said.1)
   none_else line status (Err Usage) law (inl said) six seven = none_with law (ap (λ m. m.faults) said.1)
   none_else line status (Err (Refused why)) law (inl said) six seven = none_with law (ap (λ m. m.faults) said.1)
   none_else line status (Err ReadFailed) law (inl said) six seven = absurd (six said.0)

@@ -13,51 +13,51 @@ use Rattle.pw_image.specs.Rows.{AreRows, program_name}
 use Rattle.pw_build.specs.declared.run.Ended.{Ended}
 use Rattle.pw_build.specs.declared.run.Ended.TheVariants.{Exit, Checked, Spent, Trap, Limit, ReadFault, WriteFault}
 use Rattle.pw_build.specs.Meant.{IsEnd, EndsAsMeant, IsMeant}
-use Rattle.pw_cmd.specs.declared.answer.Outcome.{Outcome}
-use Rattle.pw_cmd.specs.declared.answer.Outcome.TheVariants as outcomes
+use Rattle.pw_cmd.specs.declared.answer.Ending.{Ending}
+use Rattle.pw_cmd.specs.declared.answer.Ending.TheVariants as endings
 use Rattle.pw_cmd.specs.declared.answer.Stop.TheVariants.{ReadFailed, WriteFailed}
-use Rattle.pw_cmd.specs.Answer.{status_of_outcome, checked_text, place_text, unit_text, row_text, outcome_text}
+use Rattle.pw_cmd.specs.Answer.{status_of_ending, checked_text, place_text, unit_text, row_text, ending_text}
 use Rattle.pw_cmd.specs.Ends.{status_of_end, function_text, end_text}
-use Rattle.pw_cmd.specs.Primitives.{outcome_of}
+use Rattle.pw_cmd.specs.Primitives.{ending_of}
 use Rattle.pw_cmd.proofs.Inversion.{ok_same, ok_is_not_err}
 
 -- ---- the answer of an end
 
--- what the answer of a run's end is: an outcome, or that a call failed
+-- what the answer of a run's end is: an ending, or that a call failed
 pub answered : (rows : List KeptRow) (ended : Ended) →
-    ((outcome : Outcome) × (outcome_of rows ended ≡ Ok outcome))
-    ⊎ ((outcome_of rows ended ≡ Err ReadFailed) ⊎ (outcome_of rows ended ≡ Err WriteFailed))
-answered rows (Exit value) = inl (outcomes.Ended value, refl)
-answered rows (Checked kind row line) = inl (outcomes.Faulted kind (slice_get rows row) line, refl)
-answered rows Spent = inl (outcomes.Spent, refl)
-answered rows (Trap cause pc value) = inl (outcomes.Trapped cause pc value, refl)
-answered rows (Limit limit) = inl (outcomes.Limited limit, refl)
+    ((ending : Ending) × (ending_of rows ended ≡ Ok ending))
+    ⊎ ((ending_of rows ended ≡ Err ReadFailed) ⊎ (ending_of rows ended ≡ Err WriteFailed))
+answered rows (Exit value) = inl (endings.Ended value, refl)
+answered rows (Checked kind row line) = inl (endings.Faulted kind (slice_get rows row) line, refl)
+answered rows Spent = inl (endings.Spent, refl)
+answered rows (Trap cause pc value) = inl (endings.Trapped cause pc value, refl)
+answered rows (Limit limit) = inl (endings.Limited limit, refl)
 answered rows ReadFault = inr (inl refl)
 answered rows WriteFault = inr (inr refl)
 
 module _ (unit : TypedUnit) (keep : Keep) (steps : ℕ) (old new : Outside) (rows : List KeptRow) where
-  -- a run with an outcome ended as meant
-  pub ends_as_meant : (ended : Ended) (outcome : Outcome) → outcome_of rows ended ≡ Ok outcome → IsMeant unit keep steps old new ended →
+  -- a run with an ending ended as meant
+  pub ends_as_meant : (ended : Ended) (ending : Ending) → ending_of rows ended ≡ Ok ending → IsMeant unit keep steps old new ended →
       EndsAsMeant unit keep steps old new ended
-  ends_as_meant (Exit value) outcome is m = m
-  ends_as_meant (Checked kind row line) outcome is m = m
-  ends_as_meant Spent outcome is m = m
-  ends_as_meant (Trap cause pc value) outcome is m = m
-  ends_as_meant (Limit limit) outcome is m = m
-  ends_as_meant ReadFault outcome is m = absurd (ok_is_not_err (sym is))
-  ends_as_meant WriteFault outcome is m = absurd (ok_is_not_err (sym is))
+  ends_as_meant (Exit value) ending is m = m
+  ends_as_meant (Checked kind row line) ending is m = m
+  ends_as_meant Spent ending is m = m
+  ends_as_meant (Trap cause pc value) ending is m = m
+  ends_as_meant (Limit limit) ending is m = m
+  ends_as_meant ReadFault ending is m = absurd (ok_is_not_err (sym is))
+  ends_as_meant WriteFault ending is m = absurd (ok_is_not_err (sym is))
 
 -- ---- the status
 
-pub status_meant : (unit : TypedUnit) (rows : List KeptRow) (end : End) (ended : Ended) (outcome : Outcome) → IsEnd unit end ended →
-    outcome_of rows ended ≡ Ok outcome → status_of_outcome outcome ≡ status_of_end end
-status_meant unit rows end (Exit value) outcome m is = ap status_of_outcome (sym (ok_same is)) ∙ sym (ap status_of_end m)
-status_meant unit rows end (Checked kind row line) outcome m is = ap status_of_outcome (sym (ok_same is)) ∙ sym (ap status_of_end m.end_is)
-status_meant unit rows end Spent outcome m is = ap status_of_outcome (sym (ok_same is)) ∙ sym (ap status_of_end m)
-status_meant unit rows end (Trap cause pc value) outcome m is = absurd m
-status_meant unit rows end (Limit limit) outcome m is = absurd m
-status_meant unit rows end ReadFault outcome m is = absurd m
-status_meant unit rows end WriteFault outcome m is = absurd m
+pub status_meant : (unit : TypedUnit) (rows : List KeptRow) (end : End) (ended : Ended) (ending : Ending) → IsEnd unit end ended →
+    ending_of rows ended ≡ Ok ending → status_of_ending ending ≡ status_of_end end
+status_meant unit rows end (Exit value) ending m is = ap status_of_ending (sym (ok_same is)) ∙ sym (ap status_of_end m)
+status_meant unit rows end (Checked kind row line) ending m is = ap status_of_ending (sym (ok_same is)) ∙ sym (ap status_of_end m.end_is)
+status_meant unit rows end Spent ending m is = ap status_of_ending (sym (ok_same is)) ∙ sym (ap status_of_end m)
+status_meant unit rows end (Trap cause pc value) ending m is = absurd m
+status_meant unit rows end (Limit limit) ending m is = absurd m
+status_meant unit rows end ReadFault ending m is = absurd m
+status_meant unit rows end WriteFault ending m is = absurd m
 
 -- ---- the words
 
@@ -90,17 +90,17 @@ module _ (file : List ℕ) (unit : TypedUnit) (rows : List KeptRow) (are : AreRo
       ∙ ap (λ u. place_text program_name (unit_text u) row.name) is.file_is
       ∙ ap (place_text program_name file) (name_from (slice_get unit.functions number) row.name is.name)
 
-  pub text_meant : (end : End) (ended : Ended) (outcome : Outcome) → IsEnd unit end ended → outcome_of rows ended ≡ Ok outcome →
-      outcome_text outcome ≡ end_text file unit end
-  text_meant end (Exit value) outcome m is = ap outcome_text (sym (ok_same is)) ∙ sym (ap (end_text file unit) m)
-  text_meant end (Checked kind row line) outcome m is =
-      ap outcome_text (sym (ok_same is))
+  pub text_meant : (end : End) (ended : Ended) (ending : Ending) → IsEnd unit end ended → ending_of rows ended ≡ Ok ending →
+      ending_text ending ≡ end_text file unit end
+  text_meant end (Exit value) ending m is = ap ending_text (sym (ok_same is)) ∙ sym (ap (end_text file unit) m)
+  text_meant end (Checked kind row line) ending m is =
+      ap ending_text (sym (ok_same is))
       ∙ ap (λ k. checked_text k (row_text (slice_get rows row)) line) m.kind_is
       ∙ ap (λ r. checked_text (kind_of m.fault) (row_text (slice_get rows r)) line) m.row_is
       ∙ ap (λ place. checked_text (kind_of m.fault) place line) (row_says m.number m.there)
       ∙ sym (ap (end_text file unit) m.end_is)
-  text_meant end Spent outcome m is = ap outcome_text (sym (ok_same is)) ∙ sym (ap (end_text file unit) m)
-  text_meant end (Trap cause pc value) outcome m is = absurd m
-  text_meant end (Limit limit) outcome m is = absurd m
-  text_meant end ReadFault outcome m is = absurd m
-  text_meant end WriteFault outcome m is = absurd m
+  text_meant end Spent ending m is = ap ending_text (sym (ok_same is)) ∙ sym (ap (end_text file unit) m)
+  text_meant end (Trap cause pc value) ending m is = absurd m
+  text_meant end (Limit limit) ending m is = absurd m
+  text_meant end ReadFault ending m is = absurd m
+  text_meant end WriteFault ending m is = absurd m

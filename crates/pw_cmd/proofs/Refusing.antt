@@ -13,7 +13,7 @@ use Rattle.pw_cmd.specs.declared.words.Request.{Request}
 use Rattle.pw_cmd.specs.Answer.{Answer, message_line, status_of}
 use Rattle.pw_cmd.specs.Answers.{Answers}
 use Rattle.pw_cmd.specs.Message.{unreported, Reports}
-use Rattle.pw_cmd.specs.Primitives.{outcome_of}
+use Rattle.pw_cmd.specs.Primitives.{ending_of}
 use Rattle.pw_cmd.specs.Words.{AsksForOne}
 use Rattle.pw_cmd.specs.Laws.{stop_in, LeavesAll, RefusesCleanly, NoneFailed}
 use Rattle.pw_cmd.specs.Shows.{AsksForText, CountsCanRise, IsProgram, IsRefused, SaysStop, WasRefused, RefusesFaults}
@@ -30,10 +30,10 @@ use Rattle.pw_cmd.proofs.Statuses.{told_usage, told_refusal, told_memory}
 -- ---- a run is no refusal
 
 -- it stops for a failed call alone
-run_stops : (rows : List KeptRow) (ended : Ended) (why : Stop) → outcome_of rows ended ≡ Err why → (why ≡ ReadFailed) ⊎ (why ≡ WriteFailed)
+run_stops : (rows : List KeptRow) (ended : Ended) (why : Stop) → ending_of rows ended ≡ Err why → (why ≡ ReadFailed) ⊎ (why ≡ WriteFailed)
 run_stops rows ended why is = by_answer (answered rows ended) where
-  by_answer : ((outcome : _) × (outcome_of rows ended ≡ Ok outcome))
-      ⊎ ((outcome_of rows ended ≡ Err ReadFailed) ⊎ (outcome_of rows ended ≡ Err WriteFailed)) → (why ≡ ReadFailed) ⊎ (why ≡ WriteFailed)
+  by_answer : ((ending : _) × (ending_of rows ended ≡ Ok ending))
+      ⊎ ((ending_of rows ended ≡ Err ReadFailed) ⊎ (ending_of rows ended ≡ Err WriteFailed)) → (why ≡ ReadFailed) ⊎ (why ≡ WriteFailed)
   by_answer (inl told) = absurd (ok_is_not_err (sym told.1 ∙ is))
   by_answer (inr (inl failed)) = inl (err_same (sym is ∙ failed))
   by_answer (inr (inr failed)) = inr (err_same (sym is ∙ failed))

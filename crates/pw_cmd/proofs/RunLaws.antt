@@ -14,7 +14,7 @@ use Rattle.pw_image.specs.Rows.{keep_of}
 use Rattle.pw_build.specs.declared.run.Ended.{Ended}
 use Rattle.pw_build.specs.declared.run.Ended.TheVariants.{Exit, Checked, Spent, Trap, Limit, ReadFault, WriteFault}
 use Rattle.pw_build.specs.Executed.{EndsSo, HasExecuted, Flushes, Finishes, Executes}
-use Rattle.pw_cmd.specs.Primitives.{outcome_of, runs_image}
+use Rattle.pw_cmd.specs.Primitives.{ending_of, runs_image}
 use Rattle.pw_cmd.specs.Laws.{stop_in, Obeys, NoneFailed, ReadFailedAlone, WriteFailedAlone, FailuresStop, NeverRefuses, MakesCalls}
 use Rattle.pw_cmd.proofs.Composition.{no_calls, makes_none}
 
@@ -130,7 +130,7 @@ module _ (unit : TypedUnit) (rows : List KeptRow) (steps : ℕ) where
       keep : Keep
       keep = keep_of rows
 
-      by_end : (ended : Ended) → Executes unit keep steps old new ended → FailuresStop old new (stop_in (outcome_of rows ended))
+      by_end : (ended : Ended) → Executes unit keep steps old new ended → FailuresStop old new (stop_in (ending_of rows ended))
       by_end (Exit value) e = flushed_well unit keep steps old new (Exit value) e (λ is. cc)
       by_end (Checked kind row line) e = flushed_well unit keep steps old new (Checked kind row line) e (λ is. cc)
       by_end Spent e = flushed_well unit keep steps old new Spent e (λ is. cc)
@@ -143,7 +143,7 @@ module _ (unit : TypedUnit) (rows : List KeptRow) (steps : ℕ) where
   pub runs_never_refuse : Obeys NeverRefuses (runs_image unit rows steps)
   runs_never_refuse old new result r = subst (λ answer. NeverRefuses old new (stop_in answer)) (sym r.result_is) (by_end r.ended)
     where
-      by_end : (ended : Ended) → NeverRefuses old new (stop_in (outcome_of rows ended))
+      by_end : (ended : Ended) → NeverRefuses old new (stop_in (ending_of rows ended))
       by_end (Exit value) = tt
       by_end (Checked kind row line) = tt
       by_end Spent = tt

@@ -12,19 +12,19 @@ use Rattle.pw_image.specs.Rows.{keep_of}
 use Rattle.pw_build.specs.declared.run.Ended.{Ended}
 use Rattle.pw_build.specs.declared.run.Ended.TheVariants.{Exit, Checked, Spent, Trap, Limit, ReadFault, WriteFault}
 use Rattle.pw_build.specs.Meant.{ReportsBytes, meaning_of, IsMeant}
-use Rattle.pw_cmd.specs.declared.answer.Outcome.{Outcome}
+use Rattle.pw_cmd.specs.declared.answer.Ending.{Ending}
 use Rattle.pw_cmd.specs.declared.answer.Stop.TheVariants.{Usage, Refused, ReadFailed, WriteFailed, NoMemory}
-use Rattle.pw_cmd.specs.Answer.{Answer, status_of_outcome, line_of, message_line}
+use Rattle.pw_cmd.specs.Answer.{Answer, status_of_ending, as_line, message_line}
 use Rattle.pw_cmd.specs.Answers.{Answers}
 use Rattle.pw_cmd.specs.Ends.{status_of_end}
 use Rattle.pw_cmd.specs.Message.{unreported}
-use Rattle.pw_cmd.specs.Primitives.{outcome_of}
+use Rattle.pw_cmd.specs.Primitives.{ending_of}
 use Rattle.pw_cmd.specs.Laws.{stop_in, LeavesAll, RefusesCleanly}
-use Rattle.pw_cmd.specs.Shows.{RunsToItsEnd, end_of, ShowsMeaning, StopsShort, BreaksShort, WasDone, Means}
+use Rattle.pw_cmd.specs.Shows.{RunsToItsEnd, meant_end, ShowsMeaning, StopsShort, BreaksShort, WasDone, Means}
 use Rattle.pw_cmd.proofs.CommandLaws.{words_cleanly}
 use Rattle.pw_cmd.proofs.Inversion.{ok_is_not_err, err_same}
 use Rattle.pw_cmd.proofs.Began.{Ran, CameTo, no_command, no_memory, not_read, refused, ran, came_to}
-use Rattle.pw_cmd.proofs.Statuses.{IsOfOutcome, value_status, told_outcome, told_read, told_write}
+use Rattle.pw_cmd.proofs.Statuses.{IsOfEnding, value_status, told_ending, told_read, told_write}
 use Rattle.pw_cmd.proofs.MeantEnds.{ends_as_meant, status_meant, text_meant}
 
 -- ---- the ends
@@ -35,15 +35,15 @@ end_status (exit value) = omega (arith, value_status value)
 end_status (stopped (checked fault d line)) = omega arith
 end_status (stopped spent) = omega arith
 
--- the status of an end that is meant is one of an outcome
-of_meaning : (status : ℕ) → (status ≡ 0) ⊎ ((status ≡ 1) ⊎ ((status ≡ 4) ⊎ (status ≡ 5))) → IsOfOutcome status
+-- the status of an end that is meant is one of an ending
+of_meaning : (status : ℕ) → (status ≡ 0) ⊎ ((status ≡ 1) ⊎ ((status ≡ 4) ⊎ (status ≡ 5))) → IsOfEnding status
 of_meaning status (inl zero) = inl (omega (arith, zero))
 of_meaning status (inr (inl one)) = inl (omega (arith, one))
 of_meaning status (inr (inr (inl four))) = inr (inl four)
 of_meaning status (inr (inr (inr five))) = inr (inr (inl five))
 
 -- only a failed call of the input, or of the output, is answered as such
-input_failed : (rows : List KeptRow) (ended : Ended) → outcome_of rows ended ≡ Err ReadFailed → ended ≡ ReadFault
+input_failed : (rows : List KeptRow) (ended : Ended) → ending_of rows ended ≡ Err ReadFailed → ended ≡ ReadFault
 input_failed rows (Exit value) e = absurd (ok_is_not_err e)
 input_failed rows (Checked kind row line) e = absurd (ok_is_not_err e)
 input_failed rows Spent e = absurd (ok_is_not_err e)
@@ -52,7 +52,7 @@ input_failed rows (Limit limit) e = absurd (ok_is_not_err e)
 input_failed rows ReadFault e = refl
 input_failed rows WriteFault e = let same = err_same e in cc
 
-output_failed : (rows : List KeptRow) (ended : Ended) → outcome_of rows ended ≡ Err WriteFailed → ended ≡ WriteFault
+output_failed : (rows : List KeptRow) (ended : Ended) → ending_of rows ended ≡ Err WriteFailed → ended ≡ WriteFault
 output_failed rows (Exit value) e = absurd (ok_is_not_err e)
 output_failed rows (Checked kind row line) e = absurd (ok_is_not_err e)
 output_failed rows Spent e = absurd (ok_is_not_err e)
@@ -79,32 +79,32 @@ module _ (words : List (List ℕ)) (old new : Outside) (status : ℕ) (answer : 
       let b = r.began in
       subst (λ e. IsMeant (unit_of b.unit) (keep_of b.rows) b.request.steps r.start (unreported old new) e) is (meant_from r)
 
-  -- what is seen of one that ended with an outcome
-  shown : (r : Ran words old new answer) (outcome : Outcome) → answer ≡ Ok outcome → status ≡ status_of_outcome outcome →
+  -- what is seen of one that ended with an ending
+  shown : (r : Ran words old new answer) (ending : Ending) → answer ≡ Ok ending → status ≡ status_of_ending ending →
       new.messages ≡ flushed_all (wrote (message_line words answer) old.messages) → ShowsMeaning words old new status
-  shown r outcome is said line =
+  shown r ending is said line =
       let b = r.began in
       let unit = unit_of b.unit in
       let same = sym r.answer_is ∙ is in
-      let m = ends_as_meant unit (keep_of b.rows) b.request.steps r.start (unreported old new) b.rows r.ended outcome same (meant_from r) in
+      let m = ends_as_meant unit (keep_of b.rows) b.request.steps r.start (unreported old new) b.rows r.ended ending same (meant_from r) in
       let end = (meaning_of unit m.input b.request.steps).end in
       record {
         run = record { start = r.start; began = b; ended = r.ended; meant = m };
-        status_is = said ∙ status_meant unit b.rows end r.ended outcome m.ends same;
+        status_is = said ∙ status_meant unit b.rows end r.ended ending m.ends same;
         line = line ∙ ap (λ a. flushed_all (wrote (message_line words a) old.messages)) is
-            ∙ ap (λ text. flushed_all (wrote (line_of text) old.messages))
-            (text_meant b.request.file unit b.rows b.built.rows_are end r.ended outcome m.ends same);
+            ∙ ap (λ text. flushed_all (wrote (as_line text) old.messages))
+            (text_meant b.request.file unit b.rows b.built.rows_are end r.ended ending m.ends same);
       }
 
   -- ---- what the words came to
 
-  shown_by : CameTo words old new answer → (outcome : Outcome) → answer ≡ Ok outcome → status ≡ status_of_outcome outcome →
+  shown_by : CameTo words old new answer → (ending : Ending) → answer ≡ Ok ending → status ≡ status_of_ending ending →
       new.messages ≡ flushed_all (wrote (message_line words answer) old.messages) → ShowsMeaning words old new status
-  shown_by (ran r) outcome is said line = shown r outcome is said line
-  shown_by (no_command c e) outcome is said line = absurd (ok_is_not_err (sym is ∙ e))
-  shown_by (no_memory request asks e) outcome is said line = absurd (ok_is_not_err (sym is ∙ e))
-  shown_by (not_read request asks left e) outcome is said line = absurd (ok_is_not_err (sym is ∙ e))
-  shown_by (refused request text why asks stands for e) outcome is said line = absurd (ok_is_not_err (sym is ∙ e))
+  shown_by (ran r) ending is said line = shown r ending is said line
+  shown_by (no_command c e) ending is said line = absurd (ok_is_not_err (sym is ∙ e))
+  shown_by (no_memory request asks e) ending is said line = absurd (ok_is_not_err (sym is ∙ e))
+  shown_by (not_read request asks left e) ending is said line = absurd (ok_is_not_err (sym is ∙ e))
+  shown_by (refused request text why asks stands for e) ending is said line = absurd (ok_is_not_err (sym is ∙ e))
 
   -- a failed read was that of the file, or it ended a run
   stopped_by : CameTo words old new answer → answer ≡ Err ReadFailed → LeavesAll old new ⊎ StopsShort words old new
@@ -160,7 +160,7 @@ pub means : (words : List (List ℕ)) (old new : Outside) (status : ℕ) → Ans
 means words old new status a bytes = record {
   shows = λ which. shows (of_meaning status which);
   no_trap = λ nine. let s = shows (inr (inr (inr nine))) in
-      omega (arith, nine, s.status_is, end_status (end_of s.run));
+      omega (arith, nine, s.status_is, end_status (meant_end s.run));
   read_failed = λ six. let told = told_read line old.messages new.messages status a.answer a.reported six in
       stopped_by words old new status a.answer bytes came told.0;
   write_failed = λ seven. by_write (told_write line old.messages new.messages status a.answer a.reported seven);
@@ -172,9 +172,9 @@ means words old new status a bytes = record {
     came : CameTo words old new a.answer
     came = came_to words old new a.answer a.performed
 
-    shows : IsOfOutcome status → ShowsMeaning words old new status
+    shows : IsOfEnding status → ShowsMeaning words old new status
     shows is =
-        let told = told_outcome line old.messages new.messages status a.answer a.reported is in
+        let told = told_ending line old.messages new.messages status a.answer a.reported is in
         shown_by words old new status a.answer bytes came told.0 told.1 told.2 told.3
 
     by_write : ((a.answer ≡ Err WriteFailed) × (new.messages ≡ flushed_all (wrote line old.messages)))

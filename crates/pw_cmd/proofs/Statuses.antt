@@ -3,19 +3,19 @@ use Rattle.std.proofs.Common.{◌≡◌, ℕ, ◌≤◌, List, Bool, true, false
 use Rattle.std.specs.Prelude.{◌⊎◌}
 use Rattle.pw_io.specs.Faults.{Rises}
 use Rattle.pw_io.specs.Sink.{SinkState, wrote, flushed_all}
-use Rattle.pw_cmd.specs.declared.answer.Outcome.{Outcome}
-use Rattle.pw_cmd.specs.declared.answer.Outcome.TheVariants.{Ended, Faulted, Spent, Trapped, Limited}
+use Rattle.pw_cmd.specs.declared.answer.Ending.{Ending}
+use Rattle.pw_cmd.specs.declared.answer.Ending.TheVariants.{Ended, Faulted, Spent, Trapped, Limited}
 use Rattle.pw_cmd.specs.declared.answer.Stop.{Stop}
 use Rattle.pw_cmd.specs.declared.answer.Stop.TheVariants.{Usage, Refused, ReadFailed, WriteFailed, NoMemory}
 use Rattle.pw_cmd.specs.declared.refusal.Refusal.{Refusal}
-use Rattle.pw_cmd.specs.Answer.{Answer, status_of_value, status_of_outcome, status_of}
+use Rattle.pw_cmd.specs.Answer.{Answer, status_of_value, status_of_ending, status_of}
 use Rattle.pw_cmd.specs.Message.{Reports}
 
--- ---- the statuses of outcomes and of stops
+-- ---- the statuses of endings and of stops
 
--- the statuses that an outcome has
-abbrev pub IsOfOutcome : ℕ → Type 0
-IsOfOutcome k = (k ≤ 1) ⊎ ((k ≡ 4) ⊎ ((k ≡ 5) ⊎ (k ≡ 9)))
+-- the statuses that an ending has
+abbrev pub IsOfEnding : ℕ → Type 0
+IsOfEnding k = (k ≤ 1) ⊎ ((k ≡ 4) ⊎ ((k ≡ 5) ⊎ (k ≡ 9)))
 
 -- the statuses that a stop has
 abbrev pub IsOfStop : ℕ → Type 0
@@ -27,12 +27,12 @@ value_status value = by_test (value == 0) where
   by_test true = omega arith
   by_test false = omega arith
 
-outcome_status : (outcome : Outcome) → IsOfOutcome (status_of_outcome outcome)
-outcome_status (Ended value) = inl (value_status value)
-outcome_status (Faulted kind row line) = inr (inl refl)
-outcome_status Spent = inr (inr (inl refl))
-outcome_status (Limited limit) = inr (inr (inl refl))
-outcome_status (Trapped cause pc value) = inr (inr (inr refl))
+ending_status : (ending : Ending) → IsOfEnding (status_of_ending ending)
+ending_status (Ended value) = inl (value_status value)
+ending_status (Faulted kind row line) = inr (inl refl)
+ending_status Spent = inr (inr (inl refl))
+ending_status (Limited limit) = inr (inr (inl refl))
+ending_status (Trapped cause pc value) = inr (inr (inr refl))
 
 stop_status : (stop : Stop) → IsOfStop (status_of (Err stop))
 stop_status Usage = inl refl
@@ -42,7 +42,7 @@ stop_status WriteFailed = inr (inr (omega arith, omega arith))
 stop_status NoMemory = inr (inr (omega arith, omega arith))
 
 -- no status is of both
-apart : (k : ℕ) → IsOfOutcome k → IsOfStop k → ⊥
+apart : (k : ℕ) → IsOfEnding k → IsOfStop k → ⊥
 apart k (inl a) (inl b) = omega (arith, a, b)
 apart k (inl a) (inr (inl b)) = omega (arith, a, b)
 apart k (inl a) (inr (inr b)) = omega (arith, a, b.0)
@@ -56,8 +56,8 @@ apart k (inr (inr (inr a))) (inl b) = omega (arith, a, b)
 apart k (inr (inr (inr a))) (inr (inl b)) = omega (arith, a, b)
 apart k (inr (inr (inr a))) (inr (inr b)) = omega (arith, a, b.1)
 
-not_outcome : (outcome : Outcome) (status : ℕ) → status ≡ status_of_outcome outcome → IsOfStop status → ⊥
-not_outcome outcome status said = apart status (subst IsOfOutcome (sym said) (outcome_status outcome))
+not_ending : (ending : Ending) (status : ℕ) → status ≡ status_of_ending ending → IsOfStop status → ⊥
+not_ending ending status said = apart status (subst IsOfEnding (sym said) (ending_status ending))
 
 -- ---- what a status tells
 
@@ -66,15 +66,15 @@ module _ (line : List ℕ) (old new : SinkState) (status : ℕ) where
   abbrev pub IsSaid : Type 0
   IsSaid = new ≡ flushed_all (wrote line old)
 
-  pub told_outcome : (answer : Answer) → Reports line (status_of answer) old new status → IsOfOutcome status →
-      (outcome : Outcome) × (answer ≡ Ok outcome) × (status ≡ status_of_outcome outcome) × IsSaid
-  told_outcome (Ok outcome) (inl said) is = (outcome, refl, said.0, said.1)
-  told_outcome (Err stop) (inl said) is = absurd (apart status is (subst IsOfStop (sym said.0) (stop_status stop)))
-  told_outcome answer (inr broke) is = absurd (apart status is (inr (inr (omega (arith, broke.0), omega (arith, broke.0)))))
+  pub told_ending : (answer : Answer) → Reports line (status_of answer) old new status → IsOfEnding status →
+      (ending : Ending) × (answer ≡ Ok ending) × (status ≡ status_of_ending ending) × IsSaid
+  told_ending (Ok ending) (inl said) is = (ending, refl, said.0, said.1)
+  told_ending (Err stop) (inl said) is = absurd (apart status is (subst IsOfStop (sym said.0) (stop_status stop)))
+  told_ending answer (inr broke) is = absurd (apart status is (inr (inr (omega (arith, broke.0), omega (arith, broke.0)))))
 
   pub told_usage : (answer : Answer) → Reports line (status_of answer) old new status → status ≡ 2 → (answer ≡ Err Usage) × IsSaid
   told_usage answer (inr broke) is = absurd (omega (arith, broke.0, is))
-  told_usage (Ok outcome) (inl said) is = absurd (not_outcome outcome status said.0 (inl is))
+  told_usage (Ok ending) (inl said) is = absurd (not_ending ending status said.0 (inl is))
   told_usage (Err Usage) (inl said) is = (refl, said.1)
   told_usage (Err (Refused why)) (inl said) is = absurd (omega (arith, said.0, is))
   told_usage (Err ReadFailed) (inl said) is = absurd (omega (arith, said.0, is))
@@ -84,7 +84,7 @@ module _ (line : List ℕ) (old new : SinkState) (status : ℕ) where
   pub told_refusal : (answer : Answer) → Reports line (status_of answer) old new status → status ≡ 3 →
       (why : Refusal) × (answer ≡ Err (Refused why)) × IsSaid
   told_refusal answer (inr broke) is = absurd (omega (arith, broke.0, is))
-  told_refusal (Ok outcome) (inl said) is = absurd (not_outcome outcome status said.0 (inr (inl is)))
+  told_refusal (Ok ending) (inl said) is = absurd (not_ending ending status said.0 (inr (inl is)))
   told_refusal (Err Usage) (inl said) is = absurd (omega (arith, said.0, is))
   told_refusal (Err (Refused why)) (inl said) is = (why, refl, said.1)
   told_refusal (Err ReadFailed) (inl said) is = absurd (omega (arith, said.0, is))
@@ -93,7 +93,7 @@ module _ (line : List ℕ) (old new : SinkState) (status : ℕ) where
 
   pub told_read : (answer : Answer) → Reports line (status_of answer) old new status → status ≡ 6 → (answer ≡ Err ReadFailed) × IsSaid
   told_read answer (inr broke) is = absurd (omega (arith, broke.0, is))
-  told_read (Ok outcome) (inl said) is = absurd (not_outcome outcome status said.0 (inr (inr (omega (arith, is), omega (arith, is)))))
+  told_read (Ok ending) (inl said) is = absurd (not_ending ending status said.0 (inr (inr (omega (arith, is), omega (arith, is)))))
   told_read (Err Usage) (inl said) is = absurd (omega (arith, said.0, is))
   told_read (Err (Refused why)) (inl said) is = absurd (omega (arith, said.0, is))
   told_read (Err ReadFailed) (inl said) is = (refl, said.1)
@@ -103,7 +103,7 @@ module _ (line : List ℕ) (old new : SinkState) (status : ℕ) where
   pub told_write : (answer : Answer) → Reports line (status_of answer) old new status → status ≡ 7 →
       ((answer ≡ Err WriteFailed) × IsSaid) ⊎ Rises old.faults new.faults
   told_write answer (inr broke) is = inr broke.1.fails.faults
-  told_write (Ok outcome) (inl said) is = absurd (not_outcome outcome status said.0 (inr (inr (omega (arith, is), omega (arith, is)))))
+  told_write (Ok ending) (inl said) is = absurd (not_ending ending status said.0 (inr (inr (omega (arith, is), omega (arith, is)))))
   told_write (Err Usage) (inl said) is = absurd (omega (arith, said.0, is))
   told_write (Err (Refused why)) (inl said) is = absurd (omega (arith, said.0, is))
   told_write (Err ReadFailed) (inl said) is = absurd (omega (arith, said.0, is))
@@ -112,7 +112,7 @@ module _ (line : List ℕ) (old new : SinkState) (status : ℕ) where
 
   pub told_memory : (answer : Answer) → Reports line (status_of answer) old new status → status ≡ 8 → (answer ≡ Err NoMemory) × IsSaid
   told_memory answer (inr broke) is = absurd (omega (arith, broke.0, is))
-  told_memory (Ok outcome) (inl said) is = absurd (not_outcome outcome status said.0 (inr (inr (omega (arith, is), omega (arith, is)))))
+  told_memory (Ok ending) (inl said) is = absurd (not_ending ending status said.0 (inr (inr (omega (arith, is), omega (arith, is)))))
   told_memory (Err Usage) (inl said) is = absurd (omega (arith, said.0, is))
   told_memory (Err (Refused why)) (inl said) is = absurd (omega (arith, said.0, is))
   told_memory (Err ReadFailed) (inl said) is = absurd (omega (arith, said.0, is))

@@ -9,8 +9,8 @@ use Rattle.pw_place.specs.declared.link_error.LinkError.TheVariants as links
 use Rattle.pw_place.specs.declared.link_error.What.{What}
 use Rattle.pw_place.specs.declared.link_error.What.TheVariants.{Units, Names, Elements, TextBytes}
 use Rattle.pw_cmd.specs.Faults.{fault_text}
-use Rattle.pw_cmd.specs.declared.answer.Outcome.{Outcome}
-use Rattle.pw_cmd.specs.declared.answer.Outcome.TheVariants.{Ended, Faulted, Spent, Trapped, Limited}
+use Rattle.pw_cmd.specs.declared.answer.Ending.{Ending}
+use Rattle.pw_cmd.specs.declared.answer.Ending.TheVariants.{Ended, Faulted, Spent, Trapped, Limited}
 use Rattle.pw_cmd.specs.declared.answer.Stop.{Stop}
 use Rattle.pw_cmd.specs.declared.answer.Stop.TheVariants.{Usage, Refused, ReadFailed, WriteFailed, NoMemory}
 use Rattle.pw_cmd.specs.declared.refusal.FileFault.{FileFault}
@@ -20,7 +20,7 @@ use Rattle.pw_cmd.specs.declared.refusal.Refusal.TheVariants.{File, Link, Unboun
 
 -- what a command answers
 abbrev pub Answer : Type 0
-Answer = Result Outcome Stop
+Answer = Result Ending Stop
 
 -- ---- the status
 
@@ -29,16 +29,16 @@ abbrev pub status_of_value : ℕ → ℕ
 status_of_value value = if value == 0 then 0 else 1
 
 -- the status of a run that ended so
-abbrev pub status_of_outcome : Outcome → ℕ
-status_of_outcome (Ended value) = status_of_value value
-status_of_outcome (Faulted kind row line) = 4
-status_of_outcome Spent = 5
-status_of_outcome (Limited limit) = 5
-status_of_outcome (Trapped cause pc value) = 9
+abbrev pub status_of_ending : Ending → ℕ
+status_of_ending (Ended value) = status_of_value value
+status_of_ending (Faulted kind row line) = 4
+status_of_ending Spent = 5
+status_of_ending (Limited limit) = 5
+status_of_ending (Trapped cause pc value) = 9
 
 -- the status that the program ends with
 abbrev pub status_of : Answer → ℕ
-status_of (Ok outcome) = status_of_outcome outcome
+status_of (Ok ending) = status_of_ending ending
 status_of (Err Usage) = 2
 status_of (Err (Refused _)) = 3
 status_of (Err ReadFailed) = 6
@@ -79,12 +79,12 @@ abbrev pub address_text : ℕ → List ℕ
 address_text at = codes "0x" ++ digits 16 false at
 
 -- how a run ended, in words
-abbrev pub outcome_text : Outcome → List ℕ
-outcome_text (Ended value) = codes "ended " ++ decimal value
-outcome_text (Faulted kind row line) = checked_text kind (row_text row) line
-outcome_text Spent = codes "step bound spent"
-outcome_text (Limited limit) = codes "instruction limit " ++ (decimal limit ++ codes " reached")
-outcome_text (Trapped cause pc value) =
+abbrev pub ending_text : Ending → List ℕ
+ending_text (Ended value) = codes "ended " ++ decimal value
+ending_text (Faulted kind row line) = checked_text kind (row_text row) line
+ending_text Spent = codes "step bound spent"
+ending_text (Limited limit) = codes "instruction limit " ++ (decimal limit ++ codes " reached")
+ending_text (Trapped cause pc value) =
     codes "trap " ++ (decimal cause ++ (codes " at " ++ (address_text pc ++ (codes " value " ++ address_text value))))
 
 -- ---- a refusal, in words
@@ -129,7 +129,7 @@ refusal_text words (Unbound name) = codes "app: " ++ (name ++ codes " is not def
 
 -- ---- the line
 
--- why there is no outcome, in words
+-- why there is no ending, in words
 abbrev pub reason_of : List (List ℕ) → Stop → List ℕ
 reason_of words Usage = codes "usage: pw COMMAND ARGUMENTS"
 reason_of words (Refused refusal) = codes "refused: " ++ refusal_text words refusal
@@ -139,13 +139,13 @@ reason_of words NoMemory = codes "out of memory"
 
 -- the line that says it, without its end
 abbrev pub sentence_of : List (List ℕ) → Answer → List ℕ
-sentence_of words (Ok outcome) = outcome_text outcome
+sentence_of words (Ok ending) = ending_text ending
 sentence_of words (Err stop) = reason_of words stop
 
 -- a line ends with byte 10
-abbrev pub line_of : List ℕ → List ℕ
-line_of sentence = sentence ++ 10 ∷ []
+abbrev pub as_line : List ℕ → List ℕ
+as_line sentence = sentence ++ 10 ∷ []
 
 -- the line that says it
 abbrev pub message_line : List (List ℕ) → Answer → List ℕ
-message_line words answer = line_of (sentence_of words answer)
+message_line words answer = as_line (sentence_of words answer)

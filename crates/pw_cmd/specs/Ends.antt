@@ -11,7 +11,7 @@ use Rattle.pw_hart.specs.Runs.{IsLeft}
 use Rattle.pw_simulation.specs.Moments.{kind_of}
 use Rattle.pw_image.specs.Rows.{program_name}
 use Rattle.pw_build.specs.Meant.{meaning_of}
-use Rattle.pw_cmd.specs.Answer.{status_of_value, checked_text, place_text, line_of}
+use Rattle.pw_cmd.specs.Answer.{status_of_value, checked_text, place_text, as_line}
 
 -- the status of an end
 abbrev pub status_of_end : End → ℕ
@@ -31,7 +31,7 @@ end_text file unit (stopped spent) = codes "step bound spent"
 
 -- the line that says it
 abbrev pub line_of_end : (file : List ℕ) → TypedUnit → End → List ℕ
-line_of_end file unit end = line_of (end_text file unit end)
+line_of_end file unit end = as_line (end_text file unit end)
 
 -- The status is that of the end which the unit means on an input of bytes: the one that is left, where that is reported.
 pub record HasStatusOfEnd (unit : TypedUnit) (steps : ℕ) (old : SourceState) (status : ℕ) : Type 0 where

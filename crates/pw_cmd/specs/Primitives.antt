@@ -21,8 +21,8 @@ use Rattle.pw_build.specs.declared.run.Ended.TheVariants as runs
 use Rattle.pw_build.specs.Executed.{Executes}
 use Rattle.pw_build.specs.Meant.{ReportsBytes, IsMeant}
 use Rattle.pw_cmd.specs.declared.fault.FrontFault.{FrontFault}
-use Rattle.pw_cmd.specs.declared.answer.Outcome.{Outcome}
-use Rattle.pw_cmd.specs.declared.answer.Outcome.TheVariants as outcomes
+use Rattle.pw_cmd.specs.declared.answer.Ending.{Ending}
+use Rattle.pw_cmd.specs.declared.answer.Ending.TheVariants as endings
 use Rattle.pw_cmd.specs.declared.answer.Stop.{Stop}
 use Rattle.pw_cmd.specs.declared.answer.Stop.TheVariants.{Usage, Refused, ReadFailed, WriteFailed, NoMemory}
 use Rattle.pw_cmd.specs.declared.refusal.FileFault.TheVariants.{TooLong, Source}
@@ -104,18 +104,18 @@ builds file unit = CallsBelow (BuildsImage file unit) stop_of_image
 -- ---- the run
 
 -- the answer of a run that ended so; a checked fault is reported with the row of its function
-abbrev pub outcome_of : List KeptRow → Ended → Result Outcome Stop
-outcome_of rows (runs.Exit value) = Ok (outcomes.Ended value)
-outcome_of rows (runs.Checked kind row line) = Ok (outcomes.Faulted kind (slice_get rows row) line)
-outcome_of rows runs.Spent = Ok outcomes.Spent
-outcome_of rows (runs.Trap cause pc value) = Ok (outcomes.Trapped cause pc value)
-outcome_of rows (runs.Limit limit) = Ok (outcomes.Limited limit)
-outcome_of rows runs.ReadFault = Err ReadFailed
-outcome_of rows runs.WriteFault = Err WriteFailed
+abbrev pub ending_of : List KeptRow → Ended → Result Ending Stop
+ending_of rows (runs.Exit value) = Ok (endings.Ended value)
+ending_of rows (runs.Checked kind row line) = Ok (endings.Faulted kind (slice_get rows row) line)
+ending_of rows runs.Spent = Ok endings.Spent
+ending_of rows (runs.Trap cause pc value) = Ok (endings.Trapped cause pc value)
+ending_of rows (runs.Limit limit) = Ok (endings.Limited limit)
+ending_of rows runs.ReadFault = Err ReadFailed
+ending_of rows runs.WriteFault = Err WriteFailed
 
 -- The image ran with so many counted steps, and ended so; where the input reports bytes, as the source means.
-pub record runs_image (unit : TypedUnit) (rows : List KeptRow) (steps : ℕ) (old new : Outside) (result : Result Outcome Stop) : Type 0 where
+pub record runs_image (unit : TypedUnit) (rows : List KeptRow) (steps : ℕ) (old new : Outside) (result : Result Ending Stop) : Type 0 where
   pub ended : Ended
   pub executes : Executes unit (keep_of rows) steps old new ended
   pub meant : ReportsBytes old.input → IsMeant unit (keep_of rows) steps old new ended
-  pub result_is : result ≡ outcome_of rows ended
+  pub result_is : result ≡ ending_of rows ended

@@ -65,14 +65,14 @@ pub record RunsToItsEnd (words : List (List ℕ)) (old new : Outside) : Type 0 w
   pub meant : EndsAsMeant (unit_of began.unit) (keep_of began.rows) began.request.steps start (unreported old new) ended
 
 -- The end that the unit of a run means.
-abbrev pub end_of : {words : List (List ℕ)} {old new : Outside} → RunsToItsEnd words old new → End
-end_of r = (meaning_of (unit_of r.began.unit) r.meant.input r.began.request.steps).end
+abbrev pub meant_end : {words : List (List ℕ)} {old new : Outside} → RunsToItsEnd words old new → End
+meant_end r = (meaning_of (unit_of r.began.unit) r.meant.input r.began.request.steps).end
 
 -- The source means what is seen: a run ended as it means, and the status and the line are those of that end.
 pub record ShowsMeaning (words : List (List ℕ)) (old new : Outside) (status : ℕ) : Type 0 where
   pub run : RunsToItsEnd words old new
-  pub status_is : status ≡ status_of_end (end_of run)
-  pub line : new.messages ≡ flushed_all (wrote (line_of_end run.began.request.file (unit_of run.began.unit) (end_of run)) old.messages)
+  pub status_is : status ≡ status_of_end (meant_end run)
+  pub line : new.messages ≡ flushed_all (wrote (line_of_end run.began.request.file (unit_of run.began.unit) (meant_end run)) old.messages)
 
 -- A run began, and the input failed: until then it was as the source means.
 pub record StopsShort (words : List (List ℕ)) (old new : Outside) : Type 0 where

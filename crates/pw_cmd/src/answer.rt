@@ -1,13 +1,13 @@
 //! What a command answers, and the status that it ends with.
 ghost use Rattle.std.specs.Prelude.{◌≡◌};
-ghost use Rattle.pw_cmd.specs.Answer.{status_of, status_of_outcome};
+ghost use Rattle.pw_cmd.specs.Answer.{status_of, status_of_ending};
 
 use crate::refusal::Refusal;
 use pw_module::KeptRow;
 
 /// How a run ended.
 #[derive(Drop)]
-pub enum Outcome {
+pub enum Ending {
     /// `main` returned this value.
     Ended(u64),
     /// A check of the program failed: of this kind, in the function of this row, and in this line.
@@ -23,7 +23,7 @@ pub enum Outcome {
     Limited(u64),
 }
 
-/// Why a command has no outcome.
+/// Why a command has no ending.
 #[derive(Drop)]
 pub enum Stop {
     /// The words are of no command.
@@ -39,25 +39,25 @@ pub enum Stop {
 }
 
 /// The status of a run that ended so.
-fn status_of_outcome(outcome: &Outcome) -> u8
-    ensures { result ≡ status_of_outcome outcome.now }
+fn status_of_ending(ending: &Ending) -> u8
+    ensures { result ≡ status_of_ending ending.now }
 {
-    match outcome {
-        Outcome::Ended(0) => 0,
-        Outcome::Ended(_) => 1,
-        Outcome::Faulted(..) => 4,
-        Outcome::Spent => 5,
-        Outcome::Limited(_) => 5,
-        Outcome::Trapped(..) => 9,
+    match ending {
+        Ending::Ended(0) => 0,
+        Ending::Ended(_) => 1,
+        Ending::Faulted(..) => 4,
+        Ending::Spent => 5,
+        Ending::Limited(_) => 5,
+        Ending::Trapped(..) => 9,
     }
 }
 
 /// The status that the program ends with where its message was written.
-pub fn status(answer: &Result<Outcome, Stop>) -> u8
+pub fn status(answer: &Result<Ending, Stop>) -> u8
     ensures { result ≡ status_of answer.now }
 {
     match answer {
-        Ok(outcome) => status_of_outcome(outcome),
+        Ok(ending) => status_of_ending(ending),
         Err(Stop::Usage) => 2,
         Err(Stop::Refused(_)) => 3,
         Err(Stop::ReadFailed) => 6,

@@ -5,13 +5,13 @@
 
 mod answer;
 mod commands;
+mod ending;
 mod fault;
 mod hexadecimal;
 mod laws;
 mod link_fault;
 mod message;
 mod one;
-mod outcome;
 mod perform;
 mod primitives;
 mod program;

@@ -5,7 +5,7 @@ ghost use Rattle.pw_cmd.specs.Answer.{message_line, reason_of, sentence_of, stat
 ghost use Rattle.pw_cmd.specs.Message.{PutsLine, Reports};
 ghost use Rattle.pw_cmd.specs.Words.{texts};
 
-use crate::answer::{Outcome, Stop, status};
+use crate::answer::{Ending, Stop, status};
 use crate::refusal::Refusal;
 use crate::says::{Says, put_both};
 use pw_io::{Failed, Sink};
@@ -14,18 +14,18 @@ use pw_io::{Failed, Sink};
 fn say_answer<S: Sink>(
     sink: &mut S,
     words: &[String],
-    answer: &Result<Outcome, Stop>,
+    answer: &Result<Ending, Stop>,
 ) -> Result<(), Failed>
     ensures { PutsAll (sentence_of (texts words.now) answer.now)
         (S.state sink.old) (S.state sink.new) result }
 {
     match answer {
-        Ok(outcome) => outcome.say(sink),
+        Ok(ending) => ending.say(sink),
         Err(stop) => say_stop(sink, words, stop),
     }
 }
 
-/// Says why there is no outcome.
+/// Says why there is no ending.
 fn say_stop<S: Sink>(sink: &mut S, words: &[String], stop: &Stop) -> Result<(), Failed>
     ensures { PutsAll (reason_of (texts words.now) stop.now)
         (S.state sink.old) (S.state sink.new) result }
@@ -69,7 +69,7 @@ fn word_of(words: &[String], number: usize) -> &[u8]
 fn say_line<S: Sink>(
     sink: &mut S,
     words: &[String],
-    answer: &Result<Outcome, Stop>,
+    answer: &Result<Ending, Stop>,
 ) -> Result<(), Failed>
     ensures { PutsLine (message_line (texts words.now) answer.now)
         (S.state sink.old) (S.state sink.new) result }
@@ -81,7 +81,7 @@ fn say_line<S: Sink>(
 
 /// Reports the answer, and gives the status that the program ends with: the answer's, or 7 where
 /// the reporting failed.
-pub fn report<S: Sink>(sink: &mut S, words: &[String], answer: &Result<Outcome, Stop>) -> u8
+pub fn report<S: Sink>(sink: &mut S, words: &[String], answer: &Result<Ending, Stop>) -> u8
     ensures { Reports (message_line (texts words.now) answer.now) (status_of answer.now)
         (S.state sink.old) (S.state sink.new) result }
 {

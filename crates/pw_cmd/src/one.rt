@@ -6,7 +6,7 @@ ghost use Rattle.pw_hart.specs.Outside.{outside};
 ghost use Rattle.pw_io.specs.Sink.{SinkState};
 ghost use Rattle.pw_cmd.specs.Commands.{one};
 
-use crate::answer::{Outcome, Stop};
+use crate::answer::{Ending, Stop};
 use crate::primitives::{build, compile, read, run_image};
 use crate::words::Request;
 use pw_io::{Sink, Source, Store};
@@ -21,7 +21,7 @@ pub fn one<S: Store, I: Source, O: Sink, M: Memory>(
     input: &mut I,
     out: &mut O,
     mem: &mut M,
-) -> Result<Outcome, Stop>
+) -> Result<Ending, Stop>
     requires { request.now.steps ≤ given_steps }
     ensures { (messages : SinkState) → one request.now
         (outside (S.state store.old) (I.state input.old) (O.state out.old)

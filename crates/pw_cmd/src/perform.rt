@@ -4,7 +4,7 @@ ghost use Rattle.pw_hart.specs.Outside.{outside};
 ghost use Rattle.pw_cmd.specs.Commands.{performs};
 ghost use Rattle.pw_cmd.specs.Words.{texts};
 
-use crate::answer::{Outcome, Stop};
+use crate::answer::{Ending, Stop};
 use crate::one::one;
 use crate::primitives::judge;
 use pw_io::{Sink, Source, Store};
@@ -19,7 +19,7 @@ pub fn perform<S: Store, I: Source, O: Sink, M: Memory>(
     input: &mut I,
     out: &mut O,
     mem: &mut M,
-) -> Result<Outcome, Stop>
+) -> Result<Ending, Stop>
     ensures { (messages : SinkState) → performs (texts words.now)
         (outside (S.state store.old) (I.state input.old) (O.state out.old)
         messages (M.state mem.old))

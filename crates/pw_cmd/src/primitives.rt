@@ -18,9 +18,9 @@ ghost use Rattle.pw_build.specs.Built.{IsBuilt, Builds};
 ghost use Rattle.pw_build.specs.Executed.{Executes};
 ghost use Rattle.pw_build.specs.Meant.{ReportsBytes, IsMeant};
 ghost use Rattle.pw_cmd.specs.Words.{texts};
-ghost use Rattle.pw_cmd.specs.Primitives.{judges, stop_of_words, reads, stop_of_read, compiles, stop_of_front, builds, stop_of_image, runs_image, outcome_of};
+ghost use Rattle.pw_cmd.specs.Primitives.{judges, stop_of_words, reads, stop_of_read, compiles, stop_of_front, builds, stop_of_image, runs_image, ending_of};
 
-use crate::answer::{Outcome, Stop};
+use crate::answer::{Ending, Stop};
 use crate::fault::fault_of;
 use crate::refusal::{FileFault, Refusal};
 use crate::words::{CommandError, Request, asked};
@@ -181,7 +181,7 @@ pub fn run_image<M: Memory, I: Source, O: Sink>(
     mem: &mut M,
     input: &mut I,
     out: &mut O,
-) -> Result<Outcome, Stop>
+) -> Result<Ending, Stop>
     requires can_run { CanRun (project_of (unit_of unit.now)) }
     requires built { (file : List ℕ) × IsBuilt file (unit_of unit.now) (M.state mem.old) rows }
     requires allowed { steps ≤ given_steps }
@@ -190,7 +190,7 @@ pub fn run_image<M: Memory, I: Source, O: Sink>(
         (outside store (I.state input.new) (O.state out.new) messages (M.state mem.new)) result }
 {
     let ended = execute_image(unit, rows.as_slice(), steps, mem, input, out);
-    outcome_of(rows, ended)
+    ending_of(rows, ended)
 }
 
 /// Runs the image of the unit's program, whose rows these are.
@@ -220,15 +220,15 @@ fn execute_image<M: Memory, I: Source, O: Sink>(
 }
 
 /// The answer of a run that ended so. Of a checked fault it has the row.
-fn outcome_of(rows: Items<KeptRow>, ended: Ended) -> Result<Outcome, Stop>
-    ensures { result ≡ outcome_of rows ended }
+fn ending_of(rows: Items<KeptRow>, ended: Ended) -> Result<Ending, Stop>
+    ensures { result ≡ ending_of rows ended }
 {
     match ended {
-        Ended::Exit(value) => Ok(Outcome::Ended(value)),
-        Ended::Checked { kind, row, line } => Ok(Outcome::Faulted(kind, row_of(rows, row), line)),
-        Ended::Spent => Ok(Outcome::Spent),
-        Ended::Trap { cause, pc, value } => Ok(Outcome::Trapped(cause, pc, value)),
-        Ended::Limit(limit) => Ok(Outcome::Limited(limit)),
+        Ended::Exit(value) => Ok(Ending::Ended(value)),
+        Ended::Checked { kind, row, line } => Ok(Ending::Faulted(kind, row_of(rows, row), line)),
+        Ended::Spent => Ok(Ending::Spent),
+        Ended::Trap { cause, pc, value } => Ok(Ending::Trapped(cause, pc, value)),
+        Ended::Limit(limit) => Ok(Ending::Limited(limit)),
         Ended::ReadFault => Err(Stop::ReadFailed),
         Ended::WriteFault => Err(Stop::WriteFailed),
     }

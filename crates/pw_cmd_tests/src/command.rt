@@ -12,7 +12,7 @@ pub const ONE: [&str; 2] = ["one", "main.c"];
 
 /// The numbers of the calls of each port that are to fail, from 1.
 #[derive(Clone, Copy)]
-pub struct Fails<'a> {
+pub struct FailingCalls<'a> {
     pub store: &'a [u64],
     pub input: &'a [u64],
     pub out: &'a [u64],
@@ -20,7 +20,7 @@ pub struct Fails<'a> {
 }
 
 /// No call fails.
-pub const NONE: Fails<'static> = Fails {
+pub const NONE: FailingCalls<'static> = FailingCalls {
     store: &[],
     input: &[],
     out: &[],
@@ -33,12 +33,12 @@ pub struct Given<'a> {
     pub words: &'a [&'a str],
     pub text: &'a [u8],
     pub input: &'a [u8],
-    pub fails: Fails<'a>,
+    pub fails: FailingCalls<'a>,
 }
 
 /// What a command answers: its status, its output, its message, and what it leaves of the input.
 #[derive(Clone, Copy)]
-pub struct Answer<'a> {
+pub struct Expected<'a> {
     pub status: u8,
     pub out: &'a [u8],
     pub msg: &'a [u8],
@@ -92,8 +92,8 @@ pub fn run<M: Memory + Drop>(alloc: Global, given: Given, mem: M) -> Result<Seen
     })
 }
 
-/// Fails where the command answers otherwise.
-pub fn answers(rt: &impl Abort, alloc: Global, given: Given, answer: Answer) -> Result<(), Fail> {
+/// FailingCalls where the command answers otherwise.
+pub fn answers(rt: &impl Abort, alloc: Global, given: Given, answer: Expected) -> Result<(), Fail> {
     let seen = run(alloc, given, FlatMemory::new(alloc))?;
     assert_eq!(rt; seen.msg.written(), answer.msg);
     assert_eq!(rt; seen.status, answer.status);

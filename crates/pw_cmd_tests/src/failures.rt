@@ -1,5 +1,5 @@
 //! What a command answers where a call of a port fails, and what it wrote before.
-use crate::command::{Answer, Fails, Given, NONE, ONE, answers};
+use crate::command::{Expected, FailingCalls, Given, NONE, ONE, answers};
 use crate::programs::{COPY, COUNT};
 use std::test::Fail;
 
@@ -17,13 +17,13 @@ const NO: &[u8] = b"long f(void) { return 0; }";
 
 /// The words, the text, the bytes of the input and the calls that fail; then the status, the output, the message, and the bytes
 /// of the input that are left.
-const ROWS: [(&[&str], &[u8], &[u8], Fails, u8, &[u8], &[u8], &[u8]); 17] = [
+const ROWS: [(&[&str], &[u8], &[u8], FailingCalls, u8, &[u8], &[u8], &[u8]); 17] = [
     // the read fails
     (
         &["one", "main.c"],
         ABC,
         b"",
-        Fails {
+        FailingCalls {
             store: &[1],
             ..NONE
         },
@@ -48,7 +48,7 @@ const ROWS: [(&[&str], &[u8], &[u8], Fails, u8, &[u8], &[u8], &[u8]); 17] = [
         &["one", "main.c"],
         COPY,
         b"xyz",
-        Fails {
+        FailingCalls {
             input: &[1],
             ..NONE
         },
@@ -62,7 +62,7 @@ const ROWS: [(&[&str], &[u8], &[u8], Fails, u8, &[u8], &[u8], &[u8]); 17] = [
         &["one", "main.c"],
         COPY,
         b"xyz",
-        Fails {
+        FailingCalls {
             input: &[3],
             ..NONE
         },
@@ -76,7 +76,7 @@ const ROWS: [(&[&str], &[u8], &[u8], Fails, u8, &[u8], &[u8], &[u8]); 17] = [
         &["one", "main.c"],
         COPY,
         b"xyz",
-        Fails {
+        FailingCalls {
             input: &[4],
             ..NONE
         },
@@ -90,7 +90,7 @@ const ROWS: [(&[&str], &[u8], &[u8], Fails, u8, &[u8], &[u8], &[u8]); 17] = [
         &["one", "main.c"],
         ABC,
         b"",
-        Fails { out: &[1], ..NONE },
+        FailingCalls { out: &[1], ..NONE },
         7,
         b"",
         b"write failed\n",
@@ -101,7 +101,7 @@ const ROWS: [(&[&str], &[u8], &[u8], Fails, u8, &[u8], &[u8], &[u8]); 17] = [
         &["one", "main.c"],
         ABC,
         b"",
-        Fails { out: &[3], ..NONE },
+        FailingCalls { out: &[3], ..NONE },
         7,
         b"ab",
         b"write failed\n",
@@ -112,7 +112,7 @@ const ROWS: [(&[&str], &[u8], &[u8], Fails, u8, &[u8], &[u8], &[u8]); 17] = [
         &["one", "main.c"],
         ABC,
         b"",
-        Fails { out: &[4], ..NONE },
+        FailingCalls { out: &[4], ..NONE },
         7,
         b"abc",
         b"write failed\n",
@@ -123,7 +123,7 @@ const ROWS: [(&[&str], &[u8], &[u8], Fails, u8, &[u8], &[u8], &[u8]); 17] = [
         &["one", "main.c"],
         FAULT,
         b"\x00z",
-        Fails { out: &[2], ..NONE },
+        FailingCalls { out: &[2], ..NONE },
         7,
         b"a",
         b"write failed\n",
@@ -134,7 +134,7 @@ const ROWS: [(&[&str], &[u8], &[u8], Fails, u8, &[u8], &[u8], &[u8]); 17] = [
         &["one", "main.c", "--steps", "1"],
         LOOP,
         b"",
-        Fails { out: &[2], ..NONE },
+        FailingCalls { out: &[2], ..NONE },
         7,
         b".",
         b"write failed\n",
@@ -145,7 +145,7 @@ const ROWS: [(&[&str], &[u8], &[u8], Fails, u8, &[u8], &[u8], &[u8]); 17] = [
         &["one", "main.c"],
         COPY,
         b"xyz",
-        Fails {
+        FailingCalls {
             input: &[3],
             out: &[2],
             ..NONE
@@ -160,7 +160,7 @@ const ROWS: [(&[&str], &[u8], &[u8], Fails, u8, &[u8], &[u8], &[u8]); 17] = [
         &["one", "main.c"],
         ABC,
         b"",
-        Fails { msg: &[3], ..NONE },
+        FailingCalls { msg: &[3], ..NONE },
         7,
         b"abc",
         b"en",
@@ -171,7 +171,7 @@ const ROWS: [(&[&str], &[u8], &[u8], Fails, u8, &[u8], &[u8], &[u8]); 17] = [
         &["one", "main.c"],
         ABC,
         b"",
-        Fails { msg: &[9], ..NONE },
+        FailingCalls { msg: &[9], ..NONE },
         7,
         b"abc",
         b"ended 0\n",
@@ -182,7 +182,7 @@ const ROWS: [(&[&str], &[u8], &[u8], Fails, u8, &[u8], &[u8], &[u8]); 17] = [
         &["one", "main.c"],
         ABC,
         b"",
-        Fails {
+        FailingCalls {
             store: &[1],
             msg: &[6],
             ..NONE
@@ -197,7 +197,7 @@ const ROWS: [(&[&str], &[u8], &[u8], Fails, u8, &[u8], &[u8], &[u8]); 17] = [
         &["one", "main.c"],
         ABC,
         b"",
-        Fails {
+        FailingCalls {
             out: &[2],
             msg: &[1],
             ..NONE
@@ -212,7 +212,7 @@ const ROWS: [(&[&str], &[u8], &[u8], Fails, u8, &[u8], &[u8], &[u8]); 17] = [
         &["one", "main.c"],
         NO,
         b"",
-        Fails { msg: &[10], ..NONE },
+        FailingCalls { msg: &[10], ..NONE },
         7,
         b"",
         b"refused: ",
@@ -223,7 +223,7 @@ const ROWS: [(&[&str], &[u8], &[u8], Fails, u8, &[u8], &[u8], &[u8]); 17] = [
         &["one"],
         ABC,
         b"",
-        Fails { msg: &[7], ..NONE },
+        FailingCalls { msg: &[7], ..NONE },
         7,
         b"",
         b"usage:",
@@ -240,7 +240,7 @@ fn each_failure_has_its_status(rt: HostRuntime) -> Result<(), Fail> {
             input,
             fails,
         };
-        let answer = Answer {
+        let answer = Expected {
             status,
             out,
             msg,
@@ -257,7 +257,7 @@ const INPUT: &[u8] = b"Hello, Piece World";
 #[test]
 fn no_byte_of_the_input_fails_unseen(rt: HostRuntime) -> Result<(), Fail> {
     for taken in 0..=INPUT.len() {
-        let fails = Fails {
+        let fails = FailingCalls {
             input: &[taken as u64 + 1],
             ..NONE
         };
@@ -267,7 +267,7 @@ fn no_byte_of_the_input_fails_unseen(rt: HostRuntime) -> Result<(), Fail> {
             input: INPUT,
             fails,
         };
-        let answer = Answer {
+        let answer = Expected {
             status: 6,
             out: b"",
             msg: b"read failed\n",

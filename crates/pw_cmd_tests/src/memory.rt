@@ -1,6 +1,6 @@
 //! What a command leaves of the memory: the words of the functions that are kept, zeros in place of the others, the addresses that
 //! the run fetched from; and all that was there where nothing ran.
-use crate::command::{Fails, Given, NONE, ONE, run};
+use crate::command::{FailingCalls, Given, NONE, ONE, run};
 use crate::programs::COUNT;
 use pw_hart::Hart;
 use pw_io::{MemSink, MemSource};
@@ -155,7 +155,7 @@ const WORDS: [(&[u8], u64, &[u64]); 20] = [
     (TREE, 0x500_02ac, &[0x0000_8067]),
 ];
 
-/// Fails where the memory holds other words from this address on.
+/// FailingCalls where the memory holds other words from this address on.
 fn holds(rt: &impl Abort, mem: &FlatMemory, at: u64, words: &[u64]) {
     let mut place = at;
     for word in words {
@@ -221,12 +221,12 @@ fn the_memory_reports_the_addresses_of_the_run(rt: HostRuntime) -> Result<(), Fa
 }
 
 /// Words, a text and calls that fail, so that nothing runs.
-const IDLE: [(&[&str], &[u8], Fails); 6] = [
+const IDLE: [(&[&str], &[u8], FailingCalls); 6] = [
     (&["one"], TWO, NONE),
     (
         &ONE,
         TWO,
-        Fails {
+        FailingCalls {
             store: &[1],
             ..NONE
         },

@@ -1,5 +1,5 @@
 //! Each operator on numbers at the corners of 64 bits.
-use crate::command::{Answer, Given, NONE, ONE, answers};
+use crate::command::{Expected, Given, NONE, ONE, answers};
 use std::test::Fail;
 
 /// A program that joins the values of one expression for all pairs of twelve numbers, signed ones in `s` and unsigned ones in `u`,
@@ -85,7 +85,7 @@ fn each_operator_is_right_at_the_corners(rt: HostRuntime) -> Result<(), Fail> {
             input: b"",
             fails: NONE,
         };
-        let answer = Answer {
+        let answer = Expected {
             status: 0,
             out,
             msg: b"ended 0\n",

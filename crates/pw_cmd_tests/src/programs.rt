@@ -1,5 +1,5 @@
 //! What programs answer and write, in how many steps, and what they take of the input.
-use crate::command::{Answer, Given, NONE, ONE, answers};
+use crate::command::{Expected, Given, NONE, ONE, answers};
 use std::test::Fail;
 
 /// Programs that take nothing, with the status, the output and the line.
@@ -446,7 +446,7 @@ fn each_program_ends_as_it_means(rt: HostRuntime) -> Result<(), Fail> {
             input: b"",
             fails: NONE,
         };
-        let answer = Answer {
+        let answer = Expected {
             status,
             out,
             msg,
@@ -466,7 +466,7 @@ fn a_run_takes_as_many_steps_as_it_is_given(rt: HostRuntime) -> Result<(), Fail>
             input: b"",
             fails: NONE,
         };
-        let answer = Answer {
+        let answer = Expected {
             status,
             out,
             msg,
@@ -486,7 +486,7 @@ fn a_program_takes_what_it_reads(rt: HostRuntime) -> Result<(), Fail> {
             input,
             fails: NONE,
         };
-        let answer = Answer {
+        let answer = Expected {
             status,
             out,
             msg,

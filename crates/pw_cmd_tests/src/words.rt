@@ -1,5 +1,5 @@
 //! Which words ask for which run.
-use crate::command::{Answer, Given, NONE, ONE, answers};
+use crate::command::{Expected, Given, NONE, ONE, answers};
 use std::test::Fail;
 
 /// Words, and the status for the program that does nothing.
@@ -99,7 +99,7 @@ fn only_these_words_ask_for_a_run(rt: HostRuntime) -> Result<(), Fail> {
             input: b"",
             fails: NONE,
         };
-        let answer = Answer {
+        let answer = Expected {
             status,
             out: b"",
             msg: line_of(status),
@@ -148,7 +148,7 @@ fn the_words_are_those_of_the_run(rt: HostRuntime) -> Result<(), Fail> {
             input: b"",
             fails: NONE,
         };
-        let answer = Answer {
+        let answer = Expected {
             status,
             out: b"",
             msg,

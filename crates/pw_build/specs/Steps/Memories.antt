@@ -43,11 +43,11 @@ memory_of text content =
     record { regions = text_region_of text ∷ data_region_of content ∷ stack_region ∷ []; sealed = true }
 
 -- The memory holds them, and no fetch is counted since.
-pub record Holds (text content : List ℕ) (new : MemoryState) : Type 0 where
+pub record HoldsParts (text content : List ℕ) (new : MemoryState) : Type 0 where
   pub mem : new.mem ≡ memory_of text content
   pub no_fetch : NoFetches new
 
 -- they are in memory, or memory ran out, and it is as before
 abbrev pub Places : (text content : List ℕ) → (old new : MemoryState) → Result (Unit {0}) NoMemory → Type 0
-Places text content old new (Ok _) = Holds text content new
+Places text content old new (Ok _) = HoldsParts text content new
 Places text content old new (Err _) = new ≡ old

@@ -8,5 +8,5 @@ returns g c = λ store messages.
       ended = c.execute_image-ended.result;
       executes = run.executes store messages;
       meant = run.meant store messages;
-      result_is = c.outcome_of.ensures;
+      result_is = c.ending_of.ensures;
     }

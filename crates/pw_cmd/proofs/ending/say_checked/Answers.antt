@@ -1,5 +1,5 @@
 -- The parts of the text are those that the row names.
-use Rattle.pw_cmd.proofs.outcome.say_checked.Goals as goal
+use Rattle.pw_cmd.proofs.ending.say_checked.Goals as goal
 
 pub returns-in-Some : goal.returns-in-Some
 returns-in-Some g c =

@@ -1,25 +1,25 @@
 //! How a run ended, as it is said into a sink.
 ghost use Rattle.std.specs.Prelude.{◌≡◌};
-ghost use Rattle.pw_cmd.specs.Answer.{checked_text, kind_text, outcome_text, row_text, unit_text};
+ghost use Rattle.pw_cmd.specs.Answer.{checked_text, kind_text, ending_text, row_text, unit_text};
 ghost use Rattle.pw_cmd.specs.Says.{PutsAll};
 
-use crate::answer::Outcome;
+use crate::answer::Ending;
 use crate::hexadecimal::Hexadecimal;
 use crate::says::Says;
 use pw_io::{Failed, Sink};
 use pw_isa::environment_calls::{DEPTH_FAULT, DIVISION_FAULT, INDEX_FAULT, NULL_CALL_FAULT};
 use pw_module::KeptRow;
 
-impl Says for Outcome {
-    ghost text = { outcome_text };
+impl Says for Ending {
+    ghost text = { ending_text };
 
     fn say<E: Sink>(&self, sink: &mut E) -> Result<(), Failed> {
         match self {
-            Outcome::Ended(value) => ("ended ", *value).say(sink),
-            Outcome::Faulted(kind, row, line) => say_checked(sink, *kind, row, *line),
-            Outcome::Spent => "step bound spent".say(sink),
-            Outcome::Limited(limit) => ("instruction limit ", (*limit, " reached")).say(sink),
-            Outcome::Trapped(cause, pc, value) => {
+            Ending::Ended(value) => ("ended ", *value).say(sink),
+            Ending::Faulted(kind, row, line) => say_checked(sink, *kind, row, *line),
+            Ending::Spent => "step bound spent".say(sink),
+            Ending::Limited(limit) => ("instruction limit ", (*limit, " reached")).say(sink),
+            Ending::Trapped(cause, pc, value) => {
                 let value = (" value ", ("0x", Hexadecimal(*value)));
                 let place = (" at ", (("0x", Hexadecimal(*pc)), value));
                 ("trap ", (u32::from(*cause), place)).say(sink)
