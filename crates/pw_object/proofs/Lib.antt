@@ -1,0 +1,2 @@
+-- The modules of the proofs of this crate.
+pub mod Decided

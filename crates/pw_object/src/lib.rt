@@ -1,0 +1,12 @@
+//! Objects, written as ELF relocatable files and read from them.
+//!
+//! `write` gives the bytes of a sound object: sections in order, each at a multiple of eight, with symbols, pairs of relocations
+//! for each address, and the dependency table. `read` answers the one object that bytes say, or exactly the first of fifteen
+//! faults.
+#![tactic(auto)]
+
+mod laws;
+mod object_error;
+
+pub use laws::{an_object_or_a_first_fault_is_read, bytes_read_as_one_object};
+pub use object_error::{Needed, ObjectError};
