@@ -1,3 +1,6 @@
 -- The words of private functions' contracts.
 pub mod Sorts
+pub mod FewBytes
 pub mod Parts
+pub mod NameSets
+pub mod SeenNames

@@ -7,9 +7,13 @@
 
 mod laws;
 mod object_error;
+mod read_file;
+mod read_names;
 mod read_opened;
 mod read_parts;
 mod read_sections;
+mod read_symbol_faults;
+mod read_symbols;
 
 pub use laws::{an_object_or_a_first_fault_is_read, bytes_read_as_one_object};
 pub use object_error::{Needed, ObjectError};

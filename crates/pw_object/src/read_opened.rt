@@ -1,5 +1,5 @@
 //! The file header of an object, and the first five checks.
-ghost use Rattle.std.specs.Prelude.{◌≡◌, ◌∷◌, [], true, false, MatchOption, IfSome};
+ghost use Rattle.std.specs.Prelude.{◌≡◌, ◌^◌, ◌<◌, length, ◌∷◌, [], true, false, MatchOption, IfSome};
 ghost use Rattle.pw_elf.specs.Views.{header_of};
 ghost use Rattle.pw_object.specs.declared.object_error.ObjectError.TheVariants as errors;
 ghost use Rattle.pw_object.specs.Files as files;
@@ -15,12 +15,14 @@ use pw_elf::{Header, Section, header_at};
 pub(crate) struct Opened<'a> {
     pub(crate) bytes: &'a [u8],
     pub(crate) header: Header,
+    ghost few: { length bytes.now < 2 ^ 32 },
     ghost opened: { header_of header ≡ files.header bytes.now },
 }
 
 /// The file of these bytes; `None` where they end within the file header.
 #[tactic(auto, unfolding(crate::specs::HeaderChecks::is_short))]
 pub(crate) fn open(bytes: &[u8]) -> Option<Opened>
+    requires { length bytes.now < 2 ^ 32 }
     ensures short { MatchOption result (checks.is_short bytes.now ≡ true) (λ o. checks.is_short bytes.now ≡ false) }
     ensures bytes { IfSome result (λ o. o.bytes.now ≡ bytes.now) }
 {

@@ -1,5 +1,5 @@
 //! The sections of an object's file, by number and by name; checks 6 and 7.
-ghost use Rattle.std.specs.Prelude.{◌≡◌, ◌+◌, ◌<◌, true, false, not, nat_eq, nat_lt, take, drop};
+ghost use Rattle.std.specs.Prelude.{◌≡◌, ◌+◌, ◌^◌, ◌<◌, ◌≤◌, length, true, false, not, nat_eq, nat_lt, take, drop};
 ghost use Rattle.std.specs.List.{list_all};
 ghost use Rattle.std.specs.Option.{option_map, option_map_or};
 ghost use Rattle.std.specs.Str.{bytes_eq};
@@ -108,7 +108,8 @@ fn is_string(bytes: &[u8], name: &[u8]) -> bool
 
 /// What is left of bytes after some of them.
 fn after(bytes: &[u8], count: u64) -> &[u8]
-    ensures { result.now ≡ drop count bytes.now }
+    ensures value { result.now ≡ drop count bytes.now }
+    ensures shorter { length result.now ≤ length bytes.now }
 {
     let count = count.min(bytes.len() as u64);
     &bytes[count as usize..]
@@ -116,14 +117,15 @@ fn after(bytes: &[u8], count: u64) -> &[u8]
 
 /// The first of some bytes, as many as are there.
 fn first(bytes: &[u8], count: u64) -> &[u8]
-    ensures { result.now ≡ take count bytes.now }
+    ensures value { result.now ≡ take count bytes.now }
+    ensures shorter { length result.now ≤ length bytes.now }
 {
     let count = count.min(bytes.len() as u64);
     &bytes[..count as usize]
 }
 
 /// Whether the sum of two numbers is above a third.
-fn is_above(limit: u64, a: u64, b: u64) -> bool
+pub(crate) fn is_above(limit: u64, a: u64, b: u64) -> bool
     ensures { result ≡ nat_lt limit (a + b) }
 {
     match a.checked_add(b) {
@@ -167,7 +169,8 @@ impl<'a> Opened<'a> {
 
     /// The contents of a section.
     pub(crate) fn contents(&self, section: &Section) -> &'a [u8]
-        ensures { result.now ≡ files.contents_of self.now.bytes.now (section_of section.now) }
+        ensures value { result.now ≡ files.contents_of self.now.bytes.now (section_of section.now) }
+        ensures few { length result.now < 2 ^ 32 }
     {
         if section.kind == SHT_NOBITS {
             return &[];
