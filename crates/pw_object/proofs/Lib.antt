@@ -6,3 +6,4 @@ pub mod ReadStructs
 pub mod ReadEqualNames
 pub mod ReadSeen
 pub mod ReadSymbolFaults
+pub mod ReadVariables

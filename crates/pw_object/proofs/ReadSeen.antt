@@ -30,7 +30,7 @@ get_take (x ∷ xs) zero d within = refl
 get_take (x ∷ xs) (suc i) d within = ap (λ l. x ∷ l) (get_take xs i d (omega (arith, within)))
 
 -- one item more, after the first
-one_more : {X : Type 0} (xs : List X) (i : ℕ) (d : X) → 1 ≤ i → i < length xs →
+pub one_more : {X : Type 0} (xs : List X) (i : ℕ) (d : X) → 1 ≤ i → i < length xs →
     drop 1 (take (i + 1) xs) ≡ drop 1 (take i xs) ++ unwrap_or (slice_get xs i) d ∷ []
 one_more [] i d some within = absurd (omega (arith, within))
 one_more (x ∷ xs) zero d some within = absurd (omega (arith, some))

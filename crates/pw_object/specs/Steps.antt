@@ -4,3 +4,4 @@ pub mod FewBytes
 pub mod Parts
 pub mod NameSets
 pub mod SeenNames
+pub mod Starts

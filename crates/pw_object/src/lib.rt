@@ -14,6 +14,7 @@ mod read_parts;
 mod read_sections;
 mod read_symbol_faults;
 mod read_symbols;
+mod read_variables;
 
 pub use laws::{an_object_or_a_first_fault_is_read, bytes_read_as_one_object};
 pub use object_error::{Needed, ObjectError};

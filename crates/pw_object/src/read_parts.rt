@@ -19,5 +19,5 @@ pub(crate) struct Parts<'a> {
     pub(crate) text_relocations: &'a [u8],
     pub(crate) data_relocations: &'a [u8],
     pub(crate) deps: Option<&'a [u8]>,
-    ghost few: { HasFewBytes text.now values.now symbols.now text_relocations.now data_relocations.now },
+    ghost few: { HasFewBytes text.now values.now symbols.now text_relocations.now data_relocations.now zeros },
 }

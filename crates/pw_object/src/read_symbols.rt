@@ -42,7 +42,7 @@ const EXTERNAL_FUNCTION: u8 = 16 * STB_GLOBAL + STT_FUNC;
 const EXTERNAL_VARIABLE: u8 = 16 * STB_GLOBAL + STT_OBJECT;
 
 /// Whether a symbol is defined in the section of a number.
-fn is_in(number: Option<u16>, s: &Sym) -> bool
+pub(crate) fn is_in(number: Option<u16>, s: &Sym) -> bool
     ensures { result ≡ checks.is_in number (symbol_of s.now) }
 {
     if s.shndx == SHN_UNDEF {
