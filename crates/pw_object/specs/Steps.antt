@@ -2,6 +2,7 @@
 pub mod Sorts
 pub mod FewBytes
 pub mod Parts
+pub mod Meant
 pub mod NameSets
 pub mod SeenNames
 pub mod Starts

@@ -11,6 +11,7 @@ mod read_file;
 mod read_names;
 mod read_opened;
 mod read_parts;
+mod read_relocations;
 mod read_sections;
 mod read_symbol_faults;
 mod read_symbols;
