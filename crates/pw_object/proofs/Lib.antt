@@ -7,3 +7,4 @@ pub mod ReadEqualNames
 pub mod ReadSeen
 pub mod ReadSymbolFaults
 pub mod ReadVariables
+pub mod ReadPlaces

@@ -7,15 +7,23 @@
 
 mod laws;
 mod object_error;
+mod read;
 mod read_file;
+mod read_index;
 mod read_names;
 mod read_opened;
 mod read_parts;
+mod read_places;
+mod read_objects;
+mod read_records;
 mod read_relocations;
 mod read_sections;
 mod read_symbol_faults;
 mod read_symbols;
+mod read_tables;
+mod read_types;
 mod read_variables;
 
 pub use laws::{an_object_or_a_first_fault_is_read, bytes_read_as_one_object};
 pub use object_error::{Needed, ObjectError};
+pub use read::read;

@@ -99,7 +99,7 @@ impl<'a> Parts<'a> {
 
     /// The variables of a section; `None` where they leave a gap or overlap.
     #[tactic(auto, unfolding(crate::specs::SymbolChecks::fill))]
-    fn variables_in(
+    pub(crate) fn variables_in(
         &self,
         alloc: Global,
         number: Option<u16>,
