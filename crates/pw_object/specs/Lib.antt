@@ -17,3 +17,4 @@ pub mod ReadObjects
 pub mod Reading
 pub mod Answer
 pub mod Laws
+pub mod WriteSteps

@@ -8,6 +8,8 @@
 mod laws;
 mod object_error;
 mod read_opened;
+mod write_data;
+mod write_text;
 
 pub use laws::{an_object_or_a_first_fault_is_read, bytes_read_as_one_object};
 pub use object_error::{Needed, ObjectError};

@@ -1,0 +1,2 @@
+-- Private contracts of the writer.
+pub mod Code
