@@ -1,2 +1,3 @@
 -- Private contracts of the writer.
 pub mod Code
+pub mod Places

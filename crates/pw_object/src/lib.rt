@@ -8,7 +8,10 @@
 mod laws;
 mod object_error;
 mod read_opened;
+mod write_addresses;
 mod write_data;
+mod write_pointers;
+mod write_sizes;
 mod write_text;
 
 pub use laws::{an_object_or_a_first_fault_is_read, bytes_read_as_one_object};
