@@ -2,6 +2,9 @@
 pub mod Decided
 pub mod WriteAddresses
 pub mod WriteMapped
+pub mod WriteNameKeys
+pub mod WriteNames
 pub mod WriteNumbered
+pub mod WriteNumbers
 pub mod WriteParts
 pub mod WritePointers

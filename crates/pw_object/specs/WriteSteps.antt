@@ -1,3 +1,4 @@
 -- Private contracts of the writer.
 pub mod Code
 pub mod Places
+pub mod Numbers

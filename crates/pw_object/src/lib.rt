@@ -10,6 +10,8 @@ mod object_error;
 mod read_opened;
 mod write_addresses;
 mod write_data;
+mod write_names;
+mod write_numbers;
 mod write_pointers;
 mod write_sizes;
 mod write_text;
