@@ -1,6 +1,8 @@
 -- The modules of the proofs of this crate.
 pub mod Decided
 pub mod WriteAddresses
+pub mod WriteDefinitions
+pub mod WriteEntries
 pub mod WriteMapped
 pub mod WriteNameKeys
 pub mod WriteNames
@@ -8,3 +10,5 @@ pub mod WriteNumbered
 pub mod WriteNumbers
 pub mod WriteParts
 pub mod WritePointers
+pub mod WriteRelocations
+pub mod WriteTexts

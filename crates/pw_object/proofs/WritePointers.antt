@@ -30,6 +30,12 @@ values_fit xs i x start limit low there stands few =
     let part : initialised_part x ≡ initialised_part (get_or xs i x) = ap initialised_part there in
     omega (arith, sum_by_more_le initialised_part xs i x low, part, initialised_is xs, stands, few)
 
+pub others_fit : (xs : List TVar) (i : ℕ) (x : TVar) (start limit : ℕ) → i < length xs → x ≡ get_or xs i x
+    → start ≡ sum_by other_part (take i xs) → uninitialised_size xs < limit → start + other_part x < limit
+others_fit xs i x start limit low there stands few =
+    let part : other_part x ≡ other_part (get_or xs i x) = ap other_part there in
+    omega (arith, sum_by_more_le other_part xs i x low, part, others_are xs, stands, few)
+
 -- Where a variable starts.
 pub starts_at : (o : Object) (i : ℕ) (x : TVar) → slice_get o.vars i ≡ Some x →
     variable_start o i ≡ (if is_initialised x then sum_by initialised_part (take i o.vars) else sum_by other_part (take i o.vars))

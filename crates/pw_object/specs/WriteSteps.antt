@@ -2,3 +2,4 @@
 pub mod Code
 pub mod Places
 pub mod Numbers
+pub mod Entries

@@ -10,11 +10,15 @@ mod object_error;
 mod read_opened;
 mod write_addresses;
 mod write_data;
+mod write_entries;
 mod write_names;
 mod write_numbers;
 mod write_pointers;
+mod write_relocations;
+mod write_rows;
 mod write_sizes;
 mod write_text;
+mod write_variable_text;
 
 pub use laws::{an_object_or_a_first_fault_is_read, bytes_read_as_one_object};
 pub use object_error::{Needed, ObjectError};
