@@ -1,6 +1,7 @@
 -- The modules of the proofs of this crate.
 pub mod Decided
 pub mod WriteAddresses
+pub mod WriteBounds
 pub mod WriteDefinitions
 pub mod WriteEntries
 pub mod WriteMapped
@@ -11,4 +12,5 @@ pub mod WriteNumbers
 pub mod WriteParts
 pub mod WritePointers
 pub mod WriteRelocations
+pub mod WriteSymbols
 pub mod WriteTexts

@@ -1,11 +1,9 @@
 -- The definitions of an object, those of external names and the static ones.
-use Rattle.std.proofs.Common.{◌≡◌, ℕ, suc, ◌+◌, ◌<◌, ◌≤◌, ◌/◌, Bool, true, false, cond, not, ◌||◌, List, [], ◌∷◌, ◌++◌, length, map, filter, Option, Some, None, bytes_eq, nat_eq, refl, sym, ap, subst, ◌∙◌, append_assoc, arith}
-use Rattle.std.specs.Prelude.{find, option_map}
-use Rattle.std.specs.List.{enumerate_from, list_any, AllByRecursion, IsDistinct}
+use Rattle.std.proofs.Common.{◌≡◌, ℕ, ◌+◌, ◌/◌, Bool, true, false, cond, List, [], ◌∷◌, ◌++◌, map, filter, nat_eq, refl, ap, ◌∙◌}
+use Rattle.std.specs.List.{enumerate_from}
 use Rattle.std.specs.Option.{unwrap_or}
-use Rattle.std.specs.Cmp.Lexicographic.{nat_list_eq_equiv}
 use Rattle.std.proofs.lemmas.List.Elements.{filter-append}
-use Rattle.std.proofs.lemmas.List.{map-append, length-map}
+use Rattle.std.proofs.lemmas.List.{map-append}
 use Rattle.pw_elf.specs.ElfNumbers.{stb_global, stt_func, stt_object}
 use Rattle.pw_tree.specs.declared.tunit.TVar.{TVar}
 use Rattle.pw_tree.specs.declared.tunit.Ext.{Ext}
@@ -14,7 +12,7 @@ use Rattle.pw_code.specs.declared.object.Object.{Object}
 use Rattle.pw_code.specs.Soundness.{defined_names}
 use Rattle.pw_object.specs.declared.write_rows.EntryRow.{EntryRow}
 use Rattle.pw_object.specs.Symbols.{Entry, info, binding, is_global_entry, function_entry, variable_entry, definition_entries, static_entries, name_entry, undefined_entry}
-use Rattle.pw_object.specs.WriteSteps.Entries.{entry_of, is_static_entry, name_of, name_entry_among, IsAdded}
+use Rattle.pw_object.specs.WriteSteps.Entries.{entry_of, name_of, name_entry_among, IsAdded}
 use Rattle.pw_object.proofs.WriteEntries.{added_more, mapped_names, found_among}
 
 -- The rows of all definitions.
@@ -29,11 +27,11 @@ all_added o s g s1 g1 s2 g2 none nor functions variables =
 
 -- ---- external names
 
-function_tells : (b : Bool) → nat_eq (info (binding b) stt_func / 16) stb_global ≡ b
+pub function_tells : (b : Bool) → nat_eq (info (binding b) stt_func / 16) stb_global ≡ b
 function_tells true = refl
 function_tells false = refl
 
-variable_tells : (b : Bool) → nat_eq (info (binding b) stt_object / 16) stb_global ≡ b
+pub variable_tells : (b : Bool) → nat_eq (info (binding b) stt_object / 16) stb_global ≡ b
 variable_tells true = refl
 variable_tells false = refl
 

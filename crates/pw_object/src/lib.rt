@@ -17,6 +17,7 @@ mod write_pointers;
 mod write_relocations;
 mod write_rows;
 mod write_sizes;
+mod write_symbols;
 mod write_text;
 mod write_variable_text;
 
