@@ -13,4 +13,5 @@ pub mod WriteParts
 pub mod WritePointers
 pub mod WriteRelocations
 pub mod WriteSymbols
+pub mod WriteTables
 pub mod WriteTexts

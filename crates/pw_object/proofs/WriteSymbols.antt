@@ -1,10 +1,10 @@
 -- Symbols whose names stand one after another.
-use Rattle.std.proofs.Common.{◌≡◌, ℕ, ◌+◌, ◌<◌, ◌≤◌, List, [], ◌∷◌, ◌++◌, length, take, get_or, map, flat_map, refl, sym, ap, ◌∙◌, append_assoc, arith}
+use Rattle.std.proofs.Common.{◌≡◌, ℕ, ◌+◌, ◌<◌, ◌≤◌, List, [], ◌∷◌, ◌++◌, length, take, drop, get_or, map, flat_map, refl, sym, ap, ◌∙◌, append_assoc, arith}
 use Rattle.std.proofs.lemmas.List.{append-nil, length-append, take_more, map-append, take-append-drop}
 use Rattle.std.proofs.lemmas.Grind.{flat_map-append}
 use Rattle.pw_base.specs.Structs.{symbol_bytes}
 use Rattle.pw_object.specs.declared.write_rows.EntryRow.{EntryRow}
-use Rattle.pw_object.specs.Symbols.{Entry, string_of, symbols_from, symbol_of_entry}
+use Rattle.pw_object.specs.Symbols.{string_of, symbols_from, symbol_of_entry}
 use Rattle.pw_object.specs.WriteSteps.Entries.{entry_of}
 
 -- the bytes of the symbols of entries, and of their names

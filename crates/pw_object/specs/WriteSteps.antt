@@ -3,3 +3,4 @@ pub mod Code
 pub mod Places
 pub mod Numbers
 pub mod Entries
+pub mod Lists

@@ -9,6 +9,7 @@ mod laws;
 mod object_error;
 mod read_opened;
 mod write_addresses;
+mod write_contents;
 mod write_data;
 mod write_entries;
 mod write_names;
@@ -18,6 +19,7 @@ mod write_relocations;
 mod write_rows;
 mod write_sizes;
 mod write_symbols;
+mod write_table;
 mod write_text;
 mod write_variable_text;
 

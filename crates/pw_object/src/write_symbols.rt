@@ -52,7 +52,7 @@ fn string_bytes(row: &EntryRow) -> u32
 
 /// The place of a name that stands at an offset; 0 where there is no name.
 fn name_place(row: &EntryRow, at: u32) -> u32
-    ensures { result ≡ symbols.symbol_of_entry at (entry_of row.now) .name }
+    ensures { result ≡ (symbols.symbol_of_entry at (entry_of row.now)).name }
 {
     match &row.name {
         Some(_) => at,

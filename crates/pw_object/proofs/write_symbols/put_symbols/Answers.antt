@@ -1,9 +1,9 @@
 -- One symbol more is appended.
-use Rattle.std.proofs.Common.{◌≡◌, ◌+◌, ◌++◌, length, take, sym, ap, ◌∙◌, append_assoc, arith}
+use Rattle.std.proofs.Common.{◌+◌, ◌++◌, sym, ap, ◌∙◌, append_assoc, arith}
 use Rattle.std.proofs.lemmas.List.{append-nil, take_all}
 use Rattle.pw_base.specs.Structs.{symbol_bytes}
 use Rattle.pw_object.specs.Symbols.{null_symbol}
-use Rattle.pw_object.proofs.WriteSymbols.{rows_symbols, rows_strings, no_symbols, symbol_step, string_step, string_within}
+use Rattle.pw_object.proofs.WriteSymbols.{rows_symbols, no_symbols, symbol_step, string_step, string_within}
 use Rattle.pw_object.proofs.write_symbols.put_symbols.Goals as goal
 
 pub loop-row-init : goal.loop-row-init
