@@ -1,5 +1,5 @@
 -- The records of types, and how many records a table has.
-use Rattle.std.proofs.Common.{◌≡◌, ℕ, ◌+◌, ◌<◌, ◌≤◌, ◌^◌, List, [], ◌∷◌, ◌++◌, length, map, Option, Some, None, refl, sym, ap, ◌∙◌, arith}
+use Rattle.std.proofs.Common.{◌≡◌, ℕ, ◌+◌, ◌<◌, ◌≤◌, ◌^◌, List, [], ◌∷◌, ◌++◌, length, map, Option, Some, None, refl, ap, arith}
 use Rattle.std.specs.List.{flat_map, enumerate_from, AllByRecursion}
 use Rattle.std.specs.Option.{option_map_or}
 use Rattle.std.proofs.lemmas.List.{length-append, length-map}
@@ -10,7 +10,7 @@ use Rattle.pw_module.specs.declared.dep_table.TypeRec.{TypeRec}
 use Rattle.pw_deps.specs.Writable.{HasFewItems}
 use Rattle.pw_object.specs.declared.write_rows.EntryRow.{EntryRow}
 use Rattle.pw_object.specs.Contents.{pointers}
-use Rattle.pw_object.specs.Symbols.{Entry, entries, symbol_number, symbols_from}
+use Rattle.pw_object.specs.Symbols.{Entry, entries, symbol_number}
 use Rattle.pw_object.specs.Tables.{table, function_record, root_record, type_records_of}
 use Rattle.pw_object.specs.Writable.{IsWritable}
 use Rattle.pw_object.specs.WriteSteps.Entries.{entry_of}

@@ -4,3 +4,4 @@ pub mod Places
 pub mod Numbers
 pub mod Entries
 pub mod Lists
+pub mod Parts

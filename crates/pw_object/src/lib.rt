@@ -14,6 +14,7 @@ mod write_data;
 mod write_entries;
 mod write_names;
 mod write_numbers;
+mod write_parts;
 mod write_pointers;
 mod write_relocations;
 mod write_rows;

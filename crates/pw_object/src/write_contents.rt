@@ -32,14 +32,14 @@ pub(crate) struct Lists<'a> {
     addresses: Items<AddressPlace<'a>>,
     pointers: Items<PointerPlace<'a>>,
     rows: Items<EntryRow>,
-    ghost lists: { AreLists numbers.object.now addresses pointers rows },
 }
 
 /// The lists of an object.
-pub(crate) fn lists(alloc: Global, object: &Object) -> Result<Lists, NoMemory>
+pub(crate) fn lists_of(alloc: Global, object: &Object) -> Result<Lists, NoMemory>
     requires sound { IsSound object.now }
     requires few { IsWritable object.now }
-    ensures { IfOk result (λ lists. lists.numbers.object.now ≡ object.now) }
+    ensures object { IfOk result (λ lists. lists.numbers.object.now ≡ object.now) }
+    ensures lists { IfOk result (λ lists. AreLists lists) }
 {
     let addresses = addresses(alloc, object)?;
     let pointers = pointers(alloc, object)?;
@@ -56,6 +56,7 @@ pub(crate) fn lists(alloc: Global, object: &Object) -> Result<Lists, NoMemory>
 impl<'a> Lists<'a> {
     /// The bytes of the text.
     pub(crate) fn text(&self, alloc: Global) -> Result<Vec<u8>, NoMemory>
+        requires { AreLists self.now }
         ensures { IfOk result (λ bytes. bytes.items ≡ contents.text_bytes self.now.numbers.object.now) }
     {
         let mut bytes = Vec::new(alloc);
@@ -65,6 +66,7 @@ impl<'a> Lists<'a> {
 
     /// The bytes of its relocations.
     pub(crate) fn text_relocations(&self, alloc: Global) -> Result<Vec<u8>, NoMemory>
+        requires { AreLists self.now }
         ensures { IfOk result (λ bytes. bytes.items ≡ flat_map rela_bytes (relocations.text_relocations self.now.numbers.object.now)) }
     {
         let mut bytes = Vec::new(alloc);
@@ -74,6 +76,7 @@ impl<'a> Lists<'a> {
 
     /// The bytes of the initialised variables.
     pub(crate) fn data(&self, alloc: Global) -> Result<Vec<u8>, NoMemory>
+        requires { AreLists self.now }
         ensures { IfOk result (λ bytes. bytes.items ≡ contents.data_bytes self.now.numbers.object.now) }
     {
         let mut bytes = Vec::new(alloc);
@@ -83,6 +86,7 @@ impl<'a> Lists<'a> {
 
     /// The bytes of their relocations.
     pub(crate) fn data_relocations(&self, alloc: Global) -> Result<Vec<u8>, NoMemory>
+        requires { AreLists self.now }
         ensures { IfOk result (λ bytes. bytes.items ≡ flat_map rela_bytes (relocations.data_relocations self.now.numbers.object.now)) }
     {
         let mut bytes = Vec::new(alloc);
@@ -92,6 +96,7 @@ impl<'a> Lists<'a> {
 
     /// The symbol table.
     pub(crate) fn symbols(&self, alloc: Global) -> Result<Vec<u8>, NoMemory>
+        requires { AreLists self.now }
         ensures { IfOk result (λ bytes. bytes.items ≡ flat_map symbol_bytes (symbols.symbols self.now.numbers.object.now)) }
     {
         let mut bytes = Vec::new(alloc);
@@ -101,6 +106,7 @@ impl<'a> Lists<'a> {
 
     /// The string table.
     pub(crate) fn strings(&self, alloc: Global) -> Result<Vec<u8>, NoMemory>
+        requires { AreLists self.now }
         ensures { IfOk result (λ bytes. bytes.items ≡ symbols.strings self.now.numbers.object.now) }
     {
         let mut bytes = Vec::new(alloc);
@@ -110,6 +116,7 @@ impl<'a> Lists<'a> {
 
     /// The dependency table.
     pub(crate) fn table(&self, alloc: Global) -> Result<Vec<u8>, NoMemory>
+        requires { AreLists self.now }
         ensures { IfOk result (λ bytes. bytes.items ≡ table_bytes (tables.table self.now.numbers.object.now)) }
     {
         table_bytes(
