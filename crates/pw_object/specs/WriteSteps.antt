@@ -5,3 +5,4 @@ pub mod Numbers
 pub mod Entries
 pub mod Lists
 pub mod Parts
+pub mod Sections

@@ -18,6 +18,7 @@ mod write_parts;
 mod write_pointers;
 mod write_relocations;
 mod write_rows;
+mod write_sections;
 mod write_sizes;
 mod write_symbols;
 mod write_table;
