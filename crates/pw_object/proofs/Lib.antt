@@ -4,6 +4,7 @@ pub mod WriteAddresses
 pub mod WriteBounds
 pub mod WriteDefinitions
 pub mod WriteEntries
+pub mod WriteLayout
 pub mod WriteMapped
 pub mod WriteNameKeys
 pub mod WriteNames

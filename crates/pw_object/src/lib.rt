@@ -14,6 +14,7 @@ mod write_data;
 mod write_entries;
 mod write_names;
 mod write_numbers;
+mod write_object;
 mod write_parts;
 mod write_pointers;
 mod write_relocations;
@@ -27,3 +28,4 @@ mod write_variable_text;
 
 pub use laws::{an_object_or_a_first_fault_is_read, bytes_read_as_one_object};
 pub use object_error::{Needed, ObjectError};
+pub use write_object::write;

@@ -30,7 +30,7 @@ fn put_zeros(to: &mut Vec<u8>, count: usize) -> Result<(), NoMemory>
 }
 
 /// Appends contents at the next multiple of eight of the file, whose header stands before all bytes; where they stand.
-fn put_content(body: &mut Vec<u8>, content: &[u8]) -> Result<u64, NoMemory>
+pub(crate) fn put_content(body: &mut Vec<u8>, content: &[u8]) -> Result<u64, NoMemory>
     ensures bytes { OnOk result (body.new.items ≡ body.old.items ++ (replicate (padding 8 (header_size + length body.old.items)) 0 ++ content.now)) }
     ensures place { IfOk result (λ at. at ≡ align_up 8 (header_size + length body.old.items)) }
 {

@@ -1,6 +1,6 @@
 -- The sections of an object, before their contents have places.
 use Rattle.std.specs.Prelude.{ℕ, List, [], ◌∷◌, length, flat_map}
-use Rattle.pw_base.specs.Structs.{Section, section_bytes, rela_size, rela_bytes, symbol_size, symbol_bytes}
+use Rattle.pw_base.specs.Structs.{Section, rela_size, rela_bytes, symbol_size, symbol_bytes}
 use Rattle.pw_elf.specs.ElfNumbers as elf
 use Rattle.pw_code.specs.declared.object.Object.{Object}
 use Rattle.pw_module.specs.Spelling.{table_bytes}
@@ -10,7 +10,7 @@ use Rattle.pw_object.specs.Symbols.{strings, symbols, first_global}
 use Rattle.pw_object.specs.Relocations.{text_relocations, data_relocations}
 use Rattle.pw_object.specs.Tables.{table}
 use Rattle.pw_object.specs.SectionNumbers.{text_section, data_section, symtab_section, strtab_section}
-use Rattle.pw_object.specs.Layout.{section, name_offset, section_name_table, text_flags, data_flags}
+use Rattle.pw_object.specs.Layout.{name_offset, section_name_table, text_flags, data_flags}
 
 -- the header of the contents number k, without their place
 abbrev pub unplaced : (k type flags size link info align entry : ℕ) → Section
