@@ -3,9 +3,9 @@ use Rattle.std.proofs.Common.{◌≡◌, ℕ, zero, suc, ◌+◌, List, [], ◌�
 use Rattle.std.proofs.lemmas.List.{length-append, length-replicate, append-nil}
 use Rattle.std.proofs.lemmas.Grind.{flat_map-append}
 use Rattle.pw_base.specs.Laid.{Part, padding, align_up, laid, part_offset}
-use Rattle.pw_base.specs.Structs.{Section, header_size, section_bytes}
+use Rattle.pw_base.specs.Structs.{Section, header_size, header_bytes, section_bytes}
 use Rattle.pw_code.specs.declared.object.Object.{Object}
-use Rattle.pw_object.specs.Layout.{part, contents, sections, null_section}
+use Rattle.pw_object.specs.Layout.{part, contents, sections, null_section, section_headers, headers_offset, header_at_offset, object_bytes}
 use Rattle.pw_object.specs.WriteSteps.Parts.{at_offset, contents_from, headers_from, IsPut}
 use Rattle.pw_object.specs.WriteSteps.Sections.{all_parts}
 
@@ -117,3 +117,21 @@ pub last_place : (o : Object) (last : List ℕ) →
     part_offset header_size (contents o ++ part last ∷ []) 9 ≡ align_up 8 (header_size + length (contents_from header_size (all_parts o)))
 unfolding contents
 last_place o last = place_after header_size (all_parts o) (part last)
+
+-- The file header, the contents and the section headers are the bytes of an object.
+pub whole : (o : Object) (b null body headers body2 file : List ℕ) (at : ℕ) → b ≡ [] → null ≡ section_bytes null_section
+    → IsPut b null body headers (all_parts o) → body2 ≡ body ++ (replicate (padding 8 (header_size + length body)) 0 ++ headers)
+    → at ≡ align_up 8 (header_size + length body) → file ≡ header_bytes (header_at_offset at) ++ body2 → file ≡ object_bytes o
+unfolding object_bytes
+whole o b null body headers body2 file at none null_is put body2_is at_is file_is =
+    let started = subst (λ x. IsPut x null body headers (all_parts o)) none put in
+    let body_are : body ≡ contents_from header_size (all_parts o) = started.bytes in
+    let headers_is : headers ≡ section_headers o =
+    started.sections ∙ ap (λ l. l ++ flat_map section_bytes (headers_from header_size (all_parts o))) null_is
+    ∙ ap (flat_map section_bytes) (headers_are o) in
+    let place : at ≡ headers_offset o =
+    at_is ∙ ap (λ l. align_up 8 (header_size + length l)) body_are ∙ sym (last_place o (section_headers o)) in
+    let all : body2 ≡ laid header_size (contents o ++ part (section_headers o) ∷ []) =
+    body2_is ∙ (λ j. body_are j ++ (replicate (padding 8 (header_size + length (body_are j))) 0 ++ headers_is j))
+    ∙ sym (laid_are o (section_headers o)) in
+    file_is ∙ (λ j. header_bytes (header_at_offset (place j)) ++ all j)
