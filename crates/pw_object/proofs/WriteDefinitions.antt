@@ -21,9 +21,10 @@ pub all_added : (o : Object) (s g s1 g1 s2 g2 : List EntryRow) → s ≡ [] → 
     → IsAdded s1 g1 s2 g2 (map (variable_entry o) (enumerate_from 0 o.vars))
     → (map entry_of s2 ≡ static_entries o) × (map entry_of g2 ≡ filter is_global_entry (definition_entries o))
 all_added o s g s1 g1 s2 g2 none nor functions variables =
-    let all = added_more s g s1 g1 s2 g2 (map (function_entry o) (enumerate_from 0 o.funs)) (map (variable_entry o) (enumerate_from 0 o.vars)) functions variables in
-    (all.to_statics ∙ ap (λ l. map entry_of l ++ static_entries o) none,
-    all.to_globals ∙ ap (λ l. map entry_of l ++ filter is_global_entry (definition_entries o)) nor)
+    let all = added_more s g s1 g1 s2 g2 (map (function_entry o) (enumerate_from 0 o.funs)) (map (variable_entry o) (enumerate_from 0 o.vars)) functions variables in (
+      all.to_statics ∙ ap (λ l. map entry_of l ++ static_entries o) none,
+      all.to_globals ∙ ap (λ l. map entry_of l ++ filter is_global_entry (definition_entries o)) nor,
+    )
 
 -- ---- external names
 

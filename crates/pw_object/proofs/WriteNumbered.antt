@@ -6,21 +6,6 @@ use Rattle.std.proofs.lemmas.Option.{slice_get_read}
 use Rattle.std.proofs.lemmas.Grind.{flat_map-append}
 use Rattle.std.proofs.lemmas.List.{append-nil, map-append}
 
--- A list, cut around the element at a place.
-pub cut_at : {X : Type 0} (xs : List X) (i : ℕ) (x : X) → slice_get xs i ≡ Some x → xs ≡ take i xs ++ (x ∷ drop (suc i) xs)
-cut_at [] i x h = cc
-cut_at (y ∷ xs) zero x h = let same : y ≡ x = cc in ap (λ z. z ∷ xs) same
-cut_at (y ∷ xs) (suc i) x h = ap (λ zs. y ∷ zs) (cut_at xs i x h)
-
--- what stands before the next item, and the item itself
-taken_more : {X : Type 0} (xs : List X) (i : ℕ) (x : X) → slice_get xs i ≡ Some x → take (suc i) xs ≡ take i xs ++ x ∷ []
-taken_more [] i x h = cc
-taken_more (y ∷ xs) zero x h = let same : y ≡ x = cc in ap (λ z. z ∷ []) same
-taken_more (y ∷ xs) (suc i) x h = ap (λ zs. y ∷ zs) (taken_more xs i x h)
-
-pub take_got : {X : Type 0} (xs : List X) (i : ℕ) (x : X) → slice_get xs i ≡ Some x → take (i + 1) xs ≡ take i xs ++ x ∷ []
-take_got xs i x h = rw add-one (taken_more xs i x h)
-
 -- The first elements with their numbers, and one more.
 numbered_more : {X : Type 0} (n : ℕ) (xs : List X) (i : ℕ) (x : X) → slice_get xs i ≡ Some x
     → enumerate_from n (take (suc i) xs) ≡ enumerate_from n (take i xs) ++ (n + i, x) ∷ []
@@ -57,18 +42,6 @@ pub numbered_next : {X A : Type 0} (make : ℕ × X → List A) (xs : List X) (i
     → new ≡ flat_map make (enumerate_from 0 (take (i + 1) xs))
 numbered_next make xs i x now new low there so_far more = numbered_step make xs i x [] now new low there so_far more
 
--- So many times the same, and once more.
-pub same_more : {X A : Type 0} (same : List A) (xs : List X) (i : ℕ) → i < length xs
-    → flat_map (λ x. same) (take (i + 1) xs) ≡ flat_map (λ x. same) (take i xs) ++ same
-same_more same xs i low = rw add-one (by same xs i low)
-  where
-    by : {X A : Type 0} (same : List A) (xs : List X) (i : ℕ) → i < length xs
-        → flat_map (λ x. same) (take (suc i) xs) ≡ flat_map (λ x. same) (take i xs) ++ same
-    by same [] i low = absurd (omega arith)
-    by same (x ∷ xs) zero low = append-nil same
-    by same (x ∷ xs) (suc i) low =
-        ap (λ zs. same ++ zs) (by same xs i (omega arith)) ∙ sym (append_assoc same (flat_map (λ x. same) (take i xs)) same)
-
 -- What holds of the elements that are left holds of the next one, and of those after it.
 pub next_of_all : {X : Type 0} (P : X → Type 0) (xs : List X) (i : ℕ) (x : X) → i < length xs → x ≡ get_or xs i x
     → AllByRecursion P (drop i xs) → P x × AllByRecursion P (drop (i + 1) xs)
@@ -80,44 +53,6 @@ next_of_all P xs i x low there all =
     by P [] i x h all = cc
     by P (y ∷ xs) zero x h all = let same : y ≡ x = cc in (subst P same all.0, all.1)
     by P (y ∷ xs) (suc i) x h all = by P xs i x h all
-
--- A list of lists, cut around an element of one of them.
-pub cut_inside : {X A : Type 0} (of : X → List A) (xs : List X) (k i : ℕ) (x : X) (a : A) → slice_get xs k ≡ Some x → slice_get (of x) i ≡ Some a
-    → flat_map of xs ≡ (flat_map of (take k xs) ++ take i (of x)) ++ (a ∷ (drop (suc i) (of x) ++ flat_map of (drop (suc k) xs)))
-cut_inside of xs k i x a there inside =
-    ap (flat_map of) (cut_at xs k x there)
-    ∙ flat_map-append of (take k xs) (x ∷ drop (suc k) xs)
-    ∙ ap (λ zs. flat_map of (take k xs) ++ (zs ++ flat_map of (drop (suc k) xs))) (cut_at (of x) i a inside)
-    ∙ regroup (flat_map of (take k xs)) (take i (of x)) (a ∷ drop (suc i) (of x)) (flat_map of (drop (suc k) xs))
-  where
-    regroup : {A : Type 0} (p q r s : List A) → p ++ ((q ++ r) ++ s) ≡ (p ++ q) ++ (r ++ s)
-    regroup p q r s = simp append_assoc
-
--- What holds of all elements holds of one.
-pub all_at : {X : Type 0} (P : X → Type 0) (xs : List X) (i : ℕ) (x : X) → AllByRecursion P xs → slice_get xs i ≡ Some x → P x
-all_at P [] i x all h = cc
-all_at P (y ∷ xs) zero x all h = let same : y ≡ x = cc in subst P same all.0
-all_at P (y ∷ xs) (suc i) x all h = all_at P xs i x all.1 h
-
-pub all_append : {X : Type 0} (P : X → Type 0) (xs ys : List X) → AllByRecursion P xs → AllByRecursion P ys → AllByRecursion P (xs ++ ys)
-all_append P [] ys some more = more
-all_append P (x ∷ xs) ys some more = (some.0, all_append P xs ys some.1 more)
-
--- What holds of all that is made of each element holds of all that is made of them.
-pub all_made : {X A : Type 0} (P : A → Type 0) (make : ℕ × X → List A) (n : ℕ) (xs : List X)
-    → ((i : ℕ) (x : X) → slice_get xs i ≡ Some x → AllByRecursion P (make (n + i, x)))
-    → AllByRecursion P (flat_map make (enumerate_from n xs))
-all_made P make n [] each = tt
-all_made {X = X} P make n (x ∷ xs) each =
-    let first : AllByRecursion P (make (n + 0, x)) = each 0 x refl in
-    let here : n + 0 ≡ n = omega arith in
-    let rest : (i : ℕ) (y : X) → slice_get xs i ≡ Some y → AllByRecursion P (make (n + 1 + i, y)) =
-    λ i y h. subst (λ m. AllByRecursion P (make (m, y))) (shifted n i) (each (suc i) y h) in
-    all_append P (make (n, x)) (flat_map make (enumerate_from (n + 1) xs)) (subst (λ m. AllByRecursion P (make (m, x))) here first)
-    (all_made P make (n + 1) xs rest)
-  where
-    shifted : (n i : ℕ) → n + suc i ≡ n + 1 + i
-    shifted n i = omega arith
 
 -- A list of what numbered elements give, and of one more.
 pub listed_step : {X A : Type 0} (give : ℕ × X → A) (xs : List X) (i : ℕ) (x : X) (old now new : List A) → slice_get xs i ≡ Some x

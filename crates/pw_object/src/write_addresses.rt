@@ -20,11 +20,7 @@ pub(crate) struct AddressPlace<'a> {
 
 /// Appends the address that an item makes, if any.
 #[tactic(auto, unfolding(crate::specs::Contents::addresses_from))]
-fn push_item<'a>(
-    to: &mut Items<AddressPlace<'a>>,
-    at: u32,
-    item: &'a Item,
-) -> Result<(), NoMemory>
+fn push_item<'a>(to: &mut Items<AddressPlace<'a>>, at: u32, item: &'a Item) -> Result<(), NoMemory>
     ensures { OnOk result (map address_of to.new ≡ map address_of to.old ++ contents.addresses_from at (item.now ∷ [])) }
 {
     match item {

@@ -1,9 +1,8 @@
 //! The sections of an object, one after another.
-ghost use Rattle.std.specs.Prelude.{◌≡◌, ◌<◌, ◌^◌, [], ◌∷◌, ◌++◌, OnOk};
+ghost use Rattle.std.specs.Prelude.{◌≡◌, [], ◌∷◌, ◌++◌, OnOk};
 ghost use Rattle.pw_base.specs.Structs.{section_bytes};
 ghost use Rattle.pw_elf.specs.ElfNumbers as elf;
 ghost use Rattle.pw_object.specs.Layout.{text_flags, data_flags, null_section};
-ghost use Rattle.pw_object.specs.Sizes.{uninitialised_size};
 ghost use Rattle.pw_object.specs.WriteSteps.Lists.{AreLists};
 ghost use Rattle.pw_object.specs.WriteSteps.Parts.{IsPut};
 ghost use Rattle.pw_object.specs.WriteSteps.Sections as parts;
@@ -17,11 +16,12 @@ use pw_elf::constants::{
     SHT_SYMTAB,
 };
 use pw_elf::{Rela, Section, Sym, put_section};
-use pw_tree::TVar;
 use std::alloc::Global;
 
-/// The numbers of the symbols' section, and of their names'.
+/// The number of the section of symbols.
 const SYMTAB: u32 = 6;
+
+/// That of their names.
 const STRTAB: u32 = 7;
 
 /// The alignment of doublewords.
@@ -181,14 +181,6 @@ fn put_shstrtab(body: &mut Vec<u8>, headers: &mut Vec<u8>) -> Result<(), NoMemor
     put_part(body, headers, &NAMES, &section)
 }
 
-/// The bytes of the variables without an initialiser.
-fn size_of_bss(xs: &[TVar]) -> u64
-    requires { uninitialised_size xs.now < 2 ^ 64 }
-    ensures { result ≡ uninitialised_size xs.now }
-{
-    bss_bytes(xs)
-}
-
 /// Appends all sections of an object with these lists.
 pub(crate) fn put_sections(
     alloc: Global,
@@ -201,11 +193,28 @@ pub(crate) fn put_sections(
 {
     let numbers = &lists.numbers;
     put_text(body, headers, lists.text(alloc)?.as_slice())?;
-    put_relocations(body, headers, lists.text_relocations(alloc)?.as_slice(), 7, 1)?;
+    put_relocations(
+        body,
+        headers,
+        lists.text_relocations(alloc)?.as_slice(),
+        7,
+        1,
+    )?;
     put_data(body, headers, lists.data(alloc)?.as_slice())?;
-    put_relocations(body, headers, lists.data_relocations(alloc)?.as_slice(), 24, 3)?;
-    put_bss(body, headers, size_of_bss(numbers.object.vars.as_slice()))?;
-    put_symtab(body, headers, lists.symbols(alloc)?.as_slice(), numbers.first_global)?;
+    put_relocations(
+        body,
+        headers,
+        lists.data_relocations(alloc)?.as_slice(),
+        24,
+        3,
+    )?;
+    put_bss(body, headers, bss_bytes(numbers.object.vars.as_slice()))?;
+    put_symtab(
+        body,
+        headers,
+        lists.symbols(alloc)?.as_slice(),
+        numbers.first_global,
+    )?;
     put_strtab(body, headers, lists.strings(alloc)?.as_slice())?;
     put_deps(body, headers, lists.table(alloc)?.as_slice())?;
     put_shstrtab(body, headers)?;

@@ -93,12 +93,7 @@ fn root_records(
 }
 
 /// Appends the type record of the symbol of a number; a label has none.
-fn push_type(
-    alloc: Global,
-    to: &mut Items<TypeRec>,
-    n: u32,
-    row: &EntryRow,
-) -> Result<(), NoMemory>
+fn push_type(alloc: Global, to: &mut Items<TypeRec>, n: u32, row: &EntryRow) -> Result<(), NoMemory>
     ensures { OnOk result (to.new ≡ to.old ++ tables.type_records_of (n, entry_of row.now)) }
 {
     match &row.text {

@@ -37,9 +37,23 @@ fn put_lower(to: &mut Vec<u8>, rd: u8, external: bool) -> Result<(), NoMemory>
     ensures { OnOk result (to.new.items ≡ to.old.items ++ contents.word_bytes (contents.lower_word rd external)) }
 {
     if external {
-        put_instruction(to, &Inst::Ld { rd, rs1: rd, imm: 0 })
+        put_instruction(
+            to,
+            &Inst::Ld {
+                rd,
+                rs1: rd,
+                imm: 0,
+            },
+        )
     } else {
-        put_instruction(to, &Inst::Addi { rd, rs1: rd, imm: 0 })
+        put_instruction(
+            to,
+            &Inst::Addi {
+                rd,
+                rs1: rd,
+                imm: 0,
+            },
+        )
     }
 }
 

@@ -39,8 +39,8 @@ loop-x-preserved c =
     let there : x ≡ get_or o.vars i x = subst (λ xs. x ≡ get_or xs i x) c.as_slice-x-items.ensures c.x-item.is in
     let so_far = c.loop-x.invariant in
     let starts = c.start_of-start.ensures
-        ∙ (λ j. if is_initialised x then so_far.in_data j else so_far.in_bss j)
-        ∙ sym (starts_at o i x (slice_get_read o.vars (length o.vars) i x refl low there)) in
+    ∙ (λ j. if is_initialised x then so_far.in_data j else so_far.in_bss j)
+    ∙ sym (starts_at o i x (slice_get_read o.vars (length o.vars) i x refl low there)) in
     record {
       added =
           added_step (variable_entry o) o.vars i x (entry_of c.in_ok-variable_row.field-0) _ _ c.loop-x.statics c.loop-x.globals _ _ low there

@@ -19,7 +19,7 @@ overflow_add-at c =
     let rows = c.args.rows.now in
     let i = c.loop-row.row-index in
     let next = string_step 1 c.loop-row.at c.string_bytes-at.result rows i c.row-item.result
-        c.loop-row-test.true c.row-item.is c.string_bytes-at.ensures c.loop-row.invariant.stands in
+    c.loop-row-test.true c.row-item.is c.string_bytes-at.ensures c.loop-row.invariant.stands in
     omega (arith, next, string_within rows (i + 1), c.requires)
 
 pub loop-row-preserved : goal.loop-row-preserved
